@@ -1,0 +1,23 @@
+use borrow.Author.Needs.{needs}
+use Rattle.decoder.specs.TableLaws.{row-then}
+use Rattle.decoder.proofs.alu.predicate.Statement.{statement}
+use Rattle.decoder.proofs.alu.predicate.Tie as tie
+
+predicate-function-requires : tie.Need-predicate-function-requires
+predicate-function-requires c κs = search needs
+
+enum-known-function : tie.Need-enum-known-function
+enum-known-function c = search needs
+
+enum-told : tie.Need-enum-told
+enum-told c = search needs
+
+returns : tie.Need-returns
+returns c = rw (row-then, ← c .before .before .predicate-function .ensures, c .enum-told .given .1)
+
+returns-2 : tie.Need-returns-2
+returns-2 c = rw (row-then, ← c .before .before .before .predicate-function .ensures, c .before .function .given .1)
+
+pub predicate-spec : {M : Type 1} → statement M
+predicate-spec =
+    tie.close (tie.spec predicate-function-requires enum-known-function enum-told returns returns-2)

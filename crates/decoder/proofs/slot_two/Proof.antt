@@ -1,0 +1,19 @@
+use borrow.Author.Tests.{ne-eqb}
+use Rattle.decoder.specs.Decode.{slotTwo}
+use borrow.Author.Needs.{needs}
+use Rattle.decoder.proofs.slot_two.Statement.{statement}
+use Rattle.decoder.proofs.slot_two.Tie as tie
+
+returns : tie.Need-returns
+unfolding slotTwo
+returns c = rw (c .if1 .taken)
+
+read-alu-requires : tie.Need-read-alu-requires
+read-alu-requires c κs = search needs
+
+returns-2 : tie.Need-returns-2
+unfolding slotTwo
+returns-2 c = rw (ne-eqb _ _ (c .before .if1 .left)) (c .read-alu .ensures)
+
+pub slot-two-spec : {M : Type 1} → statement M
+slot-two-spec = tie.close (tie.spec returns read-alu-requires returns-2)
