@@ -1,9 +1,18 @@
 -- What those who use the decoder need of its definition.
 use Prim.Native.Nat.{ℕ}
 use mathlib.Core.Bool.{Bool, true, false, cond}
+use mathlib.Core.Option.{Option, none, some}
 use mathlib.Core.Path.{_≡_, refl}
 use native.Mathlib.Omega.{arith}
-use Rattle.decoder.specs.Decode.{isTwoWords, bundleWords}
+use Rattle.decoder.specs.Format.{reading}
+use Rattle.decoder.specs.Formats.{longFormats}
+use Rattle.decoder.specs.Decode.{isTwoWords, bundleWords, guardOf, slotOne, slotTwo, one, two, long, applied, decode}
+use Rattle.decoder.specs.declared.instruction.AluOperation.{AluOperation}
+use Rattle.decoder.specs.declared.instruction.Operation.{Operation}
+use Rattle.decoder.specs.declared.instruction.Instruction.{Instruction}
+use Rattle.decoder.specs.declared.instruction.AluInstruction.{AluInstruction}
+use Rattle.decoder.specs.declared.instruction.Bundle.{Bundle}
+use Rattle.decoder.specs.declared.instruction.Bundle.the-variants.{Undecodable, One, Two, Long}
 
 -- The number of words tells whether there are two.
 pub words-one : (first : ℕ) → bundleWords first ≡ 1 → isTwoWords first ≡ false
@@ -21,3 +30,38 @@ words-two first = go (isTwoWords first)
     go : (t : Bool) → (_≡_ {A = ℕ} (cond t 2 1) 1 → ⊥) → t ≡ true
     go true e = refl
     go false e = absurd (e refl)
+
+-- A bundle of one word does not depend on the word after it.
+pub decode-alone : (first s t : ℕ) → bundleWords first ≡ 1 → decode first s ≡ decode first t
+unfolding decode
+decode-alone first s t e = rw (words-one first e)
+
+-- The number of words that a decoded bundle has. Of an undecodable one nothing is said.
+abbrev pub HasWords : ℕ → Bundle → Type 0
+HasWords n Undecodable = Unit {0}
+HasWords n (One i) = n ≡ 1
+HasWords n (Two i j) = n ≡ 2
+HasWords n (Long i) = n ≡ 2
+
+pub decode-words : (first second : ℕ) → HasWords (bundleWords first) (decode first second)
+unfolding decode bundleWords
+decode-words first second = go (isTwoWords first) (applied (reading longFormats first) second) (slotOne first) (slotTwo second)
+  where
+    go : (t : Bool) (l : Option AluOperation) (o : Option Operation) (a : Option AluOperation)
+        → HasWords (cond t 2 1) (cond t (long (guardOf first) l (two (guardOf first) o (guardOf second) a)) (one (guardOf first) o))
+    go true (some l) o a = refl
+    go true none (some o) (some a) = refl
+    go true none (some o) none = tt
+    go true none none a = tt
+    go false l (some o) a = refl
+    go false l none a = tt
+
+-- The same by the form of the bundle.
+pub decode-one-words : (first second : ℕ) {i : Instruction} → decode first second ≡ One i → bundleWords first ≡ 1
+decode-one-words first second e = rw e at (decode-words first second)
+
+pub decode-two-words : (first second : ℕ) {i : Instruction} {j : AluInstruction} → decode first second ≡ Two i j → bundleWords first ≡ 2
+decode-two-words first second e = rw e at (decode-words first second)
+
+pub decode-long-words : (first second : ℕ) {i : Instruction} → decode first second ≡ Long i → bundleWords first ≡ 2
+decode-long-words first second e = rw e at (decode-words first second)

@@ -1,0 +1,4 @@
+pub mod Case
+pub mod Words
+pub mod Handbook
+pub mod Cases

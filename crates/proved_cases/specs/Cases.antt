@@ -1,0 +1,9 @@
+-- The cases marked P, in one theorem: each file of cases gives its part.
+use Rattle.proved_cases.specs.Case.{AllHold}
+use Rattle.proved_cases.specs.Words.{decoded, wordCases, words-decode}
+
+pub record PCases : Type 0 where
+  pub words : AllHold decoded wordCases
+
+pub p-cases : PCases
+p-cases = record { words = words-decode }
