@@ -1,0 +1,5 @@
+pub mod Stack
+pub mod Count
+pub mod StackLaws
+pub mod RangeLaws
+pub mod PlanLaws
