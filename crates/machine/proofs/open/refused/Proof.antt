@@ -1,0 +1,12 @@
+use borrow.Author.Needs.{needs}
+use Rattle.machine.proofs.open.refused.Statement.{statement}
+use Rattle.machine.proofs.open.refused.Tie as tie
+
+initial-requires : tie.Need-initial-requires
+initial-requires c κs = search needs
+
+returns : tie.Need-returns
+returns c = rw (c .initial .ensures)
+
+pub refused-spec : {M : Type 1} → statement M
+refused-spec = tie.close (tie.spec initial-requires returns)

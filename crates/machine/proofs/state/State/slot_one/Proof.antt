@@ -1,0 +1,21 @@
+use Rattle.machine.specs.Effect.{slotOneEffect}
+use borrow.Author.Needs.{needs}
+use Rattle.machine.proofs.state.State.slot_one.Statement.{statement}
+use Rattle.machine.proofs.state.State.slot_one.Tie as tie
+
+operand-requires : tie.Need-operand-requires
+operand-requires c κs = search needs
+
+effect-requires : tie.Need-effect-requires
+effect-requires c κs = search needs
+
+returns : tie.Need-returns
+unfolding slotOneEffect
+returns c = rw (← c .before .before .operand .ensures, c .before .if1 .taken, ← c .effect .ensures)
+
+returns-2 : tie.Need-returns-2
+unfolding slotOneEffect
+returns-2 c = rw (← c .before .operand .ensures, c .if1 .left)
+
+pub slot-one-spec : {M : Type 1} → statement M
+slot-one-spec = tie.close (tie.spec operand-requires effect-requires returns returns-2)

@@ -1,0 +1,29 @@
+use borrow.Author.Tests.{eq-eqb, ne-eqb, lt-ltb, le-ltb, le-leb, lt-leb, not-true, not-false}
+use Rattle.machine.specs.State.{withPredicate, withPredicates}
+use mathlib.Core.Path.{_≡_, _∙_, ap, sym}
+use lib.Seq.{set-out}
+use lib.ListN.{length}
+use mathlib.Core.List.{List}
+use Prim.Native.Nat.{ℕ}
+use mathlib.Core.Bool.{Bool}
+use borrow.Author.Needs.{needs}
+use Rattle.machine.proofs.state.State.write_predicate.Statement.{statement}
+use Rattle.machine.proofs.state.State.write_predicate.Tie as tie
+
+returns : tie.Need-returns
+unfolding withPredicate
+returns c = rw (c .if1 .taken)
+
+element-write-self : tie.Need-element-write-self
+element-write-self c = search needs
+
+returns-2 : tie.Need-returns-2
+unfolding withPredicate
+returns-2 c = rw (ne-eqb _ _ (c .before .if1 .left))
+
+returns-3 : tie.Need-returns-3
+unfolding withPredicate
+returns-3 c = let s = c .before .before .args .t1 in let n : length (s .predicates) ≡ 8 = search needs in rw (ne-eqb _ _ (c .before .if1 .left)) (ap (λ (l : List Bool). withPredicates s l) (sym (set-out _ _ _ (rw n (c .if2 .left)))))
+
+pub write-predicate-spec : {M : Type 1} → statement M
+write-predicate-spec = tie.close (tie.spec returns element-write-self returns-2 returns-3)

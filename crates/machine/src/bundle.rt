@@ -1,0 +1,191 @@
+// One bundle fetched, decoded, and done or refused; and the step, which judges settings and state before it.
+ghost use mathlib.Core.Path.{_≡_};
+ghost use mathlib.Core.Bool.{true};
+ghost use lib.ListN.{length};
+ghost use Prim.Native.Nat.{_<_};
+ghost use Rattle.decoder.specs.Decode.{bundleWords};
+ghost use Rattle.machine.specs.Settings.{admits};
+ghost use Rattle.machine.specs.State.{loadOk, waitOk, noneWaits, wellFormed, ended};
+ghost use Rattle.machine.specs.Refusal.{isUndecodable};
+ghost use Rattle.machine.specs.Bundle.{buffers, slotOne, slotTwo, bundle, step};
+ghost use Rattle.machine.specs.Execute.{full};
+use crate::effect::AluEffect;
+use crate::effect::Effect;
+use crate::settings::Settings;
+use crate::state::State;
+use crate::state::WaitingLoad;
+use crate::state::WaitingTransfer;
+use crate::step::Answer;
+use crate::step::Counts;
+use crate::step::Stepped;
+use decoder::instruction::Bundle;
+use word::bytes::read_word;
+
+fn is_undecodable(b: Bundle) -> bool
+    ensures { λ r. ⌜ r ≡ isUndecodable b ⌝ }
+{
+    match b {
+        Bundle::Undecodable => true,
+        Bundle::One(_) => false,
+        Bundle::Two(_, _) => false,
+        Bundle::Long(_) => false,
+    }
+}
+
+fn load_ok(l: WaitingLoad) -> bool
+    ensures { λ r. ⌜ r ≡ loadOk l ⌝ }
+{
+    match l {
+        WaitingLoad::Nothing => true,
+        WaitingLoad::Waits { register, value: _ } => register <= 31,
+    }
+}
+
+fn wait_ok(w: WaitingTransfer) -> bool
+    ensures { λ r. ⌜ r ≡ waitOk w ⌝ }
+{
+    match w {
+        WaitingTransfer::Nothing => true,
+        WaitingTransfer::Waits { transfer: _, wait } => (1 <= wait) & (wait <= 3),
+    }
+}
+
+fn none_waits(w: WaitingTransfer) -> bool
+    ensures { λ r. ⌜ r ≡ noneWaits w ⌝ }
+{
+    match w {
+        WaitingTransfer::Nothing => true,
+        WaitingTransfer::Waits {
+            transfer: _,
+            wait: _,
+        } => false,
+    }
+}
+
+impl State {
+    // Whether refusal 11 does not describe the state.
+    fn is_well_formed(self) -> bool
+        ensures { λ r. ⌜ r ≡ wellFormed self ⌝ }
+    {
+        let load = self.load;
+        let transfer = self.transfer;
+        ((self.registers[0] == 0) & self.predicates[0]) & (load_ok(load) & wait_ok(transfer))
+    }
+
+    fn has_ended(self, code: usize) -> bool
+        ensures { λ r. ⌜ r ≡ ended self code ⌝ }
+    {
+        let transfer = self.transfer;
+        (self.fetch as usize == code) & none_waits(transfer)
+    }
+
+    fn first_effect(self, b: Bundle) -> Effect
+        ensures { λ r. ⌜ r ≡ slotOne self b ⌝ }
+    {
+        match b {
+            Bundle::Undecodable => Effect::Alu(AluEffect::Nothing),
+            Bundle::One(i) => self.slot_one(i),
+            Bundle::Two(i, _) => self.slot_one(i),
+            Bundle::Long(i) => self.slot_one(i),
+        }
+    }
+
+    fn second_effect(self, b: Bundle) -> AluEffect
+        ensures { λ r. ⌜ r ≡ slotTwo self b ⌝ }
+    {
+        match b {
+            Bundle::Undecodable => AluEffect::Nothing,
+            Bundle::One(_) => AluEffect::Nothing,
+            Bundle::Two(_, j) => crate::effect::slot_two(&self.registers, &self.predicates, j),
+            Bundle::Long(_) => AluEffect::Nothing,
+        }
+    }
+
+    // The bundle at the fetch address.
+    fn bundle(
+        self,
+        g: Settings,
+        code: &[u8],
+        main: &mut [u8],
+        local: &mut [u8],
+        cache: &mut [u32],
+    ) -> Stepped
+        requires { ⌜ (admits g ≡ true) × (g .main ≡ length (now main)) × (g .code ≡ length (now code)) ⌝ }
+        ensures { λ r. ⌜ full r (buffers (now (main .exit)) (now (local .exit)) (now (cache .exit))) ≡ bundle g (now (code .entry)) self (buffers (now (main .entry)) (now (local .entry)) (now (cache .entry))) ⌝ }
+    {
+        let fetch = self.fetch;
+        if fetch % 4 != 0 {
+            return self.refused(2);
+        }
+        let first = read_word(code, fetch);
+        let following = (fetch as usize) + 4 * words_of(first);
+        if code.len() < following {
+            return self.refused(2);
+        }
+        let b = decoder::decode(first, read_word(code, fetch + 4));
+        if is_undecodable(b) {
+            return self.refused(3);
+        }
+        let one = self.first_effect(b);
+        let two = self.second_effect(b);
+        self.execute(
+            g,
+            one,
+            two,
+            following as u32,
+            &mut *main,
+            &mut *local,
+            &mut *cache,
+        )
+    }
+
+    // One step: settings and state are judged, an ended state is left as it is, and else the bundle is done or refused.
+    pub fn step(
+        self,
+        code: &[u8],
+        main: &mut [u8],
+        local: &mut [u8],
+        cache: &mut [u32],
+        lo: u32,
+        hi: u32,
+    ) -> Stepped
+        ensures { λ r. ⌜ full r (buffers (now (main .exit)) (now (local .exit)) (now (cache .exit))) ≡ step (now (code .entry)) lo hi self (buffers (now (main .entry)) (now (local .entry)) (now (cache .entry))) ⌝ }
+    {
+        let g = Settings {
+            code: code.len(),
+            main: main.len(),
+            local: local.len(),
+            words: cache.len(),
+            lo,
+            hi,
+        };
+        if !g.admits() {
+            return self.refused(1);
+        }
+        if !self.is_well_formed() {
+            return self.refused(11);
+        }
+        if self.has_ended(code.len()) {
+            return Stepped {
+                answer: Answer::Ended,
+                state: self,
+                counts: Counts {
+                    bundles: 0,
+                    cycles: 0,
+                    spilled: 0,
+                    filled: 0,
+                },
+            };
+        }
+        self.bundle(g, code, &mut *main, &mut *local, &mut *cache)
+    }
+}
+
+fn words_of(first: u32) -> usize
+    ensures { λ r. ⌜ (r ≡ bundleWords first) × (r < 3) ⌝ }
+{
+    if decoder::bundle_words(first) == 1 {
+        return 1;
+    }
+    2
+}

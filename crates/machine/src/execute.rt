@@ -1,0 +1,298 @@
+// A decoded bundle done or refused: each kind of effect of slot one is judged whole before anything is written.
+ghost use mathlib.Core.Path.{_≡_};
+ghost use mathlib.Core.Bool.{true, cond};
+ghost use mathlib.Core.List.{List};
+ghost use Prim.Native.Nat.{ℕ, _≤_};
+ghost use lib.ListN.{length};
+ghost use Rattle.machine.specs.Settings.{admits};
+ghost use Rattle.machine.specs.Bundle.{Buffers, buffers, writeAlu, nearer, undelayedCycles};
+ghost use Rattle.machine.specs.Execute.{full, doneWith, executed, Moved};
+use crate::effect::AluEffect;
+use crate::effect::Effect;
+use crate::judge::Verdict;
+use crate::judge::judge_access;
+use crate::settings::Settings;
+use crate::slot::load_size;
+use crate::slot::store_size;
+use crate::state::State;
+use crate::state::Transfer;
+use crate::state::WaitingLoad;
+use crate::state::WaitingTransfer;
+use crate::step::Stepped;
+use decoder::instruction::AccessKind;
+use decoder::instruction::LoadWidth;
+use decoder::instruction::StoreWidth;
+use stack_cache::Plan;
+use stack_cache::StackCache;
+use stack_cache::StackControl;
+use stack_cache::moves::fill;
+use stack_cache::moves::spill;
+
+impl State {
+    // The end of a bundle of one cycle that begins no transfer and moves no stack word: slot two is written and a transfer
+    // that waits comes nearer.
+    fn finish(self, waiting: WaitingTransfer, two: AluEffect, following: u32) -> Stepped
+        ensures { λ r. ⌜ r ≡ doneWith (nearer waiting following (writeAlu two self)) 1 0 0 ⌝ }
+    {
+        self.write_alu(two).nearer(waiting, following).done(1, 0, 0)
+    }
+
+    fn do_load(
+        self,
+        g: Settings,
+        kind: AccessKind,
+        width: LoadWidth,
+        rd: u32,
+        address: u32,
+        two: AluEffect,
+        following: u32,
+        main: &[u8],
+        local: &[u8],
+        cache: &[u32],
+    ) -> Stepped
+        requires { ⌜ admits g ≡ true ⌝ }
+        ensures { λ r. ⌜ full r (buffers (now (main .entry)) (now (local .entry)) (now (cache .entry))) ≡ executed g self (Effect.Load kind width rd address) two following (buffers (now (main .entry)) (now (local .entry)) (now (cache .entry))) ⌝ }
+    {
+        let n = load_size(width);
+        if let Verdict::Refused(number) = judge_access(g, self.st, self.ss, kind, address, n) {
+            return self.refused(number);
+        }
+        let value = crate::memory::load(main, local, cache, kind, width, address);
+        let waiting = self.transfer;
+        let load = WaitingLoad::Waits {
+            register: rd,
+            value,
+        };
+        self.land_load()
+            .with_load(load)
+            .finish(waiting, two, following)
+    }
+
+    fn do_store(
+        self,
+        g: Settings,
+        kind: AccessKind,
+        width: StoreWidth,
+        address: u32,
+        value: u32,
+        two: AluEffect,
+        following: u32,
+        main: &mut [u8],
+        local: &mut [u8],
+        cache: &mut [u32],
+    ) -> Stepped
+        requires { ⌜ admits g ≡ true ⌝ }
+        ensures { λ r. ⌜ full r (buffers (now (main .exit)) (now (local .exit)) (now (cache .exit))) ≡ executed g self (Effect.Store kind width address value) two following (buffers (now (main .entry)) (now (local .entry)) (now (cache .entry))) ⌝ }
+    {
+        let n = store_size(width);
+        if let Verdict::Refused(number) = judge_access(g, self.st, self.ss, kind, address, n) {
+            return self.refused(number);
+        }
+        crate::memory::store(
+            &mut *main,
+            &mut *local,
+            &mut *cache,
+            kind,
+            width,
+            address,
+            value,
+        );
+        let waiting = self.transfer;
+        self.land_load().finish(waiting, two, following)
+    }
+
+    fn do_stack(
+        self,
+        g: Settings,
+        control: StackControl,
+        words: u32,
+        aligned: bool,
+        two: AluEffect,
+        following: u32,
+        main: &mut [u8],
+        cache: &mut [u32],
+    ) -> Stepped
+        requires { ⌜ (admits g ≡ true) × (g .main ≡ length (now main)) ⌝ }
+        ensures { λ r. ⌜ ((l : List ℕ) → full r (buffers (now (main .exit)) l (now (cache .exit))) ≡ executed g self (Effect.Stack control words aligned) two following (buffers (now (main .entry)) l (now (cache .entry)))) ⌝ }
+    {
+        if !aligned {
+            return self.refused(5);
+        }
+        let size = g.words as u32;
+        let stack = StackCache { words: size };
+        let old = self.ss;
+        match stack.plan(control, g.lo, g.hi, self.st, old, words) {
+            Plan::Refused(number) => self.refused(number),
+            Plan::Moves {
+                st,
+                ss,
+                spilled,
+                filled,
+            } => {
+                move_words(&mut *main, &mut *cache, g.lo, g.hi, old, spilled, filled);
+                let waiting = self.transfer;
+                let onto = self.land_load().write_stack(st, ss).write_alu(two);
+                onto.nearer(waiting, following)
+                    .done(1, wide(spilled), wide(filled))
+            }
+        }
+    }
+
+    // A decoded bundle, whose slots have these effects, done or refused.
+    pub fn execute(
+        self,
+        g: Settings,
+        one: Effect,
+        two: AluEffect,
+        following: u32,
+        main: &mut [u8],
+        local: &mut [u8],
+        cache: &mut [u32],
+    ) -> Stepped
+        requires { ⌜ (admits g ≡ true) × (g .main ≡ length (now main)) ⌝ }
+        ensures { λ r. ⌜ full r (buffers (now (main .exit)) (now (local .exit)) (now (cache .exit))) ≡ executed g self one two following (buffers (now (main .entry)) (now (local .entry)) (now (cache .entry))) ⌝ }
+    {
+        let waiting = self.transfer;
+        match one {
+            Effect::Alu(a) => self.land_load()
+                .write_alu(a)
+                .finish(waiting, two, following),
+            Effect::Special { special, value } => {
+                self.land_load()
+                    .write_special(special, value)
+                    .finish(waiting, two, following)
+            }
+            Effect::Product { low, high } => self.land_load()
+                .write_product(low, high)
+                .finish(waiting, two, following),
+            Effect::Load {
+                kind,
+                width,
+                rd,
+                address,
+            } => {
+                self.do_load(
+                    g,
+                    kind,
+                    width,
+                    rd,
+                    address,
+                    two,
+                    following,
+                    main,
+                    local,
+                    cache,
+                )
+            }
+            Effect::Store {
+                kind,
+                width,
+                address,
+                value,
+            } => {
+                self.do_store(
+                    g,
+                    kind,
+                    width,
+                    address,
+                    value,
+                    two,
+                    following,
+                    &mut *main,
+                    &mut *local,
+                    &mut *cache,
+                )
+            }
+            Effect::Stack {
+                control,
+                words,
+                aligned,
+            } => {
+                self.do_stack(
+                    g,
+                    control,
+                    words,
+                    aligned,
+                    two,
+                    following,
+                    &mut *main,
+                    &mut *cache,
+                )
+            }
+            Effect::Transfer { delayed, transfer } => self.do_transfer(
+                g,
+                delayed,
+                transfer,
+                two,
+                following,
+            ),
+            Effect::Exception => self.refused(10),
+        }
+    }
+
+    fn do_transfer(
+        self,
+        g: Settings,
+        delayed: bool,
+        transfer: Transfer,
+        two: AluEffect,
+        following: u32,
+    ) -> Stepped
+        ensures { λ r. ⌜ ((b : Buffers) → full r b ≡ executed g self (Effect.Transfer delayed transfer) two following b) ⌝ }
+    {
+        let waiting = self.transfer;
+        if let WaitingTransfer::Waits {
+            transfer: _,
+            wait: _,
+        } = waiting {
+            return self.refused(4);
+        }
+        let cycles = transfer_cycles(delayed, transfer);
+        self.land_load()
+            .write_alu(two)
+            .begin(delayed, transfer, following)
+            .done(cycles, 0, 0)
+    }
+}
+
+// A delayed transfer's own bundle is one cycle; a form without delay pays for its delay slots.
+fn transfer_cycles(delayed: bool, t: Transfer) -> u64
+    ensures { λ r. ⌜ r ≡ cond delayed 1 (undelayedCycles t) ⌝ }
+{
+    if delayed {
+        return 1;
+    }
+    match t {
+        Transfer::Br { target: _ } => 3,
+        Transfer::Call { target: _ } => 4,
+        Transfer::Block { target: _, base: _ } => 4,
+    }
+}
+
+// The words that a plan moves, between the stack area's part of main memory and the cache.
+fn move_words(
+    main: &mut [u8],
+    cache: &mut [u32],
+    lo: u32,
+    hi: u32,
+    ss: u32,
+    spilled: u32,
+    filled: u32,
+)
+    requires { ⌜ (lo ≤ hi) × (hi ≤ length (now main)) × ((filled ≡ 0 → ⊥) → spilled ≡ 0) ⌝ }
+    ensures { λ _. ⌜ Moved lo hi ss spilled filled (now (main .entry)) (now (cache .entry)) (now (main .exit)) (now (cache .exit)) ⌝ }
+{
+    let from = lo as usize;
+    let to = hi as usize;
+    if filled == 0 {
+        spill(&mut main[from..to], cache, lo, ss, spilled);
+        return;
+    }
+    fill(&main[from..to], &mut *cache, lo, ss, filled);
+}
+
+fn wide(n: u32) -> u64
+    ensures { λ r. ⌜ r ≡ n ⌝ }
+{
+    n as u64
+}

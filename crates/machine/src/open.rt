@@ -1,0 +1,102 @@
+// The fresh state at an entry.
+ghost use mathlib.Core.Path.{_≡_};
+ghost use lib.ListN.{length, replicate};
+ghost use Rattle.machine.specs.State.{fresh};
+ghost use Rattle.machine.specs.Open.{openWith, openedAs, opening};
+use crate::settings::Settings;
+use crate::state::State;
+use crate::state::WaitingLoad;
+use crate::state::WaitingTransfer;
+
+// A state was built, or the number that the building is refused with.
+pub enum Opening {
+    Opened,
+    Refused(u32),
+}
+
+// The answer beside the state; of a refused opening the state is that of entry 0 to no code.
+pub struct Opened {
+    pub answer: Opening,
+    pub state: State,
+}
+
+fn initial(code: u32, hi: u32, entry: u32) -> State
+    ensures { λ r. ⌜ r ≡ fresh code hi entry ⌝ }
+{
+    State {
+        registers: [0; 32],
+        predicates: [true, false, false, false, false, false, false, false],
+        sl: 0,
+        sh: 0,
+        ss: hi,
+        st: hi,
+        srb: 0,
+        sro: code,
+        sxb: 0,
+        sxo: 0,
+        fetch: entry,
+        base: entry,
+        transfer: WaitingTransfer::Nothing,
+        load: WaitingLoad::Nothing,
+    }
+}
+
+fn clear(cache: &mut [u32])
+    ensures { λ _. ⌜ now (cache .exit) ≡ replicate (length (now (cache .entry))) 0 ⌝ }
+{
+    let mut i = 0;
+    while i < cache.len() {
+        cache[i] = 0;
+        i += 1;
+    }
+}
+
+fn refused(n: u32) -> Opened
+    ensures { λ r. ⌜ r ≡ openedAs (Opening.Refused n) (fresh 0 0 0) ⌝ }
+{
+    let state = initial(0, 0, 0);
+    Opened {
+        answer: Opening::Refused(n),
+        state,
+    }
+}
+
+impl State {
+    // The second of the two operations that make a fresh state: it judges the settings again, then the entry, and clears the
+    // lent cache words.
+    pub fn fresh(
+        code: &[u8],
+        main: &[u8],
+        local: &[u8],
+        cache: &mut [u32],
+        lo: u32,
+        hi: u32,
+        entry: u32,
+    ) -> Opened
+        ensures { λ r. ⌜ openWith r (now (cache .exit)) ≡ opening (now (code .entry)) (now (main .entry)) (now (local .entry)) (now (cache .entry)) lo hi entry ⌝ }
+    {
+        let g = Settings {
+            code: code.len(),
+            main: main.len(),
+            local: local.len(),
+            words: cache.len(),
+            lo,
+            hi,
+        };
+        if !g.admits() {
+            return refused(1);
+        }
+        if entry % 4 != 0 {
+            return refused(2);
+        }
+        if code.len() <= entry as usize {
+            return refused(2);
+        }
+        clear(&mut *cache);
+        let state = initial(code.len() as u32, hi, entry);
+        Opened {
+            answer: Opening::Opened,
+            state,
+        }
+    }
+}
