@@ -1,6 +1,6 @@
 -- Parts of a bundle, for the contracts of the functions that do it: the tests and the outcome of a decoded bundle.
 use Prim.Native.Nat.{ℕ, _^_, _%_}
-use mathlib.Core.Bool.{Bool, not, _&&_}
+use mathlib.Core.Bool.{Bool, not, cond, _&&_}
 use mathlib.Core.List.{List, [], _∷_}
 use lib.Dec.{eqb}
 use mathlib.Core.Path.{_≡_}
@@ -11,12 +11,14 @@ use Rattle.machine.specs.declared.state.State.{State}
 use Rattle.machine.specs.declared.effect.AluEffect.{AluEffect}
 use Rattle.machine.specs.declared.effect.Effect.{Effect}
 use Rattle.machine.specs.declared.judge.Verdict.{Verdict}
+use Rattle.machine.specs.declared.bundle.Fetched.{Fetched}
+use Rattle.machine.specs.declared.bundle.Fetched.the-variants as fetch
 use Rattle.machine.specs.declared.step.Stepped.{Stepped}
 use Rattle.machine.specs.declared.step.Answer.{Answer}
 use Rattle.machine.specs.declared.step.Answer.the-variants.{Done, Refused}
 use Rattle.machine.specs.declared.step.Counts.{Counts}
-use Rattle.machine.specs.Refusal.{test, verdict, isStack, mainOpen, accessOpen, effectTests}
-use Rattle.machine.specs.Bundle.{Buffers, area, withArea, Outcome, outcome, noCounts, written, countsOf, buffersAfter, refusedOr}
+use Rattle.machine.specs.Refusal.{outsideCode, isUndecodable, test, verdict, isStack, mainOpen, accessOpen, effectTests}
+use Rattle.machine.specs.Bundle.{Buffers, area, withArea, Outcome, outcome, noCounts, written, countsOf, buffersAfter, refusedOr, bundleAt, followingAt, slotOne, slotTwo}
 
 -- The tests of an access of n bytes: 5, 7, 6.
 unfoldable pub accessVerdict : Settings → ℕ → ℕ → AccessKind → ℕ → ℕ → Verdict
@@ -43,3 +45,11 @@ executed g s one two following b =
 pub record Moved (lo hi ss j k : ℕ) (main cache main′ cache′ : List ℕ) : Type 0 where
   pub memory : main′ ≡ withArea lo hi main (spilled cache lo (area lo hi main) (below j ss))
   pub words : cache′ ≡ filled (area lo hi main) lo cache (above k ss)
+
+-- A bundle read: refused with 2 or 3, or the effects of its slots and the following address.
+unfoldable pub fetched : List ℕ → State → Fetched
+fetched code s =
+    let i = bundleAt code (s .fetch) in
+    cond (outsideCode code (s .fetch)) (fetch.Refused 2)
+    (cond (isUndecodable i) (fetch.Refused 3)
+    (fetch.Slots (slotOne s i) (slotTwo s i) (followingAt code (s .fetch))))

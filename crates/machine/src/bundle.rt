@@ -2,15 +2,15 @@
 ghost use mathlib.Core.Path.{_≡_};
 ghost use mathlib.Core.Bool.{true};
 ghost use lib.ListN.{length};
-ghost use Prim.Native.Nat.{_<_};
+ghost use Prim.Native.Nat.{_<_, _≤_};
 ghost use Rattle.decoder.specs.Decode.{bundleWords};
 ghost use Rattle.machine.specs.Settings.{admits};
 ghost use Rattle.machine.specs.State.{loadOk, waitOk, noneWaits, wellFormed, ended};
-ghost use Rattle.machine.specs.Refusal.{isUndecodable};
-ghost use Rattle.machine.specs.Bundle.{buffers, slotOne, slotTwo, bundle, step};
-ghost use Rattle.machine.specs.Execute.{full};
+ghost use Rattle.machine.specs.Bundle.{buffers, bundle, step};
+ghost use Rattle.machine.specs.Execute.{full, fetched};
 use crate::effect::AluEffect;
 use crate::effect::Effect;
+use crate::effect::slot_two;
 use crate::settings::Settings;
 use crate::state::State;
 use crate::state::WaitingLoad;
@@ -21,14 +21,24 @@ use crate::step::Stepped;
 use decoder::instruction::Bundle;
 use word::bytes::read_word;
 
-fn is_undecodable(b: Bundle) -> bool
-    ensures { λ r. ⌜ r ≡ isUndecodable b ⌝ }
+// A bundle read: refused with 2 or 3, or what its two slots do and the address after it.
+pub enum Fetched {
+    Refused(u32),
+    Slots {
+        one: Effect,
+        two: AluEffect,
+        following: u32,
+    },
+}
+
+// A bundle whose slot two does nothing.
+fn alone(one: Effect, following: u32) -> Fetched
+    ensures { λ r. ⌜ r ≡ Fetched.Slots one AluEffect.Nothing following ⌝ }
 {
-    match b {
-        Bundle::Undecodable => true,
-        Bundle::One(_) => false,
-        Bundle::Two(_, _) => false,
-        Bundle::Long(_) => false,
+    Fetched::Slots {
+        one,
+        two: AluEffect::Nothing,
+        following,
     }
 }
 
@@ -79,29 +89,38 @@ impl State {
         (self.fetch as usize == code) & none_waits(transfer)
     }
 
-    fn first_effect(self, b: Bundle) -> Effect
-        ensures { λ r. ⌜ r ≡ slotOne self b ⌝ }
+    // The bundle at the fetch address, read and told as what its slots do.
+    fn fetch_bundle(self, code: &[u8]) -> Fetched
+        requires { ⌜ length (now code) ≤ 65536 ⌝ }
+        ensures { λ r. ⌜ r ≡ fetched (now (code .entry)) self ⌝ }
     {
-        match b {
-            Bundle::Undecodable => Effect::Alu(AluEffect::Nothing),
-            Bundle::One(i) => self.slot_one(i),
-            Bundle::Two(i, _) => self.slot_one(i),
-            Bundle::Long(i) => self.slot_one(i),
+        let fetch = self.fetch;
+        if fetch % 4 != 0 {
+            return Fetched::Refused(2);
+        }
+        let first = read_word(code, fetch);
+        let end = (fetch as usize) + 4 * words_of(first);
+        if code.len() < end {
+            return Fetched::Refused(2);
+        }
+        let following = end as u32;
+        match decoder::decode(first, read_word(code, fetch + 4)) {
+            Bundle::Undecodable => Fetched::Refused(3),
+            Bundle::One(i) => alone(self.slot_one(i), following),
+            Bundle::Two(i, j) => {
+                let one = self.slot_one(i);
+                let two = slot_two(&self.registers, &self.predicates, j);
+                Fetched::Slots {
+                    one,
+                    two,
+                    following,
+                }
+            }
+            Bundle::Long(i) => alone(self.slot_one(i), following),
         }
     }
 
-    fn second_effect(self, b: Bundle) -> AluEffect
-        ensures { λ r. ⌜ r ≡ slotTwo self b ⌝ }
-    {
-        match b {
-            Bundle::Undecodable => AluEffect::Nothing,
-            Bundle::One(_) => AluEffect::Nothing,
-            Bundle::Two(_, j) => crate::effect::slot_two(&self.registers, &self.predicates, j),
-            Bundle::Long(_) => AluEffect::Nothing,
-        }
-    }
-
-    // The bundle at the fetch address.
+    // The bundle at the fetch address, done or refused.
     fn bundle(
         self,
         g: Settings,
@@ -113,30 +132,14 @@ impl State {
         requires { ⌜ (admits g ≡ true) × (g .main ≡ length (now main)) × (g .code ≡ length (now code)) ⌝ }
         ensures { λ r. ⌜ full r (buffers (now (main .exit)) (now (local .exit)) (now (cache .exit))) ≡ bundle g (now (code .entry)) self (buffers (now (main .entry)) (now (local .entry)) (now (cache .entry))) ⌝ }
     {
-        let fetch = self.fetch;
-        if fetch % 4 != 0 {
-            return self.refused(2);
+        match self.fetch_bundle(code) {
+            Fetched::Refused(n) => self.refused(n),
+            Fetched::Slots {
+                one,
+                two,
+                following,
+            } => { self.execute(g, one, two, following, &mut *main, &mut *local, &mut *cache) }
         }
-        let first = read_word(code, fetch);
-        let following = (fetch as usize) + 4 * words_of(first);
-        if code.len() < following {
-            return self.refused(2);
-        }
-        let b = decoder::decode(first, read_word(code, fetch + 4));
-        if is_undecodable(b) {
-            return self.refused(3);
-        }
-        let one = self.first_effect(b);
-        let two = self.second_effect(b);
-        self.execute(
-            g,
-            one,
-            two,
-            following as u32,
-            &mut *main,
-            &mut *local,
-            &mut *cache,
-        )
     }
 
     // One step: settings and state are judged, an ended state is left as it is, and else the bundle is done or refused.

@@ -1,0 +1,435 @@
+-- A bundle and a step by their cases: without Done nothing changes, and what a bundle writes keeps a state well formed.
+use Prim.Native.Nat.{ℕ, zero, suc, _+_, _-_, _/_, _<_}
+use mathlib.Core.Bool.{Bool, true, false, not, cond, _&&_}
+use mathlib.Core.List.{List, _∷_}
+use mathlib.Core.Path.{_≡_, refl, ap, _∙_}
+use native.Mathlib.Omega.{arith}
+use borrow.Author.Tests.{leb-true, leb-false, le-leb, eq-eqb, eqb-true}
+use lib.Dec.{eqb, leb, eqb·suc-zero}
+use lib.ListN.{length, getD, set, length-set}
+use lib.Seq.{getD-set-other}
+use Rattle.word.specs.Bytes.{wordAt}
+use Rattle.word.specs.BytesLaws.{number-bound}
+use Rattle.decoder.specs.declared.instruction.Special.{Special}
+use Rattle.decoder.specs.declared.instruction.Special.the-variants.{S0, Sl, Sh, Ss, St, Srb, Sro, Sxb, Sxo}
+use Rattle.decoder.specs.declared.instruction.Operation.{Operation}
+use Rattle.decoder.specs.declared.instruction.Operation.the-variants as operation
+use Rattle.decoder.specs.declared.instruction.Instruction.{Instruction}
+use Rattle.decoder.specs.declared.instruction.StackOperation.the-variants.{Sres, Sens, Sfree, Sspill}
+use Rattle.decoder.specs.declared.instruction.Bundle.{Bundle}
+use Rattle.decoder.specs.declared.instruction.Bundle.the-variants.{Undecodable, One, Two, Long}
+use Rattle.decoder.specs.Ranges.{OperationInRange, InstructionInRange, InRange}
+use Rattle.decoder.specs.RangeLaws.{decode-in-range}
+use Rattle.stack_cache.specs.RangeLaws.{and-left, and-right}
+use Rattle.machine.specs.declared.settings.Settings.{Settings}
+use Rattle.machine.specs.declared.state.State.{State}
+use Rattle.machine.specs.declared.state.Transfer.{Transfer}
+use Rattle.machine.specs.declared.state.Transfer.the-variants.{Br, Call, Block}
+use Rattle.machine.specs.declared.state.WaitingTransfer.{WaitingTransfer}
+use Rattle.machine.specs.declared.state.WaitingTransfer.the-variants as transfer
+use Rattle.machine.specs.declared.state.WaitingLoad.{WaitingLoad}
+use Rattle.machine.specs.declared.state.WaitingLoad.the-variants as load
+use Rattle.machine.specs.declared.effect.AluEffect.{AluEffect}
+use Rattle.machine.specs.declared.effect.AluEffect.the-variants as alu
+use Rattle.machine.specs.declared.effect.Effect.{Effect}
+use Rattle.machine.specs.declared.effect.Effect.the-variants as effect
+use Rattle.machine.specs.declared.judge.Verdict.{Verdict}
+use Rattle.machine.specs.declared.judge.Verdict.the-variants as verdict
+use Rattle.machine.specs.declared.step.Answer.{Answer}
+use Rattle.machine.specs.declared.step.Answer.the-variants.{Done, Ended, Refused}
+use Rattle.machine.specs.Settings.{admits, settingsOf}
+use Rattle.machine.specs.State.{state, register, holds, withRegister, withPredicate, withPredicates, withSpecial, withSpecials, predicatesOf, withFlow, goingOn, landing, landed, transferred, loadOk, waitOk, wellFormed, ended}
+use Rattle.machine.specs.Effect.{slotOneEffect, effectOf, stackEffect}
+use Rattle.machine.specs.Refusal.{verdict as verdictOf, bundleTests}
+use Rattle.machine.specs.Bundle.{Buffers, loadedValue, buffersAfter, writeAlu, writeOne, delaySlots, nearer, begun, onward, written, countsOf, noCounts, Outcome, outcome, slotOne, slotTwo, bundleAt, followingAt, refusedOr, bundle, step}
+
+-- What slot one does at the fetch address, how the bundle there is judged, and its outcome where it is done.
+abbrev pub effectAt : List ℕ → State → Effect
+effectAt code s = slotOne s (bundleAt code (s .fetch))
+
+abbrev pub judged : Settings → List ℕ → State → Verdict
+judged g code s = verdictOf (bundleTests g code s (bundleAt code (s .fetch)) (effectAt code s))
+
+abbrev pub stateAfter : Settings → List ℕ → State → Buffers → State
+stateAfter g code s b = written g b s (effectAt code s) (slotTwo s (bundleAt code (s .fetch))) (followingAt code (s .fetch))
+
+abbrev pub doneOutcome : Settings → List ℕ → State → Buffers → Outcome
+doneOutcome g code s b = outcome Done (stateAfter g code s b) (countsOf g s (effectAt code s)) (buffersAfter g s (effectAt code s) b)
+
+module _ (g : Settings) (code : List ℕ) (s : State) (b : Buffers) where
+  -- A bundle whose verdict is a refusal changes nothing and counts nothing.
+  pub bundle-refused : (n : ℕ) → judged g code s ≡ verdict.Refused n → bundle g code s b ≡ outcome (Refused n) s noCounts b
+  unfolding bundle
+  bundle-refused n e = rw e
+
+  -- A bundle judged fine is done.
+  pub bundle-done : judged g code s ≡ verdict.Fine → bundle g code s b ≡ doneOutcome g code s b
+  unfolding bundle
+  bundle-done e = rw e
+
+  -- What holds of the outcome of a bundle refused and of one done holds of a bundle.
+  pub bundle-cases : (P : Outcome → Type 0) → ((n : ℕ) → judged g code s ≡ verdict.Refused n → P (outcome (Refused n) s noCounts b))
+      → (judged g code s ≡ verdict.Fine → P (doneOutcome g code s b)) → P (bundle g code s b)
+  unfolding bundle
+  bundle-cases P refused done = go (judged g code s) refl
+    where
+      go : (v : Verdict) → judged g code s ≡ v → P (refusedOr v s b (doneOutcome g code s b))
+      go verdict.Fine e = done e
+      go (verdict.Refused n) e = refused n e
+
+  -- A bundle that answers Refused changes nothing.
+  pub bundle-unchanged : (n : ℕ) → bundle g code s b .stepped .answer ≡ Refused n → bundle g code s b ≡ outcome (Refused n) s noCounts b
+  bundle-unchanged n = bundle-cases (λ o. o .stepped .answer ≡ Refused n → o ≡ outcome (Refused n) s noCounts b) (λ m j e. ap (λ (a : Answer). outcome a s noCounts b) e) (λ j e. cc)
+
+  -- A bundle that answers Done was judged fine.
+  pub bundle-fine : bundle g code s b .stepped .answer ≡ Done → judged g code s ≡ verdict.Fine
+  bundle-fine = bundle-cases (λ o. o .stepped .answer ≡ Done → judged g code s ≡ verdict.Fine) (λ m j e. cc) (λ j e. j)
+
+  -- What a bundle that answers Done leaves, where slot one's effect is known.
+  pub bundle-done-as : (e : Effect) → effectAt code s ≡ e → bundle g code s b .stepped .answer ≡ Done
+      → bundle g code s b ≡ outcome Done (written g b s e (slotTwo s (bundleAt code (s .fetch))) (followingAt code (s .fetch))) (countsOf g s e) (buffersAfter g s e b)
+  bundle-done-as e p d =
+      bundle-done (bundle-fine d)
+      ∙ ap (λ (x : Effect). outcome Done (written g b s x (slotTwo s (bundleAt code (s .fetch))) (followingAt code (s .fetch))) (countsOf g s x) (buffersAfter g s x b)) p
+
+-- Whether an answer is Done.
+abbrev pub isDone : Answer → Bool
+isDone Done = true
+isDone Ended = false
+isDone (Refused n) = false
+
+-- The settings of what is lent to a step.
+abbrev pub lent : List ℕ → ℕ → ℕ → Buffers → Settings
+lent code lo hi b = settingsOf code (b .main) (b .local) (b .cache) lo hi
+
+-- What a step goes past before it does its bundle: settings inside the limits, a well-formed state that has not ended.
+pub record Going (code : List ℕ) (lo hi : ℕ) (s : State) (b : Buffers) : Type 0 where
+  pub admitted : admits (lent code lo hi b) ≡ true
+  pub well-formed : wellFormed s ≡ true
+  pub not-ended : ended s (length code) ≡ false
+
+module _ (code : List ℕ) (lo hi : ℕ) (s : State) (b : Buffers) where
+  -- A step with settings outside the limits is refused with 1 and changes nothing.
+  pub step-settings : admits (lent code lo hi b) ≡ false → step code lo hi s b ≡ outcome (Refused 1) s noCounts b
+  unfolding step
+  step-settings p = rw p
+
+  -- A step on a state that is not well formed is refused with 11 and changes nothing.
+  pub step-state : admits (lent code lo hi b) ≡ true → wellFormed s ≡ false → step code lo hi s b ≡ outcome (Refused 11) s noCounts b
+  unfolding step
+  step-state p q = rw (p, q)
+
+  -- A step on an ended state changes nothing.
+  pub step-ended : admits (lent code lo hi b) ≡ true → wellFormed s ≡ true → ended s (length code) ≡ true → step code lo hi s b ≡ outcome Ended s noCounts b
+  unfolding step
+  step-ended p q r = rw (p, q, r)
+
+  -- Any other step is its bundle.
+  pub step-bundle : Going code lo hi s b → step code lo hi s b ≡ bundle (lent code lo hi b) code s b
+  unfolding step
+  step-bundle p = rw (p .admitted, p .well-formed, p .not-ended)
+
+  -- What holds of the outcome of a step that changes nothing and of one whose bundle is done holds of a step.
+  pub step-cases : (P : Outcome → Type 0) → ((a : Answer) → isDone a ≡ false → P (outcome a s noCounts b))
+      → (Going code lo hi s b → judged (lent code lo hi b) code s ≡ verdict.Fine → P (doneOutcome (lent code lo hi b) code s b)) → P (step code lo hi s b)
+  unfolding step
+  step-cases P same done = go (admits (lent code lo hi b)) (wellFormed s) (ended s (length code)) refl refl refl
+    where
+      go : (x y z : Bool) → admits (lent code lo hi b) ≡ x → wellFormed s ≡ y → ended s (length code) ≡ z
+          → P (cond (not x) (outcome (Refused 1) s noCounts b) (cond (not y) (outcome (Refused 11) s noCounts b) (cond z (outcome Ended s noCounts b) (bundle (lent code lo hi b) code s b))))
+      go false y z p q r = same (Refused 1) refl
+      go true false z p q r = same (Refused 11) refl
+      go true true true p q r = same Ended refl
+      go true true false p q r =
+          bundle-cases (lent code lo hi b) code s b P (λ n j. same (Refused n) refl) (done (record { admitted = p; well-formed = q; not-ended = r }))
+
+  -- A step that answers anything but Done changes nothing.
+  pub step-unchanged : (a : Answer) → isDone a ≡ false → step code lo hi s b .stepped .answer ≡ a → step code lo hi s b ≡ outcome a s noCounts b
+  step-unchanged a p = step-cases (λ o. o .stepped .answer ≡ a → o ≡ outcome a s noCounts b) (λ c q e. ap (λ (x : Answer). outcome x s noCounts b) e) (λ q j e. cc)
+
+  -- A step that answers Done went past 1, 11 and ended.
+  pub step-going : step code lo hi s b .stepped .answer ≡ Done → Going code lo hi s b
+  step-going = step-cases (λ o. o .stepped .answer ≡ Done → Going code lo hi s b) (λ c q e. record { admitted = cc; well-formed = cc; not-ended = cc }) (λ q j e. q)
+
+  -- Its bundle was judged fine.
+  pub step-fine : step code lo hi s b .stepped .answer ≡ Done → judged (lent code lo hi b) code s ≡ verdict.Fine
+  step-fine = step-cases (λ o. o .stepped .answer ≡ Done → judged (lent code lo hi b) code s ≡ verdict.Fine) (λ c q e. cc) (λ q j e. j)
+
+  -- Its outcome is that of the bundle done.
+  pub step-done : step code lo hi s b .stepped .answer ≡ Done → step code lo hi s b ≡ doneOutcome (lent code lo hi b) code s b
+  step-done e = step-bundle (step-going e) ∙ bundle-done (lent code lo hi b) code s b (step-fine e)
+
+-- A special register written changes special registers alone, and s0 the predicates alone.
+pub withSpecial-cases : (P : State → Type 0) (s : State) (d : Special) (v : ℕ) → P (withPredicates s (true ∷ predicatesOf 7 (v / 2)))
+    → ((sl sh ss st srb sro sxb sxo : ℕ) → P (withSpecials s sl sh ss st srb sro sxb sxo)) → P (withSpecial s d v)
+unfolding withSpecial
+withSpecial-cases P s S0 v p q = p
+withSpecial-cases P s Sl v p q = q _ _ _ _ _ _ _ _
+withSpecial-cases P s Sh v p q = q _ _ _ _ _ _ _ _
+withSpecial-cases P s Ss v p q = q _ _ _ _ _ _ _ _
+withSpecial-cases P s St v p q = q _ _ _ _ _ _ _ _
+withSpecial-cases P s Srb v p q = q _ _ _ _ _ _ _ _
+withSpecial-cases P s Sro v p q = q _ _ _ _ _ _ _ _
+withSpecial-cases P s Sxb v p q = q _ _ _ _ _ _ _ _
+withSpecial-cases P s Sxo v p q = q _ _ _ _ _ _ _ _
+
+-- An ALU effect changes registers and predicates alone.
+pub writeAlu-cases : (P : State → Type 0) (e : AluEffect) (s : State)
+    → ((rs : List ℕ) (ps : List Bool) → P (state rs ps (s .sl) (s .sh) (s .ss) (s .st) (s .srb) (s .sro) (s .sxb) (s .sxo) (s .fetch) (s .base) (s .transfer) (s .load)))
+    → P (writeAlu e s)
+unfolding writeAlu withRegister withPredicate
+writeAlu-cases P alu.Nothing s h = h _ _
+writeAlu-cases P (alu.Register r v) s h = h _ _
+writeAlu-cases P (alu.Predicate p v) s h = h _ _
+
+-- The end of a bundle changes srb, sro, fetch address, base and the waiting transfer alone, and a transfer that waits then waits
+-- 1 to 3 bundles if the one before did.
+abbrev pub Onward : (State → Type 0) → WaitingTransfer → State → Type 0
+Onward P waiting onto = (srb sro fetch base : ℕ) (w : WaitingTransfer) → (waitOk waiting ≡ true → waitOk w ≡ true) → P (withFlow onto srb sro fetch base w)
+
+module _ (P : State → Type 0) (following : ℕ) (onto : State) where
+  transferred-cases : (waiting : WaitingTransfer) → Onward P waiting onto → (t : Transfer) → P (transferred onto t following)
+  unfolding transferred
+  transferred-cases waiting h (Br target) = h _ _ _ _ _ (λ p. refl)
+  transferred-cases waiting h (Call target) = h _ _ _ _ _ (λ p. refl)
+  transferred-cases waiting h (Block target base) = h _ _ _ _ _ (λ p. refl)
+
+  begun-cases : (waiting : WaitingTransfer) → Onward P waiting onto → (delayed : Bool) (t : Transfer) → P (begun delayed t following onto)
+  unfolding delaySlots
+  begun-cases waiting h true (Br target) = h _ _ _ _ _ (λ p. refl)
+  begun-cases waiting h true (Call target) = h _ _ _ _ _ (λ p. refl)
+  begun-cases waiting h true (Block target base) = h _ _ _ _ _ (λ p. refl)
+  begun-cases waiting h false t = transferred-cases waiting h t
+
+  nearer-cases : (waiting : WaitingTransfer) → Onward P waiting onto → P (nearer waiting following onto)
+  nearer-cases transfer.Nothing h = h _ _ _ _ _ (λ p. p)
+  nearer-cases (transfer.Waits t n) h = go (leb n 1) refl
+    where
+      go : (u : Bool) → leb n 1 ≡ u → P (cond u (transferred onto t following) (goingOn onto following (transfer.Waits t (n - 1))))
+      go true e = transferred-cases (transfer.Waits t n) h t
+      go false e =
+          h _ _ _ _ _ (λ p.
+          rw (le-leb 1 (n - 1) (omega (arith, leb-false n 1 e)), le-leb (n - 1) 3 (omega (arith, leb-true n 3 (and-right (leb 1 n) (leb n 3) p)))))
+
+  pub onward-cases : (e : Effect) (waiting : WaitingTransfer) → Onward P waiting onto → P (onward e waiting following onto)
+  onward-cases (effect.Alu a) waiting h = nearer-cases waiting h
+  onward-cases (effect.Special d v) waiting h = nearer-cases waiting h
+  onward-cases (effect.Product x y) waiting h = nearer-cases waiting h
+  onward-cases (effect.Load k w r a) waiting h = nearer-cases waiting h
+  onward-cases (effect.Store k w a v) waiting h = nearer-cases waiting h
+  onward-cases (effect.Stack c n m) waiting h = nearer-cases waiting h
+  onward-cases (effect.Transfer d t) waiting h = begun-cases waiting h d t
+  onward-cases effect.Exception waiting h = nearer-cases waiting h
+
+-- A property of the registers and one of the predicates that no write ends: r0 and p0 are never written.
+pub record Lasting (R : List ℕ → Type 0) (P : List Bool → Type 0) : Type 0 where
+  pub registers : (l : List ℕ) (r v : ℕ) → R l → R (set l (suc r) v)
+  pub predicates : (l : List Bool) (p : ℕ) (v : Bool) → P l → P (set l (suc p) v)
+  pub word : (v : ℕ) → P (true ∷ predicatesOf 7 v)
+
+abbrev pub Has : (List ℕ → Type 0) → (List Bool → Type 0) → State → Type 0
+Has R P s = R (s .registers) × P (s .predicates)
+
+module _ (R : List ℕ → Type 0) (P : List Bool → Type 0) (k : Lasting R P) where
+  register-lasts : (s : State) (r v : ℕ) → Has R P s → Has R P (withRegister s r v)
+  unfolding withRegister
+  register-lasts s zero v h = h
+  register-lasts s (suc r) v h = rw (eqb·suc-zero r) (k .registers (s .registers) r v (h .0), h .1)
+
+  predicate-lasts : (s : State) (p : ℕ) (v : Bool) → Has R P s → Has R P (withPredicate s p v)
+  unfolding withPredicate
+  predicate-lasts s zero v h = h
+  predicate-lasts s (suc p) v h = rw (eqb·suc-zero p) (h .0, k .predicates (s .predicates) p v (h .1))
+
+  landed-lasts : (s : State) → Has R P s → Has R P (landed s)
+  unfolding landed
+  landed-lasts s h = go (s .load)
+    where
+      go : (l : WaitingLoad) → Has R P (landing l s)
+      go load.Nothing = h
+      go (load.Waits r v) = register-lasts s r v h
+
+  writeAlu-lasts : (e : AluEffect) (onto : State) → Has R P onto → Has R P (writeAlu e onto)
+  unfolding writeAlu
+  writeAlu-lasts alu.Nothing onto h = h
+  writeAlu-lasts (alu.Register r v) onto h = register-lasts onto r v h
+  writeAlu-lasts (alu.Predicate p v) onto h = predicate-lasts onto p v h
+
+  writeOne-lasts : (g : Settings) (b : Buffers) (from : State) (e : Effect) (onto : State) → Has R P onto → Has R P (writeOne g b from e onto)
+  unfolding writeOne
+  writeOne-lasts g b from (effect.Alu a) onto h = writeAlu-lasts a onto h
+  writeOne-lasts g b from (effect.Special d v) onto h = withSpecial-cases (Has R P) onto d v (h .0, k .word (v / 2)) (λ sl sh ss st srb sro sxb sxo. h)
+  writeOne-lasts g b from (effect.Product x y) onto h = h
+  writeOne-lasts g b from (effect.Load j w r a) onto h = h
+  writeOne-lasts g b from (effect.Store j w a v) onto h = h
+  writeOne-lasts g b from (effect.Stack c n m) onto h = h
+  writeOne-lasts g b from (effect.Transfer d t) onto h = h
+  writeOne-lasts g b from effect.Exception onto h = h
+
+  -- They hold after all the writes of a bundle.
+  pub written-lasts : (g : Settings) (b : Buffers) (s : State) (one : Effect) (two : AluEffect) (following : ℕ) → Has R P s → Has R P (written g b s one two following)
+  unfolding written
+  written-lasts g b s one two following h =
+      let t = writeAlu-lasts two (writeOne g b s one (landed s)) (writeOne-lasts g b s one (landed s) (landed-lasts s h)) in
+      onward-cases (Has R P) following _ one (s .transfer) (λ srb sro fetch base w q. t)
+
+-- The lengths of the lists of registers and predicates.
+pub record Shaped (s : State) : Type 0 where
+  pub registers : length (s .registers) ≡ 32
+  pub predicates : length (s .predicates) ≡ 8
+
+-- The lengths last.
+lengths-last : Lasting (λ l. length l ≡ 32) (λ l. length l ≡ 8)
+unfolding predicatesOf
+lengths-last = record { registers = λ l r v e. length-set l (suc r) v ∙ e; predicates = λ l p v e. length-set l (suc p) v ∙ e; word = λ v. refl }
+
+-- The writes of a bundle keep the lengths of the lists.
+pub written-shaped : (g : Settings) (b : Buffers) (s : State) (one : Effect) (two : AluEffect) (following : ℕ) → Shaped s → Shaped (written g b s one two following)
+written-shaped g b s one two following h =
+    let t = written-lasts (λ l. length l ≡ 32) (λ l. length l ≡ 8) lengths-last g b s one two following (h .registers, h .predicates) in
+    record { registers = t .0; predicates = t .1 }
+
+-- The parts of a well-formed state.
+pub record WellFormed (s : State) : Type 0 where
+  pub zero-register : register s 0 ≡ 0
+  pub true-predicate : getD (s .predicates) 0 false ≡ true
+  pub load : loadOk (s .load) ≡ true
+  pub transfer : waitOk (s .transfer) ≡ true
+
+-- A well-formed state has them.
+pub well-formed-parts : (s : State) → wellFormed s ≡ true → WellFormed s
+unfolding wellFormed
+well-formed-parts s e =
+    let r = eqb (register s 0) 0 in
+    let p = getD (s .predicates) 0 false in
+    let l = loadOk (s .load) in
+    let w = waitOk (s .transfer) in
+    let x = and-left (r && p) (l && w) e in
+    let y = and-right (r && p) (l && w) e in
+    record { zero-register = eqb-true _ _ (and-left r p x); true-predicate = and-right r p x; load = and-left l w y; transfer = and-right l w y }
+
+-- A state that has them is well formed.
+pub well-formed-whole : (s : State) → WellFormed s → wellFormed s ≡ true
+unfolding wellFormed
+well-formed-whole s h = rw (eq-eqb _ _ (h .zero-register), h .true-predicate, h .load, h .transfer)
+
+-- The load that slot one begins.
+abbrev pub loadBegun : Buffers → Effect → WaitingLoad
+loadBegun b (effect.Alu a) = load.Nothing
+loadBegun b (effect.Special d v) = load.Nothing
+loadBegun b (effect.Product x y) = load.Nothing
+loadBegun b (effect.Load k w r a) = load.Waits r (loadedValue b k w a)
+loadBegun b (effect.Store k w a v) = load.Nothing
+loadBegun b (effect.Stack c n m) = load.Nothing
+loadBegun b (effect.Transfer d t) = load.Nothing
+loadBegun b effect.Exception = load.Nothing
+
+-- A load that has landed waits no more.
+landed-load : (s : State) → landed s .load ≡ load.Nothing
+unfolding landed
+landed-load s = go (s .load) refl
+  where
+    go : (l : WaitingLoad) → s .load ≡ l → landing l s .load ≡ load.Nothing
+    go load.Nothing e = e
+    go (load.Waits r v) e = refl
+
+-- Slot one leaves the load that it begins.
+writeOne-load : (g : Settings) (b : Buffers) (from : State) (e : Effect) (onto : State) → onto .load ≡ load.Nothing → writeOne g b from e onto .load ≡ loadBegun b e
+unfolding writeOne
+writeOne-load g b from (effect.Alu a) onto h = writeAlu-cases (λ s. s .load ≡ load.Nothing) a onto (λ rs ps. h)
+writeOne-load g b from (effect.Special d v) onto h = withSpecial-cases (λ s. s .load ≡ load.Nothing) onto d v h (λ sl sh ss st srb sro sxb sxo. h)
+writeOne-load g b from (effect.Product x y) onto h = h
+writeOne-load g b from (effect.Load j w r a) onto h = refl
+writeOne-load g b from (effect.Store j w a v) onto h = h
+writeOne-load g b from (effect.Stack c n m) onto h = h
+writeOne-load g b from (effect.Transfer d t) onto h = h
+writeOne-load g b from effect.Exception onto h = h
+
+-- The load that waits after a bundle is the one that slot one began.
+pub written-load : (g : Settings) (b : Buffers) (s : State) (one : Effect) (two : AluEffect) (following : ℕ) → written g b s one two following .load ≡ loadBegun b one
+unfolding written
+written-load g b s one two following =
+    let t = writeOne-load g b s one (landed s) (landed-load s) in
+    onward-cases (λ x. x .load ≡ loadBegun b one) following _ one (s .transfer) (λ srb sro fetch base w q. writeAlu-cases (λ x. x .load ≡ loadBegun b one) two _ (λ rs ps. t))
+
+-- r0 stays zero and p0 true.
+firsts-last : Lasting (λ l. getD l 0 0 ≡ 0) (λ l. getD l 0 false ≡ true)
+firsts-last =
+    record {
+      registers = λ l r v e. getD-set-other l (suc r) 0 v 0 (λ z. omega arith) ∙ e;
+      predicates = λ l i v e. getD-set-other l (suc i) 0 v false (λ z. omega arith) ∙ e;
+      word = λ v. refl;
+    }
+
+-- What is written onto a well-formed state is well formed, if the register of a load that slot one begins is below 32.
+pub written-well-formed : (g : Settings) (b : Buffers) (s : State) (one : Effect) (two : AluEffect) (following : ℕ) → loadOk (loadBegun b one) ≡ true
+    → WellFormed s → WellFormed (written g b s one two following)
+unfolding written
+written-well-formed g b s one two following p h =
+    let t = written-lasts (λ l. getD l 0 0 ≡ 0) (λ l. getD l 0 false ≡ true) firsts-last g b s one two following (h .zero-register, h .true-predicate) in
+    record {
+      zero-register = t .0;
+      true-predicate = t .1;
+      load = ap loadOk (written-load g b s one two following) ∙ p;
+      transfer = onward-cases (λ x. waitOk (x .transfer) ≡ true) following _ one (s .transfer) (λ srb sro fetch base w q. q (h .transfer));
+    }
+
+-- A bundle in the decoder's ranges begins no load to a register above 31.
+module _ (b : Buffers) (s : State) where
+  operation-load-ok : (o : Operation) → OperationInRange o → loadOk (loadBegun b (effectOf s o)) ≡ true
+  unfolding effectOf stackEffect
+  operation-load-ok (operation.Alu o) p = refl
+  operation-load-ok (operation.Multiply f x y) p = refl
+  operation-load-ok (operation.Mts d r) p = refl
+  operation-load-ok (operation.Mfs r d) p = refl
+  operation-load-ok (operation.Load k w rd ra o) p = le-leb rd 31 (omega (arith, p .0))
+  operation-load-ok (operation.Store k w ra rs o) p = refl
+  operation-load-ok (operation.StackControl (Sres n)) p = refl
+  operation-load-ok (operation.StackControl (Sens a)) p = refl
+  operation-load-ok (operation.StackControl (Sfree n)) p = refl
+  operation-load-ok (operation.StackControl (Sspill a)) p = refl
+  operation-load-ok (operation.Transfer d t) p = refl
+  operation-load-ok (operation.Trap n) p = refl
+  operation-load-ok (operation.Xret d) p = refl
+
+  instruction-load-ok : (i : Instruction) → InstructionInRange i → loadOk (loadBegun b (slotOneEffect s i)) ≡ true
+  unfolding slotOneEffect
+  instruction-load-ok i p = go (holds (s .predicates) (i .guard))
+    where
+      go : (t : Bool) → loadOk (loadBegun b (cond t (effectOf s (i .operation)) (effect.Alu alu.Nothing))) ≡ true
+      go true = operation-load-ok (i .operation) (p .1)
+      go false = refl
+
+  pub bundle-load-ok : (i : Bundle) → InRange i → loadOk (loadBegun b (slotOne s i)) ≡ true
+  bundle-load-ok Undecodable p = refl
+  bundle-load-ok (One i) p = instruction-load-ok i p
+  bundle-load-ok (Two i j) p = instruction-load-ok i (p .0)
+  bundle-load-ok (Long i) p = instruction-load-ok i p
+
+-- What is decoded from code made of bytes is in range.
+pub bundle-in-range : (code : List ℕ) (a : ℕ) → ((i : ℕ) → getD code i 0 < 256) → InRange (bundleAt code a)
+bundle-in-range code a h = decode-in-range (wordAt code a) (wordAt code (a + 4)) (number-bound 4 code (a + 4) h)
+
+-- A bundle done, of code made of bytes, keeps a state well formed.
+after-well-formed : (g : Settings) (code : List ℕ) (s : State) (b : Buffers) → ((i : ℕ) → getD code i 0 < 256) → wellFormed s ≡ true → wellFormed (stateAfter g code s b) ≡ true
+after-well-formed g code s b bytes h =
+    well-formed-whole _ (written-well-formed g b s (effectAt code s) _ _ (bundle-load-ok b s (bundleAt code (s .fetch)) (bundle-in-range code (s .fetch) bytes)) (well-formed-parts s h))
+
+-- So does every bundle, whatever it answers.
+pub bundle-well-formed : (g : Settings) (code : List ℕ) (s : State) (b : Buffers) → ((i : ℕ) → getD code i 0 < 256) → wellFormed s ≡ true
+    → wellFormed (bundle g code s b .stepped .state) ≡ true
+bundle-well-formed g code s b bytes h = bundle-cases g code s b (λ o. wellFormed (o .stepped .state) ≡ true) (λ n j. h) (λ j. after-well-formed g code s b bytes h)
+
+-- So does every step.
+pub step-well-formed : (code : List ℕ) (lo hi : ℕ) (s : State) (b : Buffers) → ((i : ℕ) → getD code i 0 < 256) → wellFormed s ≡ true
+    → wellFormed (step code lo hi s b .stepped .state) ≡ true
+step-well-formed code lo hi s b bytes h =
+    step-cases code lo hi s b (λ o. wellFormed (o .stepped .state) ≡ true) (λ a p. h) (λ p j. after-well-formed (lent code lo hi b) code s b bytes h)
+
+-- A bundle keeps the lengths of the lists of registers and predicates.
+pub bundle-shaped : (g : Settings) (code : List ℕ) (s : State) (b : Buffers) → Shaped s → Shaped (bundle g code s b .stepped .state)
+bundle-shaped g code s b h = bundle-cases g code s b (λ o. Shaped (o .stepped .state)) (λ n j. h) (λ j. written-shaped g b s _ _ _ h)
+
+-- So does a step.
+pub step-shaped : (code : List ℕ) (lo hi : ℕ) (s : State) (b : Buffers) → Shaped s → Shaped (step code lo hi s b .stepped .state)
+step-shaped code lo hi s b h = step-cases code lo hi s b (λ o. Shaped (o .stepped .state)) (λ a p. h) (λ p j. written-shaped (lent code lo hi b) b s _ _ _ h)
