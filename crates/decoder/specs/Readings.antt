@@ -23,10 +23,10 @@ use Rattle.decoder.specs.declared.tables.LoadWidthRow.{LoadWidthRow}
 use Rattle.decoder.specs.declared.tables.LoadWidthRow.the-variants as of-loadWidthRow
 use Rattle.decoder.specs.declared.tables.StoreWidthRow.{StoreWidthRow}
 use Rattle.decoder.specs.declared.tables.StoreWidthRow.the-variants as of-storeWidthRow
-use Rattle.decoder.specs.declared.alu.AluReading.{AluReading}
-use Rattle.decoder.specs.declared.alu.AluReading.the-variants as of-aluReading
-use Rattle.decoder.specs.declared.first.Reading.{Reading}
-use Rattle.decoder.specs.declared.first.Reading.the-variants as of-reading
+use Rattle.decoder.specs.declared.alu_formats.AluReading.{AluReading}
+use Rattle.decoder.specs.declared.alu_formats.AluReading.the-variants as of-aluReading
+use Rattle.decoder.specs.declared.first_formats.Reading.{Reading}
+use Rattle.decoder.specs.declared.first_formats.Reading.the-variants as of-reading
 
 abbrev pub aluRow : AluRow → Option AluFunction
 aluRow of-aluRow.Unused = none

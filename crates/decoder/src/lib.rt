@@ -1,15 +1,15 @@
 // The decoder: a first and a second word to the bundle that they encode. Whoever executes or checks a bundle goes by the
 // contracts of `decode` and `bundle_words`.
-mod alu;
-mod first;
+mod alu_formats;
+mod first_formats;
 pub mod instruction;
 mod tables;
 
 ghost use mathlib.Core.Path.{_≡_};
 ghost use Rattle.decoder.specs.Decode.{bundleWords, guardOf, slotOne, slotTwo, one, two, decode};
 ghost use Rattle.decoder.specs.Readings.{aluFound, found};
-use alu::AluReading;
-use first::Reading;
+use alu_formats::AluReading;
+use first_formats::Reading;
 use instruction::AluInstruction;
 use instruction::Bundle;
 use instruction::Instruction;
@@ -29,16 +29,16 @@ pub fn bundle_words(first: u32) -> u32
 fn guard_of(w: u32) -> PredicateOperand
     ensures { λ r. ⌜ r ≡ guardOf w ⌝ }
 {
-    alu::predicate_operand(w / 134217728 % 16)
+    alu_formats::predicate_operand(w / 134217728 % 16)
 }
 
 fn slot_one(w: u32) -> Reading
     ensures { λ r. ⌜ found r ≡ slotOne w ⌝ }
 {
-    if let AluReading::Found(operation) = alu::read_alu(w) {
+    if let AluReading::Found(operation) = alu_formats::read_alu(w) {
         return Reading::Found(Operation::Alu(operation));
     }
-    first::read_first(w)
+    first_formats::read_first(w)
 }
 
 fn slot_two(w: u32) -> AluReading
@@ -47,7 +47,7 @@ fn slot_two(w: u32) -> AluReading
     if w / 2147483648 % 2 == 1 {
         return AluReading::Nothing;
     }
-    alu::read_alu(w)
+    alu_formats::read_alu(w)
 }
 
 // A bundle of one word.
@@ -91,7 +91,7 @@ pub fn decode(first: u32, second: u32) -> Bundle
     if bundle_words(first) == 1 {
         return decode_one(first);
     }
-    if let AluReading::Found(operation) = alu::read_long(first, second) {
+    if let AluReading::Found(operation) = alu_formats::read_long(first, second) {
         return Bundle::Long(Instruction {
             guard: guard_of(first),
             operation: Operation::Alu(operation),

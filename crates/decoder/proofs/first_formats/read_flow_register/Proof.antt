@@ -2,8 +2,8 @@ use borrow.Author.Tests.{ne-eqb}
 use Rattle.decoder.specs.Format.{row}
 use Rattle.decoder.specs.FlowLaws.{register-first}
 use borrow.Author.Needs.{needs}
-use Rattle.decoder.proofs.first.read_flow_register.Statement.{statement}
-use Rattle.decoder.proofs.first.read_flow_register.Tie as tie
+use Rattle.decoder.proofs.first_formats.read_flow_register.Statement.{statement}
+use Rattle.decoder.proofs.first_formats.read_flow_register.Tie as tie
 
 transfer-requires : tie.Need-transfer-requires
 transfer-requires c κs = search needs

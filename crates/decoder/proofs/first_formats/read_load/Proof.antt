@@ -6,11 +6,11 @@ use mathlib.Core.Path.{_≡_, sym, ap, _∙_}
 use native.Mathlib.Omega.{arith}
 use Prim.Native.Nat.{ℕ, _/_, _%_}
 use borrow.Author.Needs.{needs}
-use Rattle.decoder.proofs.first.read_store.Statement.{statement}
-use Rattle.decoder.proofs.first.read_store.Tie as tie
+use Rattle.decoder.proofs.first_formats.read_load.Statement.{statement}
+use Rattle.decoder.proofs.first_formats.read_load.Tie as tie
 
-store-width-requires : tie.Need-store-width-requires
-store-width-requires c κs = search needs
+load-width-requires : tie.Need-load-width-requires
+load-width-requires c κs = search needs
 
 enum-known-width : tie.Need-enum-known-width
 enum-known-width c = search needs
@@ -20,20 +20,20 @@ enum-told c = search needs
 
 returns : tie.Need-returns
 unfolding reading
-returns c = rw (upper-opcode, flow-opcode, c .before .before .before .pre, row-then, ← c .before .before .store-width .ensures, c .enum-told .given .1)
+returns c = rw (upper-opcode, flow-opcode, c .before .before .before .pre, row-then, ← c .before .before .load-width .ensures, c .enum-told .given .1)
 
 access-kind-requires : tie.Need-access-kind-requires
 access-kind-requires c κs = search needs
 
 returns-2 : tie.Need-returns-2
 unfolding reading
-returns-2 c = rw (upper-opcode, flow-opcode, c .before .before .before .before .before .pre, div-one, row-then, ← c .before .before .before .before .store-width .ensures, c .before .before .width .given .1, row-then, c .access-kind .ensures)
+returns-2 c = rw (upper-opcode, flow-opcode, c .before .before .before .before .before .pre, div-one, row-then, ← c .before .before .before .before .load-width .ensures, c .before .before .width .given .1, row-then, c .access-kind .ensures)
 
-pub read-store-spec : {M : Type 1} → statement M
-read-store-spec =
+pub read-load-spec : {M : Type 1} → statement M
+read-load-spec =
     tie.close
     (tie.spec
-    store-width-requires
+    load-width-requires
     enum-known-width
     enum-told
     returns

@@ -6,8 +6,8 @@ use mathlib.Core.Path.{_≡_, sym, ap, _∙_}
 use native.Mathlib.Omega.{arith}
 use Prim.Native.Nat.{ℕ, _/_, _%_}
 use borrow.Author.Needs.{needs}
-use Rattle.decoder.proofs.first.read_special.Statement.{statement}
-use Rattle.decoder.proofs.first.read_special.Tie as tie
+use Rattle.decoder.proofs.first_formats.read_special.Statement.{statement}
+use Rattle.decoder.proofs.first_formats.read_special.Tie as tie
 
 special-requires : tie.Need-special-requires
 special-requires c κs = search needs

@@ -1,8 +1,8 @@
 use borrow.Author.Tests.{ne-eqb}
 use Rattle.decoder.specs.Format.{reading}
 use borrow.Author.Needs.{needs}
-use Rattle.decoder.proofs.first.read_first.Statement.{statement}
-use Rattle.decoder.proofs.first.read_first.Tie as tie
+use Rattle.decoder.proofs.first_formats.read_first.Statement.{statement}
+use Rattle.decoder.proofs.first_formats.read_first.Tie as tie
 
 read-multiply-requires : tie.Need-read-multiply-requires
 read-multiply-requires c κs = search needs

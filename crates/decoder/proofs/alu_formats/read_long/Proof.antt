@@ -6,8 +6,8 @@ use Rattle.decoder.specs.TableLaws.{row-applied}
 use Rattle.decoder.specs.Tables.{aluTable}
 use mathlib.Core.Path.{sym, _∙_}
 use borrow.Author.Needs.{needs}
-use Rattle.decoder.proofs.alu.read_long.Statement.{statement}
-use Rattle.decoder.proofs.alu.read_long.Tie as tie
+use Rattle.decoder.proofs.alu_formats.read_long.Statement.{statement}
+use Rattle.decoder.proofs.alu_formats.read_long.Tie as tie
 
 returns : tie.Need-returns
 unfolding reading

@@ -4,8 +4,8 @@ use Rattle.decoder.specs.FlowLaws.{flow-first}
 use mir.Syntax.{w32}
 use mir.ValLaws.{toZ-ofZ}
 use borrow.Author.Needs.{needs}
-use Rattle.decoder.proofs.first.read_flow.Statement.{statement}
-use Rattle.decoder.proofs.first.read_flow.Tie as tie
+use Rattle.decoder.proofs.first_formats.read_flow.Statement.{statement}
+use Rattle.decoder.proofs.first_formats.read_flow.Tie as tie
 
 transfer-requires : tie.Need-transfer-requires
 transfer-requires c κs = search needs

@@ -2,8 +2,8 @@ use borrow.Author.Tests.{ne-eqb, eq-eqb}
 use native.Mathlib.Nat.{div-one}
 use Rattle.decoder.specs.Format.{reading}
 use borrow.Author.Needs.{needs}
-use Rattle.decoder.proofs.alu.read_alu.Statement.{statement}
-use Rattle.decoder.proofs.alu.read_alu.Tie as tie
+use Rattle.decoder.proofs.alu_formats.read_alu.Statement.{statement}
+use Rattle.decoder.proofs.alu_formats.read_alu.Tie as tie
 
 arithmetic-requires : tie.Need-arithmetic-requires
 arithmetic-requires c κs = search needs

@@ -6,8 +6,8 @@ use mathlib.Core.Path.{_≡_, sym, ap, _∙_}
 use native.Mathlib.Omega.{arith}
 use Prim.Native.Nat.{ℕ, _/_, _%_}
 use borrow.Author.Needs.{needs}
-use Rattle.decoder.proofs.first.read_multiply.Statement.{statement}
-use Rattle.decoder.proofs.first.read_multiply.Tie as tie
+use Rattle.decoder.proofs.first_formats.read_multiply.Statement.{statement}
+use Rattle.decoder.proofs.first_formats.read_multiply.Tie as tie
 
 returns : tie.Need-returns
 unfolding reading

@@ -1,7 +1,7 @@
 use borrow.Author.Needs.{needs}
 use Rattle.decoder.specs.TableLaws.{row-then}
-use Rattle.decoder.proofs.alu.compare.Statement.{statement}
-use Rattle.decoder.proofs.alu.compare.Tie as tie
+use Rattle.decoder.proofs.alu_formats.compare.Statement.{statement}
+use Rattle.decoder.proofs.alu_formats.compare.Tie as tie
 
 compare-function-requires : tie.Need-compare-function-requires
 compare-function-requires c κs = search needs

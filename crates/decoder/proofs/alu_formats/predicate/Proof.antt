@@ -1,7 +1,7 @@
 use borrow.Author.Needs.{needs}
 use Rattle.decoder.specs.TableLaws.{row-then}
-use Rattle.decoder.proofs.alu.predicate.Statement.{statement}
-use Rattle.decoder.proofs.alu.predicate.Tie as tie
+use Rattle.decoder.proofs.alu_formats.predicate.Statement.{statement}
+use Rattle.decoder.proofs.alu_formats.predicate.Tie as tie
 
 predicate-function-requires : tie.Need-predicate-function-requires
 predicate-function-requires c κs = search needs

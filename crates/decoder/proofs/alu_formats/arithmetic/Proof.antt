@@ -1,7 +1,7 @@
 use borrow.Author.Needs.{needs}
 use Rattle.decoder.specs.TableLaws.{row-then}
-use Rattle.decoder.proofs.alu.arithmetic.Statement.{statement}
-use Rattle.decoder.proofs.alu.arithmetic.Tie as tie
+use Rattle.decoder.proofs.alu_formats.arithmetic.Statement.{statement}
+use Rattle.decoder.proofs.alu_formats.arithmetic.Tie as tie
 
 alu-function-requires : tie.Need-alu-function-requires
 alu-function-requires c κs = search needs
