@@ -1,4 +1,6 @@
 pub mod Case
 pub mod Words
 pub mod Handbook
+pub mod Run
+pub mod Machine
 pub mod Cases

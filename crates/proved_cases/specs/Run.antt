@@ -1,0 +1,208 @@
+-- Runs as cases: bundles tried by `step`, one after the other, from the state that `opening` builds.
+use Prim.Native.Nat.{ℕ, zero, suc, _-_, _*_, _/_, _%_}
+use mathlib.Core.List.{List, [], _∷_, _++_, map}
+use mathlib.Core.Path.{_≡_, refl, ap}
+use lib.ListN.{length, replicate}
+use Rattle.word.specs.Word.{signed, lessSigned, lessEqualSigned, shiftRightSigned, copyBit, productSigned, signExtend}
+use Rattle.word.specs.Bytes.{numberAt, putNumber}
+use Rattle.alu.specs.Alu.{arithmetic, multiply, compare, combine}
+use Rattle.decoder.specs.Format.{reading, row}
+use Rattle.decoder.specs.Decode as decoder
+use Rattle.decoder.specs.Decode.{bundleWords, guardOf, slotTwo, decode}
+use Rattle.stack_cache.specs.Stack.{isCacheSize, cacheWord, putCacheWord, partOf, putPart, cacheNumber, putCacheNumber, below, spillWhile, fillWhile}
+use Rattle.stack_cache.specs.Stack.{topAfter, spills, fills, spillAfter, badWindow, badAmount, every, movedOutside, spilled, filled}
+use Rattle.machine.specs.declared.state.State.{State}
+use Rattle.machine.specs.declared.state.WaitingTransfer.{WaitingTransfer}
+use Rattle.machine.specs.declared.open.Opening.{Opening}
+use Rattle.machine.specs.declared.open.Opening.the-variants.{Opened}
+use Rattle.machine.specs.declared.step.Answer.{Answer}
+use Rattle.machine.specs.declared.step.Answer.the-variants.{Done, Ended, Refused}
+use Rattle.machine.specs.declared.step.Counts.{Counts}
+use Rattle.machine.specs.Settings.{admits}
+use Rattle.machine.specs.State.{withRegister, withPredicate, predicatesWord, predicatesOf, special, withSpecial, withStack, landed, goingOn, transferred, wellFormed, ended, fresh}
+use Rattle.machine.specs.Effect.{op2Value, aluEffect, loadScale, storeScale, accessAddress, amountWords, amountAligned, stackEffect, transferOf, effectOf, onStack}
+use Rattle.machine.specs.Effect.{slotOneEffect, slotTwoEffect}
+use Rattle.machine.specs.Refusal.{outsideCode, mainOpen, accessOpen, verdict}
+use Rattle.machine.specs.Bundle.{Buffers, buffers, readNumber, extended, loadedValue, stored, stackMoved, buffersAfter, writeAlu, writeOne, delaySlots, written}
+use Rattle.machine.specs.Bundle.{Outcome, outcome, slotOne, bundleAt, bundle, step}
+use Rattle.machine.specs.Open.{Open, opening}
+use Rattle.proved_cases.specs.Case.{Case, AllHold}
+
+-- The machine of every run: main memory of 1024 bytes, all zero, with the stack area from 512 to its end; no local memory.
+abbrev pub lo : ℕ
+lo = 512
+
+abbrev pub hi : ℕ
+hi = 1024
+
+-- Main memory that is zero but for its last bytes.
+abbrev pub endingIn : List ℕ → List ℕ
+endingIn last = replicate (hi - length last) 0 ++ last
+
+-- What is run: code, the address at which it is entered, what the cache holds then, and how many bundles are tried.
+pub record Given : Type 0 where
+  pub code : List ℕ
+  pub entry : ℕ
+  pub cache : List ℕ
+  pub bundles : ℕ
+
+-- The opening. (Its line, and that of `seen`, name the definitions by which it is computed: what unfolds it unfolds them too.)
+unfoldable pub opened : Given → Open
+unfolding opening admits isCacheSize fresh predicatesOf
+opened g = opening (g .code) (endingIn []) [] (g .cache) lo hi (g .entry)
+
+-- The buffers at the start. An opening leaves zeros in the cache; here it holds words that can be told apart.
+abbrev pub lentAtStart : Given → Buffers
+lentAtStart g = buffers (endingIn []) [] (g .cache)
+
+-- What a step gives, and the addresses of the words that it spills and fills, in order.
+pub record Seen : Type 0 where
+  pub outcome : Outcome
+  pub spilled : List ℕ
+  pub filled : List ℕ
+
+-- A bundle that is not done moves no words.
+abbrev pub ifDone : Answer → List ℕ → List ℕ
+ifDone Done addresses = addresses
+ifDone Ended addresses = []
+ifDone (Refused n) addresses = []
+
+-- (Below `decoder.slotOne` is what a word holds; `slotOne` is what it does.)
+unfoldable pub seen : List ℕ → State → Buffers → Seen
+unfolding step admits isCacheSize wellFormed ended bundle
+    outsideCode numberAt bundleWords decode guardOf decoder.slotOne slotTwo reading row signed
+    slotOneEffect slotTwoEffect effectOf aluEffect op2Value arithmetic multiply compare combine
+    lessSigned lessEqualSigned shiftRightSigned copyBit productSigned predicatesWord special
+    loadScale storeScale accessAddress stackEffect amountWords amountAligned transferOf
+    verdict mainOpen accessOpen badWindow badAmount movedOutside every spills spillWhile below fills fillWhile topAfter spillAfter
+    written landed writeOne writeAlu withRegister withPredicate withSpecial predicatesOf delaySlots transferred
+    loadedValue extended signExtend readNumber cacheNumber cacheWord partOf
+    buffersAfter stored putNumber putCacheNumber putCacheWord putPart stackMoved spilled filled
+seen code s b =
+    let o = step code lo hi s b in
+    let one = slotOne s (bundleAt code (s .fetch)) in
+    record {
+      outcome = o;
+      spilled = ifDone (o .stepped .answer) (onStack [] (λ c n m. spills c (length (b .cache)) (s .st) (s .ss) n) one);
+      filled = ifDone (o .stepped .answer) (onStack [] (λ c n m. fills c (s .st) (s .ss) n) one);
+    }
+
+-- Each step goes on with the state and the buffers that the one before left.
+abbrev pub stepsFrom : ℕ → List ℕ → State → Buffers → List Seen
+stepsFrom zero code s b = []
+stepsFrom (suc k) code s b =
+    let x = seen code s b in
+    x ∷ stepsFrom k code (x .outcome .stepped .state) (x .outcome .buffers)
+
+-- What a run gives: the answer of its opening, and what each step gives.
+pub record Trace : Type 0 where
+  pub opened : Opening
+  pub steps : List Seen
+
+abbrev pub traced : Given → Trace
+traced g =
+    let o = opened g .opened in
+    record { opened = o .answer; steps = stepsFrom (g .bundles) (g .code) (o .state) (lentAtStart g) }
+
+-- A run as data, in five records. Where st and ss are, and the addresses of the words moved;
+pub record Stack : Type 0 where
+  pub st : ℕ
+  pub ss : ℕ
+  pub spilled : List ℕ
+  pub filled : List ℕ
+
+-- where the core goes on;
+pub record Flow : Type 0 where
+  pub fetch : ℕ
+  pub transfer : WaitingTransfer
+
+-- the last bytes of main memory, and the cache;
+pub record Lent : Type 0 where
+  pub last : List ℕ
+  pub cache : List ℕ
+
+-- a bundle's word, and what must be after it;
+pub record Tried : Type 0 where
+  pub word : ℕ
+  pub answer : Answer
+  pub counts : Counts
+  pub stack : Stack
+  pub flow : Flow
+  pub lent : Lent
+
+-- the code words before the entry, what the cache holds at the start, and the bundles from the entry on.
+pub record Run : Type 0 where
+  pub before : List ℕ
+  pub cache : List ℕ
+  pub tried : List Tried
+
+-- The bytes of code words.
+abbrev pub bytesOf : List ℕ → List ℕ
+bytesOf [] = []
+bytesOf (w ∷ ws) = w / 16777216 ∷ w / 65536 % 256 ∷ w / 256 % 256 ∷ w % 256 ∷ bytesOf ws
+
+abbrev pub given : Run → Given
+given r =
+    record {
+      code = bytesOf (r .before ++ map (λ t. t .word) (r .tried));
+      entry = 4 * length (r .before);
+      cache = r .cache;
+      bundles = length (r .tried);
+    }
+
+-- What must be seen after a bundle. All that is not named there is as in the fresh state: registers, predicates, the other special
+-- registers, base, and no waiting load.
+abbrev pub expected : Run → Tried → Seen
+expected r t =
+    let s = goingOn (fresh (length (given r .code)) hi (given r .entry)) (t .flow .fetch) (t .flow .transfer) in
+    record {
+      outcome = outcome (t .answer) (withStack s (t .stack .st) (t .stack .ss)) (t .counts) (buffers (endingIn (t .lent .last)) [] (t .lent .cache));
+      spilled = t .stack .spilled;
+      filled = t .stack .filled;
+    }
+
+abbrev pub case : Run → Case Given Trace
+case r = record { given = given r; expected = record { opened = Opened; steps = map (expected r) (r .tried) } }
+
+-- A run is computed bundle by bundle: each step by itself, from what the data says of the bundle before. (Computed as one, a run
+-- of four bundles costs too much.)
+abbrev pub eachFrom : List ℕ → (Tried → Seen) → State → Buffers → List Tried → List Seen
+eachFrom code e s b [] = []
+eachFrom code e s b (t ∷ ts) = seen code s b ∷ eachFrom code e (e t .outcome .stepped .state) (e t .outcome .buffers) ts
+
+abbrev pub each : Run → Trace
+each r =
+    let o = opened (given r) .opened in
+    record { opened = o .answer; steps = eachFrom (given r .code) (expected r) (o .state) (lentAtStart (given r)) (r .tried) }
+
+abbrev pub EachHolds : List Run → Type 0
+EachHolds runs = map each runs ≡ map (λ r. case r .expected) runs
+
+-- Bundles that hold one by one hold as a run.
+abbrev first : {A : Type 0} → A → List A → A
+first d [] = d
+first d (x ∷ xs) = x
+
+abbrev rest : {A : Type 0} → List A → List A
+rest [] = []
+rest (x ∷ xs) = xs
+
+steps-hold : (code : List ℕ) (e : Tried → Seen) (s : State) (b : Buffers) (ts : List Tried)
+    → eachFrom code e s b ts ≡ map e ts → stepsFrom (length ts) code s b ≡ map e ts
+steps-hold code e s b [] h = refl
+steps-hold code e s b (t ∷ ts) h =
+    go (seen code s b) (ap (first (e t)) h) (steps-hold code e (e t .outcome .stepped .state) (e t .outcome .buffers) ts (ap rest h))
+  where
+    go : (x : Seen) → x ≡ e t → stepsFrom (length ts) code (e t .outcome .stepped .state) (e t .outcome .buffers) ≡ map e ts
+        → x ∷ stepsFrom (length ts) code (x .outcome .stepped .state) (x .outcome .buffers) ≡ e t ∷ map e ts
+    go x p q = rw p (ap (λ (l : List Seen). e t ∷ l) q)
+
+run-holds : (r : Run) → each r ≡ case r .expected → traced (given r) ≡ case r .expected
+run-holds r h =
+    let s = opened (given r) .opened .state in
+    let answer : traced (given r) .opened ≡ Opened = ap (λ (t : Trace). t .opened) h in
+    rw (answer, steps-hold (given r .code) (expected r) s (lentAtStart (given r)) (r .tried) (ap (λ (t : Trace). t .steps) h))
+
+pub runs-hold : (runs : List Run) → EachHolds runs → AllHold traced (map case runs)
+runs-hold [] h = refl
+runs-hold (r ∷ rs) h = rw (run-holds r (ap (first (case r .expected)) h), runs-hold rs (ap rest h))
