@@ -13,13 +13,13 @@ use crate::tables::AluRow;
 use crate::tables::CompareRow;
 use crate::tables::PredicateRow;
 
-pub enum AluReading {
+pub(crate) enum AluReading {
     Nothing,
     Found(AluOperation),
 }
 
 // Four bits that name a predicate.
-pub fn predicate_operand(n: u32) -> PredicateOperand
+pub(crate) fn predicate_operand(n: u32) -> PredicateOperand
     ensures { λ r. ⌜ r ≡ predicateOperand n ⌝ }
 {
     PredicateOperand {
@@ -71,7 +71,7 @@ fn predicate(func: u32, pd: u32, ps1: PredicateOperand, ps2: PredicateOperand) -
 }
 
 // A word in a format that either slot can hold.
-pub fn read_alu(w: u32) -> AluReading
+pub(crate) fn read_alu(w: u32) -> AluReading
     ensures { λ r. ⌜ aluFound r ≡ reading aluFormats w ⌝ }
 {
     let rd = w / 131072 % 32;
@@ -107,7 +107,7 @@ pub fn read_alu(w: u32) -> AluReading
 }
 
 // A first word whose second word is a constant.
-pub fn read_long(first: u32, second: u32) -> AluReading
+pub(crate) fn read_long(first: u32, second: u32) -> AluReading
     ensures { λ r. ⌜ aluFound r ≡ applied (reading longFormats first) second ⌝ }
 {
     if first / 2147483648 % 2 != 1 {

@@ -13,7 +13,7 @@ use crate::tables::MultiplyRow;
 use crate::tables::SpecialRow;
 use crate::tables::StoreWidthRow;
 
-pub enum Reading {
+pub(crate) enum Reading {
     Nothing,
     Found(Operation),
 }
@@ -190,7 +190,7 @@ fn read_flow_register(w: u32) -> Reading
 }
 
 // A word in a format that only slot one can hold, by its opcode.
-pub fn read_first(w: u32) -> Reading
+pub(crate) fn read_first(w: u32) -> Reading
     ensures { λ r. ⌜ found r ≡ reading firstFormats w ⌝ }
 {
     let opcode = w / 4194304 % 32;

@@ -14,13 +14,13 @@ use crate::instruction::PredicateFunction;
 use crate::instruction::Special;
 use crate::instruction::StoreWidth;
 
-pub enum AluRow {
+pub(crate) enum AluRow {
     Unused,
     Row(AluFunction),
 }
 
 // Table 2.1.
-pub fn alu_function(code: u32) -> AluRow
+pub(crate) fn alu_function(code: u32) -> AluRow
     ensures { λ r. ⌜ aluRow r ≡ row aluTable code some ⌝ }
 {
     match code {
@@ -39,13 +39,13 @@ pub fn alu_function(code: u32) -> AluRow
     }
 }
 
-pub enum MultiplyRow {
+pub(crate) enum MultiplyRow {
     Unused,
     Row(MultiplyFunction),
 }
 
 // Table 2.2.
-pub fn multiply_function(code: u32) -> MultiplyRow
+pub(crate) fn multiply_function(code: u32) -> MultiplyRow
     ensures { λ r. ⌜ multiplyRow r ≡ row multiplyTable code some ⌝ }
 {
     match code {
@@ -55,13 +55,13 @@ pub fn multiply_function(code: u32) -> MultiplyRow
     }
 }
 
-pub enum CompareRow {
+pub(crate) enum CompareRow {
     Unused,
     Row(CompareFunction),
 }
 
 // Table 2.3.
-pub fn compare_function(code: u32) -> CompareRow
+pub(crate) fn compare_function(code: u32) -> CompareRow
     ensures { λ r. ⌜ compareRow r ≡ row compareTable code some ⌝ }
 {
     match code {
@@ -76,13 +76,13 @@ pub fn compare_function(code: u32) -> CompareRow
     }
 }
 
-pub enum PredicateRow {
+pub(crate) enum PredicateRow {
     Unused,
     Row(PredicateFunction),
 }
 
 // Table 2.4.
-pub fn predicate_function(code: u32) -> PredicateRow
+pub(crate) fn predicate_function(code: u32) -> PredicateRow
     ensures { λ r. ⌜ predicateRow r ≡ row predicateTable code some ⌝ }
 {
     match code {
@@ -93,13 +93,13 @@ pub fn predicate_function(code: u32) -> PredicateRow
     }
 }
 
-pub enum SpecialRow {
+pub(crate) enum SpecialRow {
     Unused,
     Row(Special),
 }
 
 // Figure 2.2.
-pub fn special(code: u32) -> SpecialRow
+pub(crate) fn special(code: u32) -> SpecialRow
     ensures { λ r. ⌜ specialRow r ≡ row specialTable code some ⌝ }
 {
     match code {
@@ -116,13 +116,13 @@ pub fn special(code: u32) -> SpecialRow
     }
 }
 
-pub enum LoadWidthRow {
+pub(crate) enum LoadWidthRow {
     Unused,
     Row(LoadWidth),
 }
 
 // Table 2.5, the width.
-pub fn load_width(code: u32) -> LoadWidthRow
+pub(crate) fn load_width(code: u32) -> LoadWidthRow
     ensures { λ r. ⌜ loadWidthRow r ≡ row loadTable code some ⌝ }
 {
     match code {
@@ -135,13 +135,13 @@ pub fn load_width(code: u32) -> LoadWidthRow
     }
 }
 
-pub enum StoreWidthRow {
+pub(crate) enum StoreWidthRow {
     Unused,
     Row(StoreWidth),
 }
 
 // Table 2.6, the width.
-pub fn store_width(code: u32) -> StoreWidthRow
+pub(crate) fn store_width(code: u32) -> StoreWidthRow
     ensures { λ r. ⌜ storeWidthRow r ≡ row storeTable code some ⌝ }
 {
     match code {
@@ -153,7 +153,7 @@ pub fn store_width(code: u32) -> StoreWidthRow
 }
 
 // Tables 2.5 and 2.6, the memory: all four codes are used.
-pub fn access_kind(code: u32) -> AccessKind
+pub(crate) fn access_kind(code: u32) -> AccessKind
     requires { ⌜ code < 4 ⌝ }
     ensures { λ r. ⌜ row kindTable code some ≡ some r ⌝ }
 {

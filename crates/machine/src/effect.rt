@@ -56,7 +56,7 @@ pub enum Effect {
     Exception,
 }
 
-pub fn register(registers: &[u32], r: u32) -> u32
+pub(crate) fn register(registers: &[u32], r: u32) -> u32
     ensures { λ x. ⌜ x ≡ getD (now (registers .entry)) r 0 ⌝ }
 {
     let k = r as usize;
@@ -67,7 +67,7 @@ pub fn register(registers: &[u32], r: u32) -> u32
 }
 
 // The value of a predicate operand.
-pub fn operand(predicates: &[bool], p: PredicateOperand) -> bool
+pub(crate) fn operand(predicates: &[bool], p: PredicateOperand) -> bool
     ensures { λ x. ⌜ x ≡ holds (now (predicates .entry)) p ⌝ }
 {
     let k = p.predicate as usize;
@@ -87,7 +87,11 @@ fn op2_value(registers: &[u32], o: Op2) -> u32
     }
 }
 
-pub fn alu_effect<'a>(registers: &'a [u32], predicates: &'a [bool], o: AluOperation) -> AluEffect
+pub(crate) fn alu_effect<'a>(
+    registers: &'a [u32],
+    predicates: &'a [bool],
+    o: AluOperation,
+) -> AluEffect
     ensures { λ x. ⌜ x ≡ aluEffect (now (registers .entry)) (now (predicates .entry)) o ⌝ }
 {
     match o {
@@ -138,7 +142,11 @@ pub fn alu_effect<'a>(registers: &'a [u32], predicates: &'a [bool], o: AluOperat
 }
 
 // What slot two does.
-pub fn slot_two<'a>(registers: &'a [u32], predicates: &'a [bool], i: AluInstruction) -> AluEffect
+pub(crate) fn slot_two<'a>(
+    registers: &'a [u32],
+    predicates: &'a [bool],
+    i: AluInstruction,
+) -> AluEffect
     ensures { λ x. ⌜ x ≡ slotTwoEffect (now (registers .entry)) (now (predicates .entry)) i ⌝ }
 {
     let guard = i.guard;

@@ -139,7 +139,7 @@ impl State {
     }
 
     // A decoded bundle, whose slots have these effects, done or refused.
-    pub fn execute(
+    pub(crate) fn execute(
         self,
         g: Settings,
         one: Effect,

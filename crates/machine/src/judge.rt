@@ -48,7 +48,14 @@ fn is_stack(kind: AccessKind) -> bool
 }
 
 // 5, 7 and 6 of a load or store of n bytes.
-pub fn judge_access(g: Settings, st: u32, ss: u32, kind: AccessKind, a: u32, n: u32) -> Verdict
+pub(crate) fn judge_access(
+    g: Settings,
+    st: u32,
+    ss: u32,
+    kind: AccessKind,
+    a: u32,
+    n: u32,
+) -> Verdict
     requires { ⌜ (admits g ≡ true) × (0 < n) ⌝ }
     ensures { λ r. ⌜ r ≡ accessVerdict g st ss kind a n ⌝ }
 {

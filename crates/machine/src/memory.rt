@@ -37,7 +37,7 @@ fn load_cache(cache: &[u32], width: LoadWidth, a: u32) -> u32
 }
 
 // The value that a load brings.
-pub fn load(
+pub(crate) fn load(
     main: &[u8],
     local: &[u8],
     cache: &[u32],
@@ -76,7 +76,7 @@ fn store_cache(cache: &mut [u32], width: StoreWidth, a: u32, v: u32)
 }
 
 // A store carried out.
-pub fn store(
+pub(crate) fn store(
     main: &mut [u8],
     local: &mut [u8],
     cache: &mut [u32],

@@ -45,7 +45,7 @@ fn is_cache_size(words: usize) -> bool
 
 impl Settings {
     // Whether the settings lie inside the limits.
-    pub fn admits(self) -> bool
+    pub(crate) fn admits(self) -> bool
         ensures { λ r. ⌜ r ≡ admits self ⌝ }
     {
         let lengths = code_length_ok(self.code) & ((self.main <= 65536) & (self.local <= 65536));

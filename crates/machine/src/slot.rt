@@ -45,7 +45,7 @@ fn store_scale(w: StoreWidth) -> u32
 }
 
 // The bytes of an access.
-pub fn load_size(w: LoadWidth) -> u32
+pub(crate) fn load_size(w: LoadWidth) -> u32
     ensures { λ x. ⌜ (x ≡ 2 ^ loadScale w) × (0 < x) ⌝ }
 {
     match w {
@@ -57,7 +57,7 @@ pub fn load_size(w: LoadWidth) -> u32
     }
 }
 
-pub fn store_size(w: StoreWidth) -> u32
+pub(crate) fn store_size(w: StoreWidth) -> u32
     ensures { λ x. ⌜ (x ≡ 2 ^ storeScale w) × (0 < x) ⌝ }
 {
     match w {
@@ -230,7 +230,7 @@ impl State {
     }
 
     // What slot one does: nothing where its guard is false.
-    pub fn slot_one(self, i: Instruction) -> Effect
+    pub(crate) fn slot_one(self, i: Instruction) -> Effect
         ensures { λ x. ⌜ x ≡ slotOneEffect self i ⌝ }
     {
         let guard = i.guard;

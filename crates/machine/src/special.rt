@@ -45,7 +45,7 @@ fn predicates_of(v: u32) -> [bool; 8]
 }
 
 impl State {
-    pub fn read_special(self, s: Special) -> u32
+    pub(crate) fn read_special(self, s: Special) -> u32
         ensures { λ r. ⌜ r ≡ special self s ⌝ }
     {
         match s {
@@ -64,7 +64,7 @@ impl State {
         }
     }
 
-    pub fn write_special(mut self, s: Special, v: u32) -> State
+    pub(crate) fn write_special(mut self, s: Special, v: u32) -> State
         ensures { λ r. ⌜ r ≡ withSpecial self s v ⌝ }
     {
         match s {
@@ -108,7 +108,7 @@ impl State {
         }
     }
 
-    pub fn write_product(mut self, low: u32, high: u32) -> State
+    pub(crate) fn write_product(mut self, low: u32, high: u32) -> State
         ensures { λ r. ⌜ r ≡ withProduct self low high ⌝ }
     {
         self.sl = low;
@@ -116,7 +116,7 @@ impl State {
         self
     }
 
-    pub fn write_stack(mut self, st: u32, ss: u32) -> State
+    pub(crate) fn write_stack(mut self, st: u32, ss: u32) -> State
         ensures { λ r. ⌜ r ≡ withStack self st ss ⌝ }
     {
         self.st = st;

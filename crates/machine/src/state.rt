@@ -55,7 +55,7 @@ impl State {
     }
 
     // A predicate written; p0 stays true.
-    pub fn write_predicate(mut self, p: u32, v: bool) -> State
+    pub(crate) fn write_predicate(mut self, p: u32, v: bool) -> State
         ensures { λ x. ⌜ x ≡ withPredicate self p v ⌝ }
     {
         if p == 0 {
@@ -70,7 +70,7 @@ impl State {
     }
 
     // The waiting load replaced.
-    pub fn with_load(self, load: WaitingLoad) -> State
+    pub(crate) fn with_load(self, load: WaitingLoad) -> State
         ensures { λ x. ⌜ x ≡ withLoad self load ⌝ }
     {
         let registers = self.registers;
@@ -109,7 +109,7 @@ impl State {
     }
 
     // Going on at an address, with a transfer that waits or none.
-    pub fn go_on(self, fetch: u32, transfer: WaitingTransfer) -> State
+    pub(crate) fn go_on(self, fetch: u32, transfer: WaitingTransfer) -> State
         ensures { λ x. ⌜ x ≡ goingOn self fetch transfer ⌝ }
     {
         let registers = self.registers;

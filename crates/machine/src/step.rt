@@ -43,7 +43,7 @@ fn delay_slots(t: Transfer) -> u32
 
 impl State {
     // What a slot's ALU effect writes.
-    pub fn write_alu(self, e: AluEffect) -> State
+    pub(crate) fn write_alu(self, e: AluEffect) -> State
         ensures { λ r. ⌜ r ≡ writeAlu e self ⌝ }
     {
         match e {
@@ -54,7 +54,7 @@ impl State {
     }
 
     // A transfer that waits comes one bundle nearer, and is carried out when it falls due.
-    pub fn nearer(self, waiting: WaitingTransfer, following: u32) -> State
+    pub(crate) fn nearer(self, waiting: WaitingTransfer, following: u32) -> State
         ensures { λ r. ⌜ r ≡ nearer waiting following self ⌝ }
     {
         match waiting {
@@ -76,7 +76,7 @@ impl State {
     }
 
     // A transfer of this bundle: it waits for its delay slots, or is carried out at once.
-    pub fn begin(self, delayed: bool, transfer: Transfer, following: u32) -> State
+    pub(crate) fn begin(self, delayed: bool, transfer: Transfer, following: u32) -> State
         ensures { λ r. ⌜ r ≡ begun delayed transfer following self ⌝ }
     {
         if delayed {
@@ -87,7 +87,7 @@ impl State {
     }
 
     // A refused bundle changes nothing and counts nothing.
-    pub fn refused(self, n: u32) -> Stepped
+    pub(crate) fn refused(self, n: u32) -> Stepped
         ensures { λ r. ⌜ r ≡ refusedWith self n ⌝ }
     {
         Stepped {
@@ -102,7 +102,7 @@ impl State {
         }
     }
 
-    pub fn done(self, cycles: u64, spilled: u64, filled: u64) -> Stepped
+    pub(crate) fn done(self, cycles: u64, spilled: u64, filled: u64) -> Stepped
         ensures { λ r. ⌜ r ≡ doneWith self cycles spilled filled ⌝ }
     {
         Stepped {
