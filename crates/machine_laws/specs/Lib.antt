@@ -1,2 +1,3 @@
+pub mod StepCases
 pub mod KeptLaws
 pub mod StackKept

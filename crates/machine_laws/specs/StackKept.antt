@@ -36,7 +36,8 @@ use Rattle.machine.specs.State.{noneWaits}
 use Rattle.machine.specs.Effect.{storeScale, onTransfer, onStack}
 use Rattle.machine.specs.Refusal.{Test, verdict as verdictOf, effectTests, outsideCode, isUndecodable, isException, isMisaligned, isBadStack, isOutside, mainOpen, mainWritable, accessOpen}
 use Rattle.machine.specs.Bundle.{Buffers, stored, area, withArea, stackMoved, buffersAfter, writeOne, written, bundleAt, bundle, step}
-use Rattle.machine_laws.specs.KeptLaws.{effectAt, judged, bundle-cases, bundle-fine, bundle-done-as, lent, step-cases, writeAlu-cases, onward-cases}
+use Rattle.machine_laws.specs.StepCases.{effectAt, judged, bundle-cases, bundle-fine, bundle-done-as, lent, step-cases}
+use Rattle.machine_laws.specs.KeptLaws.{writeAlu-cases, onward-cases}
 
 -- Buffers of the same lengths.
 pub record SameLengths (b b′ : Buffers) : Type 0 where
