@@ -1,73 +1,80 @@
 -- A bundle by cases: outside the code, undecodable, or executed.
 use Prim.Native.Nat.{ℕ}
-use mathlib.Core.Bool.{Bool, true, false, cond}
+use mathlib.Core.Bool.{Bool, true, false, not, cond}
 use mathlib.Core.List.{List}
 use mathlib.Core.Path.{_≡_, refl, ap, _∙_}
-use Rattle.decoder.specs.declared.instruction.Bundle.{Bundle}
-use Rattle.decoder.specs.declared.instruction.Bundle.the-variants.{Undecodable}
-use Rattle.machine.specs.declared.settings.Settings.{Settings}
+use Rattle.memory.specs.declared.settings.Settings.{Settings}
 use Rattle.machine.specs.declared.state.State.{State}
-use Rattle.machine.specs.declared.effect.AluEffect.{AluEffect}
-use Rattle.machine.specs.declared.effect.Effect.{Effect}
+use Rattle.effects.specs.declared.effect.AluEffect.{AluEffect}
+use Rattle.effects.specs.declared.effect.Effect.{Effect}
 use Rattle.machine.specs.declared.bundle.Fetched.the-variants as fetch
-use Rattle.machine.specs.declared.step.Answer.the-variants.{Refused}
-use Rattle.machine.specs.Refusal.{outsideCode, isUndecodable, verdict}
-use Rattle.machine.specs.Bundle.{Buffers, outcome, noCounts, bundleAt, followingAt, slotOne, slotTwo, bundle}
-use Rattle.machine.specs.Execute.{executed, fetched}
+use Rattle.memory.specs.Answer.{refused}
+use Rattle.memory.specs.Access.{Buffers, verdict}
+use Rattle.effects.specs.declared.effect.Effects.{Effects}
+use Rattle.effects.specs.declared.effect.Effects.the-variants as effects
+use Rattle.effects.specs.Effect.{slotOne, slotTwo, isUndecodable, effectsOf}
+use Rattle.memory.specs.Settings.{admits}
+use Rattle.machine.specs.declared.step.Readiness.the-variants as ready
+use Rattle.machine.specs.State.{startOf, wellFormed, ended}
+use Rattle.machine.specs.Refusal.{outsideCode}
+use Rattle.machine.specs.Bundle.{outcome, noCounts, bundleAt, followingAt, bundle, readiness}
+use Rattle.machine.specs.Execute.{executed, fetchedOf, fetched}
 
 module _ (g : Settings) (code : List ℕ) (s : State) (b : Buffers) where
-  pub bundle-outside : outsideCode code (s .fetch) ≡ true → bundle g code s b ≡ outcome (Refused 2) s noCounts b
+  pub bundle-outside : outsideCode code (s .fetch) ≡ true → bundle g code s b ≡ outcome (refused 2) s noCounts b
   unfolding bundle verdict
   bundle-outside p = rw p
 
   pub bundle-undecodable : outsideCode code (s .fetch) ≡ false → isUndecodable (bundleAt code (s .fetch)) ≡ true
-      → bundle g code s b ≡ outcome (Refused 3) s noCounts b
+      → bundle g code s b ≡ outcome (refused 3) s noCounts b
   unfolding bundle verdict
   bundle-undecodable p q = rw (p, q)
 
   pub bundle-executed : outsideCode code (s .fetch) ≡ false → isUndecodable (bundleAt code (s .fetch)) ≡ false
-      → bundle g code s b ≡ executed g s (slotOne s (bundleAt code (s .fetch))) (slotTwo s (bundleAt code (s .fetch))) (followingAt code (s .fetch)) b
+      → bundle g code s b ≡ executed g s (slotOne (startOf s) (bundleAt code (s .fetch))) (slotTwo (startOf s) (bundleAt code (s .fetch))) (followingAt code (s .fetch)) b
   unfolding bundle executed verdict
   bundle-executed p q = rw (p, q)
 
   -- the same by what reading the bundle gives
-  pub bundle-refused : (n : ℕ) → fetched code s ≡ fetch.Refused n → bundle g code s b ≡ outcome (Refused n) s noCounts b
-  unfolding fetched
+  pub bundle-refused : (n : ℕ) → fetched code s ≡ fetch.Refused n → bundle g code s b ≡ outcome (refused n) s noCounts b
+  unfolding fetched effectsOf
   bundle-refused n = go (outsideCode code (s .fetch)) (isUndecodable (bundleAt code (s .fetch))) refl refl
     where
       go : (x y : Bool) → outsideCode code (s .fetch) ≡ x → isUndecodable (bundleAt code (s .fetch)) ≡ y
-          → cond x (fetch.Refused 2) (cond y (fetch.Refused 3) (fetch.Slots (slotOne s (bundleAt code (s .fetch))) (slotTwo s (bundleAt code (s .fetch))) (followingAt code (s .fetch)))) ≡ fetch.Refused n
-          → bundle g code s b ≡ outcome (Refused n) s noCounts b
-      go true y p q e = let k : 2 ≡ n = cc in bundle-outside p ∙ ap (λ (m : ℕ). outcome (Refused m) s noCounts b) k
-      go false true p q e = let k : 3 ≡ n = cc in bundle-undecodable p q ∙ ap (λ (m : ℕ). outcome (Refused m) s noCounts b) k
+          → cond x (fetch.Refused 2) (fetchedOf (cond y effects.Undecodable (effects.Slots (slotOne (startOf s) (bundleAt code (s .fetch))) (slotTwo (startOf s) (bundleAt code (s .fetch))))) (followingAt code (s .fetch))) ≡ fetch.Refused n
+          → bundle g code s b ≡ outcome (refused n) s noCounts b
+      go true y p q e = let k : 2 ≡ n = cc in bundle-outside p ∙ ap (λ (m : ℕ). outcome (refused m) s noCounts b) k
+      go false true p q e = let k : 3 ≡ n = cc in bundle-undecodable p q ∙ ap (λ (m : ℕ). outcome (refused m) s noCounts b) k
       go false false p q e = cc
 
   pub bundle-slots : (one : Effect) (two : AluEffect) (following : ℕ) → fetched code s ≡ fetch.Slots one two following
       → bundle g code s b ≡ executed g s one two following b
-  unfolding fetched
+  unfolding fetched effectsOf
   bundle-slots one two following = go (outsideCode code (s .fetch)) (isUndecodable (bundleAt code (s .fetch))) refl refl
     where
       go : (x y : Bool) → outsideCode code (s .fetch) ≡ x → isUndecodable (bundleAt code (s .fetch)) ≡ y
-          → cond x (fetch.Refused 2) (cond y (fetch.Refused 3) (fetch.Slots (slotOne s (bundleAt code (s .fetch))) (slotTwo s (bundleAt code (s .fetch))) (followingAt code (s .fetch)))) ≡ fetch.Slots one two following
+          → cond x (fetch.Refused 2) (fetchedOf (cond y effects.Undecodable (effects.Slots (slotOne (startOf s) (bundleAt code (s .fetch))) (slotTwo (startOf s) (bundleAt code (s .fetch))))) (followingAt code (s .fetch))) ≡ fetch.Slots one two following
           → bundle g code s b ≡ executed g s one two following b
       go true y p q e = cc
       go false true p q e = cc
       go false false p q e =
-          let k : slotOne s (bundleAt code (s .fetch)) ≡ one = cc in
-          let l : slotTwo s (bundleAt code (s .fetch)) ≡ two = cc in
+          let k : slotOne (startOf s) (bundleAt code (s .fetch)) ≡ one = cc in
+          let l : slotTwo (startOf s) (bundleAt code (s .fetch)) ≡ two = cc in
           let m : followingAt code (s .fetch) ≡ following = cc in
-          bundle-executed p q ∙ ap (λ (x : Effect). executed g s x (slotTwo s (bundleAt code (s .fetch))) (followingAt code (s .fetch)) b) k
+          bundle-executed p q ∙ ap (λ (x : Effect). executed g s x (slotTwo (startOf s) (bundleAt code (s .fetch))) (followingAt code (s .fetch)) b) k
           ∙ ap (λ (x : AluEffect). executed g s one x (followingAt code (s .fetch)) b) l ∙ ap (λ (x : ℕ). executed g s one two x b) m
 
--- what reading a known bundle gives
-pub fetched-known : (code : List ℕ) (s : State) (i : Bundle) → bundleAt code (s .fetch) ≡ i → outsideCode code (s .fetch) ≡ false → isUndecodable i ≡ false
-    → fetched code s ≡ fetch.Slots (slotOne s i) (slotTwo s i) (followingAt code (s .fetch))
+-- What reading a bundle inside the code gives, by what its slots do.
+pub fetched-read : (code : List ℕ) (s : State) (e : Effects) → outsideCode code (s .fetch) ≡ false
+    → effectsOf (startOf s) (bundleAt code (s .fetch)) ≡ e → fetched code s ≡ fetchedOf e (followingAt code (s .fetch))
 unfolding fetched
-fetched-known code s i e p q =
-    rw p (ap (λ (x : Bundle). cond (isUndecodable x) (fetch.Refused 3) (fetch.Slots (slotOne s x) (slotTwo s x) (followingAt code (s .fetch)))) e ∙ rw q)
+fetched-read code s e p q = rw p (ap (λ (x : Effects). fetchedOf x (followingAt code (s .fetch))) q)
 
-pub fetched-undecodable : (code : List ℕ) (s : State) → bundleAt code (s .fetch) ≡ Undecodable → outsideCode code (s .fetch) ≡ false
-    → fetched code s ≡ fetch.Refused 3
-unfolding fetched
-fetched-undecodable code s e p =
-    rw p (ap (λ (x : Bundle). cond (isUndecodable x) (fetch.Refused 3) (fetch.Slots (slotOne s x) (slotTwo s x) (followingAt code (s .fetch)))) e)
+-- A bundle is tried under settings inside the limits alone.
+pub ready-admits : (g : Settings) (s : State) → readiness g s ≡ ready.Ready → admits g ≡ true
+unfolding readiness
+ready-admits g s = go (admits g) refl (wellFormed s) (ended s (g .code))
+  where
+    go : (x : Bool) → admits g ≡ x → (y z : Bool) → cond (not x) (ready.Refused 1) (cond (not y) (ready.Refused 11) (cond z ready.Ended ready.Ready)) ≡ ready.Ready → admits g ≡ true
+    go true p y z e = p
+    go false p y z e = cc

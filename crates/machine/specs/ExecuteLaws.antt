@@ -13,27 +13,27 @@ use Rattle.stack_cache.specs.declared.Plan.{Plan}
 use Rattle.stack_cache.specs.declared.Plan.the-variants as plan
 use Rattle.stack_cache.specs.PlanLaws.{planned-told}
 use Rattle.stack_cache.specs.Stack.{badWindow, badAmount, movedOutside, planned, topAfter, spillAfter, spills, fills}
-use Rattle.machine.specs.declared.settings.Settings.{Settings}
+use Rattle.memory.specs.declared.settings.Settings.{Settings}
 use Rattle.machine.specs.declared.state.State.{State}
-use Rattle.machine.specs.declared.state.Transfer.{Transfer}
+use Rattle.effects.specs.declared.effect.Transfer.{Transfer}
 use Rattle.machine.specs.declared.state.WaitingTransfer.{WaitingTransfer}
-use Rattle.machine.specs.declared.effect.AluEffect.{AluEffect}
-use Rattle.machine.specs.declared.effect.Effect.the-variants as effect
-use Rattle.machine.specs.declared.judge.Verdict.{Verdict}
-use Rattle.machine.specs.declared.judge.Verdict.the-variants.{Fine, Refused}
+use Rattle.effects.specs.declared.effect.AluEffect.{AluEffect}
+use Rattle.effects.specs.declared.effect.Effect.the-variants as effect
+use Rattle.memory.specs.declared.judge.Verdict.{Verdict}
+use Rattle.memory.specs.declared.judge.Verdict.the-variants.{Fine, Refused}
 use Rattle.machine.specs.State.{noneWaits, withStack, landed}
-use Rattle.machine.specs.Effect.{loadScale, storeScale}
-use Rattle.machine.specs.Refusal.{verdict, effectTests}
-use Rattle.machine.specs.Bundle.{buffers, written, writeOne, writeAlu, nearer, buffersAfter, stackMoved}
-use Rattle.machine.specs.Execute.{accessVerdict, full, doneWith, executed, Moved}
+use Rattle.memory.specs.Access.{loadScale, storeScale, buffers, verdict, accessVerdict}
+use Rattle.machine.specs.Refusal.{effectTests}
+use Rattle.machine.specs.Bundle.{full, written, writeOne, writeAlu, nearer, buffersAfter, stackMoved}
+use Rattle.machine.specs.Execute.{doneWith, executed, Moved}
 
 pub load-tests : (g : Settings) (s : State) (k : AccessKind) (w : LoadWidth) (r a : ℕ)
-    → verdict (effectTests g s (effect.Load k w r a)) ≡ accessVerdict g (s .st) (s .ss) k a (2 ^ loadScale w)
+    → verdict (effectTests g s (effect.Load k w r a)) ≡ accessVerdict g (s .specials .st) (s .specials .ss) k a (2 ^ loadScale w)
 unfolding verdict accessVerdict
 load-tests g s k w r a = refl
 
 pub store-tests : (g : Settings) (s : State) (k : AccessKind) (w : StoreWidth) (a v : ℕ)
-    → verdict (effectTests g s (effect.Store k w a v)) ≡ accessVerdict g (s .st) (s .ss) k a (2 ^ storeScale w)
+    → verdict (effectTests g s (effect.Store k w a v)) ≡ accessVerdict g (s .specials .st) (s .specials .ss) k a (2 ^ storeScale w)
 unfolding verdict accessVerdict
 store-tests g s k w a v = refl
 
@@ -48,14 +48,14 @@ planVerdict (plan.Refused n) = Refused n
 planVerdict (plan.Moves st ss j k) = Fine
 
 pub stack-tests : (g : Settings) (s : State) (c : StackControl) (n : ℕ) (m : Bool)
-    → verdict (effectTests g s (effect.Stack c n m)) ≡ cond (not m) (Refused 5) (planVerdict (planned c (g .words) (g .lo) (g .hi) (s .st) (s .ss) n))
+    → verdict (effectTests g s (effect.Stack c n m)) ≡ cond (not m) (Refused 5) (planVerdict (planned c (g .words) (g .lo) (g .hi) (s .specials .st) (s .specials .ss) n))
 unfolding verdict planned
 stack-tests g s c n m =
     ap (λ (v : Verdict). cond (not m) (Refused 5) v)
-    (go (badWindow (g .words) (s .st) (s .ss) || badAmount c (g .words) (s .st) n) (movedOutside c (g .words) (g .lo) (g .hi) (s .st) (s .ss) n))
+    (go (badWindow (g .words) (s .specials .st) (s .specials .ss) || badAmount c (g .words) (s .specials .st) n) (movedOutside c (g .words) (g .lo) (g .hi) (s .specials .st) (s .specials .ss) n))
   where
     go : (x y : Bool) → cond x (Refused 7) (cond y (Refused 8) Fine) ≡ planVerdict (cond x (plan.Refused 7) (cond y (plan.Refused 8)
-        (plan.Moves (topAfter c (s .st) n) (spillAfter c (g .words) (s .st) (s .ss) n) (length (spills c (g .words) (s .st) (s .ss) n)) (length (fills c (s .st) (s .ss) n)))))
+        (plan.Moves (topAfter c (s .specials .st) n) (spillAfter c (g .words) (s .specials .st) (s .specials .ss) n) (length (spills c (g .words) (s .specials .st) (s .specials .ss) n)) (length (fills c (s .specials .st) (s .specials .ss) n)))))
     go true y = refl
     go false true = refl
     go false false = refl
@@ -71,11 +71,11 @@ one-way Sspill w st ss n j k p q r = absurd (r q)
 -- a stack instruction that its plan lets pass, done
 pub stack-done : (g : Settings) (s : State) (c : StackControl) (n : ℕ) (m : Bool) (two : AluEffect) (following : ℕ)
     (main local cache main′ cache′ : List ℕ) (st′ ss′ j k : ℕ) → not m ≡ false
-    → planned c (g .words) (g .lo) (g .hi) (s .st) (s .ss) n ≡ plan.Moves st′ ss′ j k
-    → Moved (g .lo) (g .hi) (s .ss) j k main cache main′ cache′
+    → planned c (g .words) (g .lo) (g .hi) (s .specials .st) (s .specials .ss) n ≡ plan.Moves st′ ss′ j k
+    → Moved (g .lo) (g .hi) (s .specials .ss) j k main cache main′ cache′
     → full (doneWith (nearer (s .transfer) following (writeAlu two (withStack (landed s) st′ ss′))) 1 j k) (buffers main′ local cache′)
     ≡ executed g s (effect.Stack c n m) two following (buffers main local cache)
 unfolding executed written writeOne buffersAfter stackMoved
 stack-done g s c n m two following main local cache main′ cache′ st′ ss′ j k p e v =
-    let t = planned-told c (g .words) (g .lo) (g .hi) (s .st) (s .ss) n st′ ss′ j k e in
+    let t = planned-told c (g .words) (g .lo) (g .hi) (s .specials .st) (s .specials .ss) n st′ ss′ j k e in
     rw (stack-tests g s c n m, p, e, ← t .top, ← t .spill, ← t .spilled, ← t .filled, t .words-below, t .words-above, ← v .memory, ← v .words)

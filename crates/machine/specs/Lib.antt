@@ -1,11 +1,7 @@
-pub mod Settings
 pub mod State
-pub mod Effect
 pub mod Refusal
 pub mod Bundle
-pub mod StateLaws
+pub mod Open
 pub mod Execute
-pub mod SettingsLaws
 pub mod ExecuteLaws
 pub mod BundleLaws
-pub mod Open

@@ -5,29 +5,36 @@ use mathlib.Core.Bool.{not, cond, _||_}
 use mathlib.Core.List.{List}
 use lib.Dec.{leb}
 use lib.ListN.{length, replicate}
+use Rattle.word.specs.Word.{isMultipleOf4}
+use Rattle.memory.specs.Answer.{Returned, accepted, refused}
+use Rattle.memory.specs.Settings.{admits, settingsOf}
 use Rattle.machine.specs.declared.state.State.{State}
 use Rattle.machine.specs.declared.open.Opened as declared
 use Rattle.machine.specs.declared.open.Opening.{Opening}
 use Rattle.machine.specs.declared.open.Opening.the-variants.{Opened, Refused}
-use Rattle.machine.specs.Settings.{isMultipleOf4, admits, settingsOf}
 use Rattle.machine.specs.State.{fresh}
 
--- What an opening gives, with the cache that it leaves.
+-- What an opening returns, with the state and the cache that it leaves; and what each answer of the function returns.
 pub record Open : Type 0 where
-  pub opened : declared.Opened
+  pub answer : Returned
+  pub state : State
   pub cache : List ℕ
 
-abbrev pub openWith : declared.Opened → List ℕ → Open
-openWith o c = record { opened = o; cache = c }
+abbrev pub openOf : Returned → State → List ℕ → Open
+openOf a s c = record { answer = a; state = s; cache = c }
+
+abbrev pub returned : Opening → Returned
+returned Opened = accepted
+returned (Refused n) = refused n
 
 abbrev pub openedAs : Opening → State → declared.Opened
 openedAs a s = record { answer = a; state = s }
 
-abbrev pub openOf : Opening → State → List ℕ → Open
-openOf a s c = openWith (openedAs a s) c
+abbrev pub openWith : declared.Opened → List ℕ → Open
+openWith o c = openOf (returned (o .answer)) (o .state) c
 
 unfoldable pub opening : List ℕ → List ℕ → List ℕ → List ℕ → ℕ → ℕ → ℕ → Open
 opening code main local cache lo hi entry =
-    cond (not (admits (settingsOf code main local cache lo hi))) (openOf (Refused 1) (fresh 0 0 0) cache)
-    (cond (not (isMultipleOf4 entry) || leb (length code) entry) (openOf (Refused 2) (fresh 0 0 0) cache)
-    (openOf Opened (fresh (length code) hi entry) (replicate (length cache) 0)))
+    cond (not (admits (settingsOf code main local cache lo hi))) (openOf (refused 1) (fresh 0 0 0) cache)
+    (cond (not (isMultipleOf4 entry) || leb (length code) entry) (openOf (refused 2) (fresh 0 0 0) cache)
+    (openOf accepted (fresh (length code) hi entry) (replicate (length cache) 0)))

@@ -1,93 +1,82 @@
--- The state: reading and changing its parts, what is well formed, and the fresh state.
-use Prim.Native.Nat.{ℕ, zero, suc, _+_, _*_, _/_, _%_}
-use mathlib.Core.Bool.{Bool, true, false, not, cond, _&&_, Bool·beq}
+-- The state: changing its parts, what is well formed, and the fresh state.
+use Prim.Native.Nat.{ℕ, zero, suc, _/_, _%_}
+use mathlib.Core.Bool.{Bool, true, false, cond, _&&_}
 use mathlib.Core.List.{List, [], _∷_}
 use lib.Dec.{eqb, leb}
 use lib.ListN.{getD, set, replicate}
 use Rattle.word.specs.Word.{sub}
-use Rattle.decoder.specs.declared.instruction.PredicateOperand.{PredicateOperand}
 use Rattle.decoder.specs.declared.instruction.Special.{Special}
 use Rattle.decoder.specs.declared.instruction.Special.the-variants.{S0, Sl, Sh, Ss, St, Srb, Sro, Sxb, Sxo}
+use Rattle.effects.specs.declared.special.Specials.{Specials}
+use Rattle.effects.specs.declared.effect.Transfer.{Transfer}
+use Rattle.effects.specs.declared.effect.Transfer.the-variants.{Br, Call, Block}
+use Rattle.effects.specs.Effect.{Start, start}
 use Rattle.machine.specs.declared.state.State.{State}
-use Rattle.machine.specs.declared.state.Transfer.{Transfer}
-use Rattle.machine.specs.declared.state.Transfer.the-variants.{Br, Call, Block}
 use Rattle.machine.specs.declared.state.WaitingTransfer.{WaitingTransfer}
 use Rattle.machine.specs.declared.state.WaitingTransfer.the-variants as transfer
 use Rattle.machine.specs.declared.state.WaitingLoad.{WaitingLoad}
 use Rattle.machine.specs.declared.state.WaitingLoad.the-variants as load
 
 -- A state of its parts, in the order of the struct.
-abbrev pub state : List ℕ → List Bool → ℕ → ℕ → ℕ → ℕ → ℕ → ℕ → ℕ → ℕ → ℕ → ℕ → WaitingTransfer → WaitingLoad → State
-state registers predicates sl sh ss st srb sro sxb sxo fetch base transfer load =
-    record { registers = registers; predicates = predicates; sl = sl; sh = sh; ss = ss; st = st; srb = srb; sro = sro; sxb = sxb; sxo = sxo; fetch = fetch; base = base; transfer = transfer; load = load }
+abbrev pub state : List ℕ → List Bool → Specials → ℕ → ℕ → WaitingTransfer → WaitingLoad → State
+state registers predicates specials fetch base transfer load =
+    record { registers = registers; predicates = predicates; specials = specials; fetch = fetch; base = base; transfer = transfer; load = load }
+
+abbrev pub specials : ℕ → ℕ → ℕ → ℕ → ℕ → ℕ → ℕ → ℕ → Specials
+specials sl sh ss st srb sro sxb sxo = record { sl = sl; sh = sh; ss = ss; st = st; srb = srb; sro = sro; sxb = sxb; sxo = sxo }
+
+-- What slots read of it.
+abbrev pub startOf : State → Start
+startOf s = start (s .registers) (s .predicates) (s .specials) (s .fetch)
 
 -- Registers and predicates. r0 and p0 are never written.
-abbrev pub register : State → ℕ → ℕ
-register s r = getD (s .registers) r 0
-
 unfoldable pub withRegister : State → ℕ → ℕ → State
 withRegister s r v =
-    state (cond (eqb r 0) (s .registers) (set (s .registers) r v)) (s .predicates) (s .sl) (s .sh) (s .ss) (s .st) (s .srb) (s .sro) (s .sxb) (s .sxo) (s .fetch) (s .base) (s .transfer) (s .load)
-
--- The value of a predicate operand.
-abbrev pub holds : List Bool → PredicateOperand → Bool
-holds predicates p = not (Bool·beq (p .negated) (getD predicates (p .predicate) false))
+    state (cond (eqb r 0) (s .registers) (set (s .registers) r v)) (s .predicates) (s .specials) (s .fetch) (s .base) (s .transfer) (s .load)
 
 abbrev pub withPredicates : State → List Bool → State
 withPredicates s ps =
-    state (s .registers) ps (s .sl) (s .sh) (s .ss) (s .st) (s .srb) (s .sro) (s .sxb) (s .sxo) (s .fetch) (s .base) (s .transfer) (s .load)
+    state (s .registers) ps (s .specials) (s .fetch) (s .base) (s .transfer) (s .load)
 
 unfoldable pub withPredicate : State → ℕ → Bool → State
 withPredicate s p b = withPredicates s (cond (eqb p 0) (s .predicates) (set (s .predicates) p b))
-
--- s0: the predicates, p0 in bit 0.
-unfoldable pub predicatesWord : List Bool → ℕ
-predicatesWord [] = 0
-predicatesWord (p ∷ ps) = cond p 1 0 + 2 * predicatesWord ps
 
 -- The k lowest bits of a word as predicates.
 unfoldable pub predicatesOf : ℕ → ℕ → List Bool
 predicatesOf zero v = []
 predicatesOf (suc k) v = eqb (v % 2) 1 ∷ predicatesOf k (v / 2)
 
-unfoldable pub special : State → Special → ℕ
-special s S0 = predicatesWord (s .predicates)
-special s Sl = s .sl
-special s Sh = s .sh
-special s Ss = s .ss
-special s St = s .st
-special s Srb = s .srb
-special s Sro = s .sro
-special s Sxb = s .sxb
-special s Sxo = s .sxo
-
-abbrev pub withSpecials : State → ℕ → ℕ → ℕ → ℕ → ℕ → ℕ → ℕ → ℕ → State
-withSpecials s sl sh ss st srb sro sxb sxo =
-    state (s .registers) (s .predicates) sl sh ss st srb sro sxb sxo (s .fetch) (s .base) (s .transfer) (s .load)
+abbrev pub withSpecials : State → Specials → State
+withSpecials s specials = state (s .registers) (s .predicates) specials (s .fetch) (s .base) (s .transfer) (s .load)
 
 -- A special register written. Of s0 bits 1 to 7 are p1 to p7; p0 stays true and the other bits have no effect.
 unfoldable pub withSpecial : State → Special → ℕ → State
 withSpecial s S0 v = withPredicates s (true ∷ predicatesOf 7 (v / 2))
-withSpecial s Sl v = withSpecials s v (s .sh) (s .ss) (s .st) (s .srb) (s .sro) (s .sxb) (s .sxo)
-withSpecial s Sh v = withSpecials s (s .sl) v (s .ss) (s .st) (s .srb) (s .sro) (s .sxb) (s .sxo)
-withSpecial s Ss v = withSpecials s (s .sl) (s .sh) v (s .st) (s .srb) (s .sro) (s .sxb) (s .sxo)
-withSpecial s St v = withSpecials s (s .sl) (s .sh) (s .ss) v (s .srb) (s .sro) (s .sxb) (s .sxo)
-withSpecial s Srb v = withSpecials s (s .sl) (s .sh) (s .ss) (s .st) v (s .sro) (s .sxb) (s .sxo)
-withSpecial s Sro v = withSpecials s (s .sl) (s .sh) (s .ss) (s .st) (s .srb) v (s .sxb) (s .sxo)
-withSpecial s Sxb v = withSpecials s (s .sl) (s .sh) (s .ss) (s .st) (s .srb) (s .sro) v (s .sxo)
-withSpecial s Sxo v = withSpecials s (s .sl) (s .sh) (s .ss) (s .st) (s .srb) (s .sro) (s .sxb) v
+withSpecial s Sl v = let x = s .specials in withSpecials s (specials v (x .sh) (x .ss) (x .st) (x .srb) (x .sro) (x .sxb) (x .sxo))
+withSpecial s Sh v = let x = s .specials in withSpecials s (specials (x .sl) v (x .ss) (x .st) (x .srb) (x .sro) (x .sxb) (x .sxo))
+withSpecial s Ss v = let x = s .specials in withSpecials s (specials (x .sl) (x .sh) v (x .st) (x .srb) (x .sro) (x .sxb) (x .sxo))
+withSpecial s St v = let x = s .specials in withSpecials s (specials (x .sl) (x .sh) (x .ss) v (x .srb) (x .sro) (x .sxb) (x .sxo))
+withSpecial s Srb v = let x = s .specials in withSpecials s (specials (x .sl) (x .sh) (x .ss) (x .st) v (x .sro) (x .sxb) (x .sxo))
+withSpecial s Sro v = let x = s .specials in withSpecials s (specials (x .sl) (x .sh) (x .ss) (x .st) (x .srb) v (x .sxb) (x .sxo))
+withSpecial s Sxb v = let x = s .specials in withSpecials s (specials (x .sl) (x .sh) (x .ss) (x .st) (x .srb) (x .sro) v (x .sxo))
+withSpecial s Sxo v = let x = s .specials in withSpecials s (specials (x .sl) (x .sh) (x .ss) (x .st) (x .srb) (x .sro) (x .sxb) v)
 
--- The product in sl and sh, and the stack's two pointers.
+-- The product in sl and sh, the stack's two pointers, and the return registers.
 abbrev pub withProduct : State → ℕ → ℕ → State
-withProduct s low high = withSpecials s low high (s .ss) (s .st) (s .srb) (s .sro) (s .sxb) (s .sxo)
+withProduct s low high =
+    let x = s .specials in withSpecials s (specials low high (x .ss) (x .st) (x .srb) (x .sro) (x .sxb) (x .sxo))
 
 abbrev pub withStack : State → ℕ → ℕ → State
-withStack s st ss = withSpecials s (s .sl) (s .sh) ss st (s .srb) (s .sro) (s .sxb) (s .sxo)
+withStack s st ss =
+    let x = s .specials in withSpecials s (specials (x .sl) (x .sh) ss st (x .srb) (x .sro) (x .sxb) (x .sxo))
+
+abbrev pub returningTo : Specials → ℕ → ℕ → Specials
+returningTo x srb sro = specials (x .sl) (x .sh) (x .ss) (x .st) srb sro (x .sxb) (x .sxo)
 
 -- The waiting load.
 abbrev pub withLoad : State → WaitingLoad → State
 withLoad s l =
-    state (s .registers) (s .predicates) (s .sl) (s .sh) (s .ss) (s .st) (s .srb) (s .sro) (s .sxb) (s .sxo) (s .fetch) (s .base) (s .transfer) l
+    state (s .registers) (s .predicates) (s .specials) (s .fetch) (s .base) (s .transfer) l
 
 -- "The load waiting from the bundle before" is written, and waits no more.
 abbrev pub landing : WaitingLoad → State → State
@@ -100,18 +89,18 @@ landed s = landing (s .load) s
 -- Where the core goes on: fetch address, base, the return registers, and what waits.
 abbrev pub withFlow : State → ℕ → ℕ → ℕ → ℕ → WaitingTransfer → State
 withFlow s srb sro fetch base waiting =
-    state (s .registers) (s .predicates) (s .sl) (s .sh) (s .ss) (s .st) srb sro (s .sxb) (s .sxo) fetch base waiting (s .load)
+    state (s .registers) (s .predicates) (returningTo (s .specials) srb sro) fetch base waiting (s .load)
 
 -- Going on at an address, with a transfer that waits or none.
 abbrev pub goingOn : State → ℕ → WaitingTransfer → State
-goingOn s fetch waiting = withFlow s (s .srb) (s .sro) fetch (s .base) waiting
+goingOn s fetch waiting = withFlow s (s .specials .srb) (s .specials .sro) fetch (s .base) waiting
 
 -- A transfer carried out, at the end of the bundle before the following address. "Call sets srb = old base, sro = following
 -- address − old base, base = target. brcf sets base to its base operand, ret to the srb it read."
 unfoldable pub transferred : State → Transfer → ℕ → State
-transferred s (Br target) following = withFlow s (s .srb) (s .sro) target (s .base) transfer.Nothing
+transferred s (Br target) following = withFlow s (s .specials .srb) (s .specials .sro) target (s .base) transfer.Nothing
 transferred s (Call target) following = withFlow s (s .base) (sub following (s .base)) target target transfer.Nothing
-transferred s (Block target base) following = withFlow s (s .srb) (s .sro) target base transfer.Nothing
+transferred s (Block target base) following = withFlow s (s .specials .srb) (s .specials .sro) target base transfer.Nothing
 
 -- Refusal 11 describes a state that is not well formed: "r0 not 0, p0 false, a waiting load's register above 31, a transfer
 -- waiting more than 3 bundles or 0".
@@ -124,7 +113,7 @@ waitOk transfer.Nothing = true
 waitOk (transfer.Waits t n) = leb 1 n && leb n 3
 
 unfoldable pub wellFormed : State → Bool
-wellFormed s = (eqb (register s 0) 0 && getD (s .predicates) 0 false) && (loadOk (s .load) && waitOk (s .transfer))
+wellFormed s = (eqb (getD (s .registers) 0 0) 0 && getD (s .predicates) 0 false) && (loadOk (s .load) && waitOk (s .transfer))
 
 -- "Ended: the fetch address equals the code length and no transfer waits."
 abbrev pub noneWaits : WaitingTransfer → Bool
@@ -137,4 +126,4 @@ ended s codeLength = eqb (s .fetch) codeLength && noneWaits (s .transfer)
 -- "Fresh state at an entry."
 unfoldable pub fresh : ℕ → ℕ → ℕ → State
 fresh codeLength hi entry =
-    state (replicate 32 0) (true ∷ predicatesOf 7 0) 0 0 hi hi 0 codeLength 0 0 entry entry transfer.Nothing load.Nothing
+    state (replicate 32 0) (true ∷ predicatesOf 7 0) (specials 0 0 hi hi 0 codeLength 0 0) entry entry transfer.Nothing load.Nothing

@@ -4,21 +4,20 @@ ghost use mathlib.Core.Bool.{true};
 ghost use lib.ListN.{length};
 ghost use Prim.Native.Nat.{_<_, _≤_};
 ghost use Rattle.decoder.specs.Decode.{bundleWords};
-ghost use Rattle.machine.specs.Settings.{admits};
+ghost use Rattle.memory.specs.Settings.{admits};
+ghost use Rattle.memory.specs.Access.{buffers};
 ghost use Rattle.machine.specs.State.{loadOk, waitOk, noneWaits, wellFormed, ended};
-ghost use Rattle.machine.specs.Bundle.{buffers, bundle, step};
-ghost use Rattle.machine.specs.Execute.{full, fetched};
-use crate::effect::AluEffect;
-use crate::effect::Effect;
-use crate::effect::slot_two;
-use crate::settings::Settings;
+ghost use Rattle.machine.specs.Bundle.{full, bundle, readiness, step};
+ghost use Rattle.machine.specs.Execute.{fetched};
 use crate::state::State;
 use crate::state::WaitingLoad;
 use crate::state::WaitingTransfer;
-use crate::step::Answer;
-use crate::step::Counts;
+use crate::step::Readiness;
 use crate::step::Stepped;
-use decoder::instruction::Bundle;
+use effects::effect::AluEffect;
+use effects::effect::Effect;
+use effects::effect::Effects;
+use memory::settings::Settings;
 use word::bytes::read_word;
 
 // A bundle read: refused with 2 or 3, or what its two slots do and the address after it.
@@ -29,17 +28,6 @@ pub enum Fetched {
         two: AluEffect,
         following: u32,
     },
-}
-
-// A bundle whose slot two does nothing.
-fn alone(one: Effect, following: u32) -> Fetched
-    ensures { λ r. ⌜ r ≡ Fetched.Slots one AluEffect.Nothing following ⌝ }
-{
-    Fetched::Slots {
-        one,
-        two: AluEffect::Nothing,
-        following,
-    }
 }
 
 fn load_ok(l: WaitingLoad) -> bool
@@ -104,19 +92,16 @@ impl State {
             return Fetched::Refused(2);
         }
         let following = end as u32;
-        match decoder::decode(first, read_word(code, fetch + 4)) {
-            Bundle::Undecodable => Fetched::Refused(3),
-            Bundle::One(i) => alone(self.slot_one(i), following),
-            Bundle::Two(i, j) => {
-                let one = self.slot_one(i);
-                let two = slot_two(&self.registers, &self.predicates, j);
-                Fetched::Slots {
-                    one,
-                    two,
-                    following,
-                }
-            }
-            Bundle::Long(i) => alone(self.slot_one(i), following),
+        let b = decoder::decode(first, read_word(code, fetch + 4));
+        let predicates = self.predicates;
+        let specials = self.specials;
+        match effects::slot::effects(&self.registers, predicates, specials, fetch, b) {
+            Effects::Undecodable => Fetched::Refused(3),
+            Effects::Slots { one, two } => Fetched::Slots {
+                one,
+                two,
+                following,
+            },
         }
     }
 
@@ -142,6 +127,22 @@ impl State {
         }
     }
 
+    // What is judged before a bundle is tried: the settings, the state, and whether it has ended.
+    pub fn readiness(self, g: Settings) -> Readiness
+        ensures { λ r. ⌜ r ≡ readiness g self ⌝ }
+    {
+        if !g.admits() {
+            return Readiness::Refused(1);
+        }
+        if !self.is_well_formed() {
+            return Readiness::Refused(11);
+        }
+        if self.has_ended(g.code) {
+            return Readiness::Ended;
+        }
+        Readiness::Ready
+    }
+
     // One step: settings and state are judged, an ended state is left as it is, and else the bundle is done or refused.
     pub fn step(
         self,
@@ -162,25 +163,11 @@ impl State {
             lo,
             hi,
         };
-        if !g.admits() {
-            return self.refused(1);
+        match self.readiness(g) {
+            Readiness::Refused(n) => self.refused(n),
+            Readiness::Ended => self.ended(),
+            Readiness::Ready => self.bundle(g, code, &mut *main, &mut *local, &mut *cache),
         }
-        if !self.is_well_formed() {
-            return self.refused(11);
-        }
-        if self.has_ended(code.len()) {
-            return Stepped {
-                answer: Answer::Ended,
-                state: self,
-                counts: Counts {
-                    bundles: 0,
-                    cycles: 0,
-                    spilled: 0,
-                    filled: 0,
-                },
-            };
-        }
-        self.bundle(g, code, &mut *main, &mut *local, &mut *cache)
     }
 }
 

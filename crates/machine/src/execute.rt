@@ -4,24 +4,22 @@ ghost use mathlib.Core.Bool.{true, cond};
 ghost use mathlib.Core.List.{List};
 ghost use Prim.Native.Nat.{ℕ, _≤_};
 ghost use lib.ListN.{length};
-ghost use Rattle.machine.specs.Settings.{admits};
-ghost use Rattle.machine.specs.Bundle.{Buffers, buffers, writeAlu, nearer, undelayedCycles};
-ghost use Rattle.machine.specs.Execute.{full, doneWith, executed, Moved};
-use crate::effect::AluEffect;
-use crate::effect::Effect;
-use crate::judge::Verdict;
-use crate::judge::judge_access;
-use crate::settings::Settings;
-use crate::slot::load_size;
-use crate::slot::store_size;
+ghost use Rattle.memory.specs.Settings.{admits};
+ghost use Rattle.memory.specs.Access.{Buffers, buffers};
+ghost use Rattle.machine.specs.Bundle.{full, writeAlu, nearer, undelayedCycles};
+ghost use Rattle.machine.specs.Execute.{doneWith, executed, Moved};
 use crate::state::State;
-use crate::state::Transfer;
 use crate::state::WaitingLoad;
 use crate::state::WaitingTransfer;
 use crate::step::Stepped;
 use decoder::instruction::AccessKind;
 use decoder::instruction::LoadWidth;
 use decoder::instruction::StoreWidth;
+use effects::effect::AluEffect;
+use effects::effect::Effect;
+use effects::effect::Transfer;
+use memory::judge::Verdict;
+use memory::settings::Settings;
 use stack_cache::Plan;
 use stack_cache::StackCache;
 use stack_cache::StackControl;
@@ -50,14 +48,21 @@ impl State {
         local: &[u8],
         cache: &[u32],
     ) -> Stepped
-        requires { ⌜ admits g ≡ true ⌝ }
         ensures { λ r. ⌜ full r (buffers (now (main .entry)) (now (local .entry)) (now (cache .entry))) ≡ executed g self (Effect.Load kind width rd address) two following (buffers (now (main .entry)) (now (local .entry)) (now (cache .entry))) ⌝ }
     {
-        let n = load_size(width);
-        if let Verdict::Refused(number) = judge_access(g, self.st, self.ss, kind, address, n) {
+        let st = self.specials.st;
+        let ss = self.specials.ss;
+        if let Verdict::Refused(number) = memory::judge::judge_load(
+            g,
+            st,
+            ss,
+            kind,
+            width,
+            address,
+        ) {
             return self.refused(number);
         }
-        let value = crate::memory::load(main, local, cache, kind, width, address);
+        let value = memory::access::load(main, local, cache, kind, width, address);
         let waiting = self.transfer;
         let load = WaitingLoad::Waits {
             register: rd,
@@ -81,14 +86,21 @@ impl State {
         local: &mut [u8],
         cache: &mut [u32],
     ) -> Stepped
-        requires { ⌜ admits g ≡ true ⌝ }
         ensures { λ r. ⌜ full r (buffers (now (main .exit)) (now (local .exit)) (now (cache .exit))) ≡ executed g self (Effect.Store kind width address value) two following (buffers (now (main .entry)) (now (local .entry)) (now (cache .entry))) ⌝ }
     {
-        let n = store_size(width);
-        if let Verdict::Refused(number) = judge_access(g, self.st, self.ss, kind, address, n) {
+        let st = self.specials.st;
+        let ss = self.specials.ss;
+        if let Verdict::Refused(number) = memory::judge::judge_store(
+            g,
+            st,
+            ss,
+            kind,
+            width,
+            address,
+        ) {
             return self.refused(number);
         }
-        crate::memory::store(
+        memory::access::store(
             &mut *main,
             &mut *local,
             &mut *cache,
@@ -120,8 +132,8 @@ impl State {
         }
         let size = g.words as u32;
         let stack = StackCache { words: size };
-        let old = self.ss;
-        match stack.plan(control, g.lo, g.hi, self.st, old, words) {
+        let old = self.specials.ss;
+        match stack.plan(control, g.lo, g.hi, self.specials.st, old, words) {
             Plan::Refused(number) => self.refused(number),
             Plan::Moves {
                 st,

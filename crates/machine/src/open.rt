@@ -2,11 +2,12 @@
 ghost use mathlib.Core.Path.{_≡_};
 ghost use lib.ListN.{length, replicate};
 ghost use Rattle.machine.specs.State.{fresh};
-ghost use Rattle.machine.specs.Open.{openWith, openedAs, opening};
-use crate::settings::Settings;
+ghost use Rattle.machine.specs.Open.{openWith, opening, openedAs};
 use crate::state::State;
 use crate::state::WaitingLoad;
 use crate::state::WaitingTransfer;
+use effects::special::Specials;
+use memory::settings::Settings;
 
 // A state was built, or the number that the building is refused with.
 pub enum Opening {
@@ -26,14 +27,16 @@ fn initial(code: u32, hi: u32, entry: u32) -> State
     State {
         registers: [0; 32],
         predicates: [true, false, false, false, false, false, false, false],
-        sl: 0,
-        sh: 0,
-        ss: hi,
-        st: hi,
-        srb: 0,
-        sro: code,
-        sxb: 0,
-        sxo: 0,
+        specials: Specials {
+            sl: 0,
+            sh: 0,
+            ss: hi,
+            st: hi,
+            srb: 0,
+            sro: code,
+            sxb: 0,
+            sxo: 0,
+        },
         fetch: entry,
         base: entry,
         transfer: WaitingTransfer::Nothing,

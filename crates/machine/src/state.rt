@@ -1,13 +1,8 @@
 // The state of the core, by value, and what is done to it.
 ghost use mathlib.Core.Path.{_≡_};
 ghost use Rattle.machine.specs.State.{withRegister, withPredicate, withLoad, landed, goingOn, transferred};
-
-// A transfer of control that is to be carried out. Block is brcf and ret, which set the base.
-pub enum Transfer {
-    Br { target: u32 },
-    Call { target: u32 },
-    Block { target: u32, base: u32 },
-}
+use effects::effect::Transfer;
+use effects::special::Specials;
 
 // The transfer that waits, and how many bundles are to be done before it has happened.
 pub enum WaitingTransfer {
@@ -24,14 +19,7 @@ pub enum WaitingLoad {
 pub struct State {
     pub registers: [u32; 32],
     pub predicates: [bool; 8],
-    pub sl: u32,
-    pub sh: u32,
-    pub ss: u32,
-    pub st: u32,
-    pub srb: u32,
-    pub sro: u32,
-    pub sxb: u32,
-    pub sxo: u32,
+    pub specials: Specials,
     pub fetch: u32,
     pub base: u32,
     pub transfer: WaitingTransfer,
@@ -75,18 +63,12 @@ impl State {
     {
         let registers = self.registers;
         let predicates = self.predicates;
+        let specials = self.specials;
         let transfer = self.transfer;
         State {
             registers,
             predicates,
-            sl: self.sl,
-            sh: self.sh,
-            ss: self.ss,
-            st: self.st,
-            srb: self.srb,
-            sro: self.sro,
-            sxb: self.sxb,
-            sxo: self.sxo,
+            specials,
             fetch: self.fetch,
             base: self.base,
             transfer,
@@ -114,18 +96,12 @@ impl State {
     {
         let registers = self.registers;
         let predicates = self.predicates;
+        let specials = self.specials;
         let load = self.load;
         State {
             registers,
             predicates,
-            sl: self.sl,
-            sh: self.sh,
-            ss: self.ss,
-            st: self.st,
-            srb: self.srb,
-            sro: self.sro,
-            sxb: self.sxb,
-            sxo: self.sxo,
+            specials,
             fetch,
             base: self.base,
             transfer,
@@ -141,8 +117,9 @@ impl State {
             Transfer::Br { target } => self.go_on(target, WaitingTransfer::Nothing),
             Transfer::Call { target } => {
                 let base = self.base;
-                self.srb = base;
-                self.sro = word::arithmetic::sub(following, base);
+                let offset = word::arithmetic::sub(following, base);
+                self.specials.srb = base;
+                self.specials.sro = offset;
                 self.base = target;
                 self.go_on(target, WaitingTransfer::Nothing)
             }

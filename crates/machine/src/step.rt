@@ -2,15 +2,22 @@
 ghost use mathlib.Core.Path.{_≡_};
 ghost use Prim.Native.Nat.{_<_};
 ghost use Rattle.machine.specs.Bundle.{writeAlu, delaySlots, nearer, begun};
-ghost use Rattle.machine.specs.Execute.{refusedWith, doneWith};
-use crate::effect::AluEffect;
+ghost use Rattle.machine.specs.Execute.{refusedWith, endedWith, doneWith};
 use crate::state::State;
-use crate::state::Transfer;
 use crate::state::WaitingTransfer;
+use effects::effect::AluEffect;
+use effects::effect::Transfer;
 
 // What a step answers; Refused holds document 01's number.
 pub enum Answer {
     Done,
+    Ended,
+    Refused(u32),
+}
+
+// What is judged before a bundle is tried; Refused holds document 01's number.
+pub enum Readiness {
+    Ready,
     Ended,
     Refused(u32),
 }
@@ -92,6 +99,22 @@ impl State {
     {
         Stepped {
             answer: Answer::Refused(n),
+            state: self,
+            counts: Counts {
+                bundles: 0,
+                cycles: 0,
+                spilled: 0,
+                filled: 0,
+            },
+        }
+    }
+
+    // A step on an ended state changes nothing and counts nothing.
+    pub(crate) fn ended(self) -> Stepped
+        ensures { λ r. ⌜ r ≡ endedWith self ⌝ }
+    {
+        Stepped {
+            answer: Answer::Ended,
             state: self,
             counts: Counts {
                 bundles: 0,

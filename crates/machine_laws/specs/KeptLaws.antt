@@ -21,40 +21,42 @@ use Rattle.decoder.specs.declared.instruction.Bundle.the-variants.{Undecodable,
 use Rattle.decoder.specs.Ranges.{OperationInRange, InstructionInRange, InRange}
 use Rattle.decoder.specs.RangeLaws.{decode-in-range}
 use Rattle.stack_cache.specs.RangeLaws.{and-left, and-right}
-use Rattle.machine.specs.declared.settings.Settings.{Settings}
+use Rattle.memory.specs.declared.settings.Settings.{Settings}
 use Rattle.machine.specs.declared.state.State.{State}
-use Rattle.machine.specs.declared.state.Transfer.{Transfer}
-use Rattle.machine.specs.declared.state.Transfer.the-variants.{Br, Call, Block}
+use Rattle.effects.specs.declared.effect.Transfer.{Transfer}
+use Rattle.effects.specs.declared.effect.Transfer.the-variants.{Br, Call, Block}
 use Rattle.machine.specs.declared.state.WaitingTransfer.{WaitingTransfer}
 use Rattle.machine.specs.declared.state.WaitingTransfer.the-variants as transfer
 use Rattle.machine.specs.declared.state.WaitingLoad.{WaitingLoad}
 use Rattle.machine.specs.declared.state.WaitingLoad.the-variants as load
-use Rattle.machine.specs.declared.effect.AluEffect.{AluEffect}
-use Rattle.machine.specs.declared.effect.AluEffect.the-variants as alu
-use Rattle.machine.specs.declared.effect.Effect.{Effect}
-use Rattle.machine.specs.declared.effect.Effect.the-variants as effect
-use Rattle.machine.specs.State.{state, register, holds, withRegister, withPredicate, withPredicates, withSpecial, withSpecials, predicatesOf, withFlow, goingOn, landing, landed, transferred, loadOk, waitOk, wellFormed}
-use Rattle.machine.specs.Effect.{slotOneEffect, effectOf, stackEffect}
-use Rattle.machine.specs.Bundle.{Buffers, loadedValue, writeAlu, writeOne, delaySlots, nearer, begun, onward, written, slotOne, bundleAt, bundle, step}
-use Rattle.machine_laws.specs.StepCases.{effectAt, stateAfter, bundle-cases, lent, step-cases}
+use Rattle.effects.specs.declared.effect.AluEffect.{AluEffect}
+use Rattle.effects.specs.declared.effect.AluEffect.the-variants as alu
+use Rattle.effects.specs.declared.effect.Effect.{Effect}
+use Rattle.effects.specs.declared.effect.Effect.the-variants as effect
+use Rattle.machine.specs.State.{startOf, state, withRegister, withPredicate, withPredicates, withSpecial, withSpecials, predicatesOf, withFlow, goingOn, landing, landed, transferred, loadOk, waitOk, wellFormed}
+use Rattle.memory.specs.Access.{Buffers, loadedValue}
+use Rattle.effects.specs.declared.special.Specials.{Specials}
+use Rattle.effects.specs.Effect.{Start, holds, slotOne, slotOneEffect, effectOf, stackEffect}
+use Rattle.machine.specs.Bundle.{writeAlu, writeOne, delaySlots, nearer, begun, onward, written, bundleAt, bundle, lent, step}
+use Rattle.machine_laws.specs.StepCases.{effectAt, stateAfter, bundle-cases, step-cases}
 
 -- A special register written changes special registers alone, and s0 the predicates alone.
 pub withSpecial-cases : (P : State → Type 0) (s : State) (d : Special) (v : ℕ) → P (withPredicates s (true ∷ predicatesOf 7 (v / 2)))
-    → ((sl sh ss st srb sro sxb sxo : ℕ) → P (withSpecials s sl sh ss st srb sro sxb sxo)) → P (withSpecial s d v)
+    → ((x : Specials) → P (withSpecials s x)) → P (withSpecial s d v)
 unfolding withSpecial
 withSpecial-cases P s S0 v p q = p
-withSpecial-cases P s Sl v p q = q _ _ _ _ _ _ _ _
-withSpecial-cases P s Sh v p q = q _ _ _ _ _ _ _ _
-withSpecial-cases P s Ss v p q = q _ _ _ _ _ _ _ _
-withSpecial-cases P s St v p q = q _ _ _ _ _ _ _ _
-withSpecial-cases P s Srb v p q = q _ _ _ _ _ _ _ _
-withSpecial-cases P s Sro v p q = q _ _ _ _ _ _ _ _
-withSpecial-cases P s Sxb v p q = q _ _ _ _ _ _ _ _
-withSpecial-cases P s Sxo v p q = q _ _ _ _ _ _ _ _
+withSpecial-cases P s Sl v p q = q _
+withSpecial-cases P s Sh v p q = q _
+withSpecial-cases P s Ss v p q = q _
+withSpecial-cases P s St v p q = q _
+withSpecial-cases P s Srb v p q = q _
+withSpecial-cases P s Sro v p q = q _
+withSpecial-cases P s Sxb v p q = q _
+withSpecial-cases P s Sxo v p q = q _
 
 -- An ALU effect changes registers and predicates alone.
 pub writeAlu-cases : (P : State → Type 0) (e : AluEffect) (s : State)
-    → ((rs : List ℕ) (ps : List Bool) → P (state rs ps (s .sl) (s .sh) (s .ss) (s .st) (s .srb) (s .sro) (s .sxb) (s .sxo) (s .fetch) (s .base) (s .transfer) (s .load)))
+    → ((rs : List ℕ) (ps : List Bool) → P (state rs ps (s .specials) (s .fetch) (s .base) (s .transfer) (s .load)))
     → P (writeAlu e s)
 unfolding writeAlu withRegister withPredicate
 writeAlu-cases P alu.Nothing s h = h _ _
@@ -137,7 +139,7 @@ module _ (R : List ℕ → Type 0) (P : List Bool → Type 0) (k : Lasting R P) 
   writeOne-lasts : (g : Settings) (b : Buffers) (from : State) (e : Effect) (onto : State) → Has R P onto → Has R P (writeOne g b from e onto)
   unfolding writeOne
   writeOne-lasts g b from (effect.Alu a) onto h = writeAlu-lasts a onto h
-  writeOne-lasts g b from (effect.Special d v) onto h = withSpecial-cases (Has R P) onto d v (h .0, k .word (v / 2)) (λ sl sh ss st srb sro sxb sxo. h)
+  writeOne-lasts g b from (effect.Special d v) onto h = withSpecial-cases (Has R P) onto d v (h .0, k .word (v / 2)) (λ x. h)
   writeOne-lasts g b from (effect.Product x y) onto h = h
   writeOne-lasts g b from (effect.Load j w r a) onto h = h
   writeOne-lasts g b from (effect.Store j w a v) onto h = h
@@ -170,7 +172,7 @@ written-shaped g b s one two following h =
 
 -- The parts of a well-formed state.
 pub record WellFormed (s : State) : Type 0 where
-  pub zero-register : register s 0 ≡ 0
+  pub zero-register : getD (s .registers) 0 0 ≡ 0
   pub true-predicate : getD (s .predicates) 0 false ≡ true
   pub load : loadOk (s .load) ≡ true
   pub transfer : waitOk (s .transfer) ≡ true
@@ -179,7 +181,7 @@ pub record WellFormed (s : State) : Type 0 where
 pub well-formed-parts : (s : State) → wellFormed s ≡ true → WellFormed s
 unfolding wellFormed
 well-formed-parts s e =
-    let r = eqb (register s 0) 0 in
+    let r = eqb (getD (s .registers) 0 0) 0 in
     let p = getD (s .predicates) 0 false in
     let l = loadOk (s .load) in
     let w = waitOk (s .transfer) in
@@ -216,7 +218,7 @@ landed-load s = go (s .load) refl
 writeOne-load : (g : Settings) (b : Buffers) (from : State) (e : Effect) (onto : State) → onto .load ≡ load.Nothing → writeOne g b from e onto .load ≡ loadBegun b e
 unfolding writeOne
 writeOne-load g b from (effect.Alu a) onto h = writeAlu-cases (λ s. s .load ≡ load.Nothing) a onto (λ rs ps. h)
-writeOne-load g b from (effect.Special d v) onto h = withSpecial-cases (λ s. s .load ≡ load.Nothing) onto d v h (λ sl sh ss st srb sro sxb sxo. h)
+writeOne-load g b from (effect.Special d v) onto h = withSpecial-cases (λ s. s .load ≡ load.Nothing) onto d v h (λ x. h)
 writeOne-load g b from (effect.Product x y) onto h = h
 writeOne-load g b from (effect.Load j w r a) onto h = refl
 writeOne-load g b from (effect.Store j w a v) onto h = h
@@ -254,7 +256,7 @@ written-well-formed g b s one two following p h =
     }
 
 -- A bundle in the decoder's ranges begins no load to a register above 31.
-module _ (b : Buffers) (s : State) where
+module _ (b : Buffers) (s : Start) where
   operation-load-ok : (o : Operation) → OperationInRange o → loadOk (loadBegun b (effectOf s o)) ≡ true
   unfolding effectOf stackEffect
   operation-load-ok (operation.Alu o) p = refl
@@ -292,23 +294,23 @@ bundle-in-range code a h = decode-in-range (wordAt code a) (wordAt code (a + 4))
 -- A bundle done, of code made of bytes, keeps a state well formed.
 after-well-formed : (g : Settings) (code : List ℕ) (s : State) (b : Buffers) → ((i : ℕ) → getD code i 0 < 256) → wellFormed s ≡ true → wellFormed (stateAfter g code s b) ≡ true
 after-well-formed g code s b bytes h =
-    well-formed-whole _ (written-well-formed g b s (effectAt code s) _ _ (bundle-load-ok b s (bundleAt code (s .fetch)) (bundle-in-range code (s .fetch) bytes)) (well-formed-parts s h))
+    well-formed-whole _ (written-well-formed g b s (effectAt code s) _ _ (bundle-load-ok b (startOf s) (bundleAt code (s .fetch)) (bundle-in-range code (s .fetch) bytes)) (well-formed-parts s h))
 
 -- So does every bundle, whatever it answers.
 pub bundle-well-formed : (g : Settings) (code : List ℕ) (s : State) (b : Buffers) → ((i : ℕ) → getD code i 0 < 256) → wellFormed s ≡ true
-    → wellFormed (bundle g code s b .stepped .state) ≡ true
-bundle-well-formed g code s b bytes h = bundle-cases g code s b (λ o. wellFormed (o .stepped .state) ≡ true) (λ n j. h) (λ j. after-well-formed g code s b bytes h)
+    → wellFormed (bundle g code s b .state) ≡ true
+bundle-well-formed g code s b bytes h = bundle-cases g code s b (λ o. wellFormed (o .state) ≡ true) (λ n j. h) (λ j. after-well-formed g code s b bytes h)
 
 -- So does every step.
 pub step-well-formed : (code : List ℕ) (lo hi : ℕ) (s : State) (b : Buffers) → ((i : ℕ) → getD code i 0 < 256) → wellFormed s ≡ true
-    → wellFormed (step code lo hi s b .stepped .state) ≡ true
+    → wellFormed (step code lo hi s b .state) ≡ true
 step-well-formed code lo hi s b bytes h =
-    step-cases code lo hi s b (λ o. wellFormed (o .stepped .state) ≡ true) (λ a p. h) (λ p j. after-well-formed (lent code lo hi b) code s b bytes h)
+    step-cases code lo hi s b (λ o. wellFormed (o .state) ≡ true) (λ a p. h) (λ p j. after-well-formed (lent code lo hi b) code s b bytes h)
 
 -- A bundle keeps the lengths of the lists of registers and predicates.
-pub bundle-shaped : (g : Settings) (code : List ℕ) (s : State) (b : Buffers) → Shaped s → Shaped (bundle g code s b .stepped .state)
-bundle-shaped g code s b h = bundle-cases g code s b (λ o. Shaped (o .stepped .state)) (λ n j. h) (λ j. written-shaped g b s _ _ _ h)
+pub bundle-shaped : (g : Settings) (code : List ℕ) (s : State) (b : Buffers) → Shaped s → Shaped (bundle g code s b .state)
+bundle-shaped g code s b h = bundle-cases g code s b (λ o. Shaped (o .state)) (λ n j. h) (λ j. written-shaped g b s _ _ _ h)
 
 -- So does a step.
-pub step-shaped : (code : List ℕ) (lo hi : ℕ) (s : State) (b : Buffers) → Shaped s → Shaped (step code lo hi s b .stepped .state)
-step-shaped code lo hi s b h = step-cases code lo hi s b (λ o. Shaped (o .stepped .state)) (λ a p. h) (λ p j. written-shaped (lent code lo hi b) b s _ _ _ h)
+pub step-shaped : (code : List ℕ) (lo hi : ℕ) (s : State) (b : Buffers) → Shaped s → Shaped (step code lo hi s b .state)
+step-shaped code lo hi s b h = step-cases code lo hi s b (λ o. Shaped (o .state)) (λ a p. h) (λ p j. written-shaped (lent code lo hi b) b s _ _ _ h)

@@ -1,3 +1,4 @@
 pub mod StepCases
 pub mod KeptLaws
 pub mod StackKept
+pub mod CountLaws

@@ -24,19 +24,20 @@ use Rattle.stack_cache.specs.Count.{Accepted}
 use Rattle.stack_cache.specs.PlanLaws.{spills-window, moves-window}
 use Rattle.stack_cache.specs.StackLaws.{length-putCacheNumber, length-spilled, length-filled}
 use Rattle.stack_cache.specs.RangeLaws.{and-left, and-right, every-at, in-area}
-use Rattle.machine.specs.declared.settings.Settings.{Settings}
+use Rattle.memory.specs.declared.settings.Settings.{Settings}
 use Rattle.machine.specs.declared.state.State.{State}
-use Rattle.machine.specs.declared.effect.AluEffect.{AluEffect}
-use Rattle.machine.specs.declared.effect.Effect.{Effect}
-use Rattle.machine.specs.declared.effect.Effect.the-variants as effect
-use Rattle.machine.specs.declared.judge.Verdict.the-variants as verdict
-use Rattle.machine.specs.declared.step.Answer.the-variants.{Done}
-use Rattle.machine.specs.SettingsLaws.{area-ordered}
+use Rattle.effects.specs.declared.effect.AluEffect.{AluEffect}
+use Rattle.effects.specs.declared.effect.Effect.{Effect}
+use Rattle.effects.specs.declared.effect.Effect.the-variants as effect
+use Rattle.memory.specs.declared.judge.Verdict.the-variants as verdict
+use Rattle.memory.specs.Answer.{done}
+use Rattle.memory.specs.SettingsLaws.{area-ordered}
 use Rattle.machine.specs.State.{noneWaits}
-use Rattle.machine.specs.Effect.{storeScale, onTransfer, onStack}
-use Rattle.machine.specs.Refusal.{Test, verdict as verdictOf, effectTests, outsideCode, isUndecodable, isException, isMisaligned, isBadStack, isOutside, mainOpen, mainWritable, accessOpen}
-use Rattle.machine.specs.Bundle.{Buffers, stored, area, withArea, stackMoved, buffersAfter, writeOne, written, bundleAt, bundle, step}
-use Rattle.machine_laws.specs.StepCases.{effectAt, judged, bundle-cases, bundle-fine, bundle-done-as, lent, step-cases}
+use Rattle.memory.specs.Access.{Buffers, stored, storeScale, Test, verdict as verdictOf, mainOpen, mainWritable, accessOpen}
+use Rattle.effects.specs.Effect.{onTransfer, onStack, isUndecodable}
+use Rattle.machine.specs.Refusal.{effectTests, outsideCode, isException, isMisaligned, isBadStack, isOutside}
+use Rattle.machine.specs.Bundle.{area, withArea, stackMoved, buffersAfter, writeOne, written, bundleAt, bundle, lent, step}
+use Rattle.machine_laws.specs.StepCases.{effectAt, judged, bundle-cases, bundle-fine, bundle-done-as, step-cases}
 use Rattle.machine_laws.specs.KeptLaws.{writeAlu-cases, onward-cases}
 
 -- Buffers of the same lengths.
@@ -65,12 +66,12 @@ pub stackMoved-lengths : (g : Settings) (s : State) (c : StackControl) (n : ℕ)
 unfolding stackMoved
 stackMoved-lengths g s c n b h =
     let part = area (g .lo) (g .hi) (b .main) in
-    let addresses = spills c (g .words) (s .st) (s .ss) n in
+    let addresses = spills c (g .words) (s .specials .st) (s .specials .ss) n in
     record {
       main = ap length (withArea-put (g .lo) (g .hi) (b .main) (spilled (b .cache) (g .lo) part addresses) h)
           ∙ same-len-mid (g .lo) (g .hi - g .lo) (b .main) (spilled (b .cache) (g .lo) part addresses) (length-spilled (b .cache) (g .lo) part addresses);
       local = refl;
-      cache = length-filled part (g .lo) (b .cache) (fills c (s .st) (s .ss) n);
+      cache = length-filled part (g .lo) (b .cache) (fills c (s .specials .st) (s .specials .ss) n);
     }
 
 -- So does slot one, whatever its effect.
@@ -124,10 +125,10 @@ module _ (g : Settings) (s : State) (c : StackControl) (n : ℕ) (b : Buffers) w
 
   module _ (ordered : g .lo ≤ g .hi) (inside : g .hi ≤ length (b .main)) where
     abbrev part : List ℕ
-    part = spilled (b .cache) (g .lo) (area (g .lo) (g .hi) (b .main)) (spills c (g .words) (s .st) (s .ss) n)
+    part = spilled (b .cache) (g .lo) (area (g .lo) (g .hi) (b .main)) (spills c (g .words) (s .specials .st) (s .specials .ss) n)
 
     part-length : length part ≡ g .hi - g .lo
-    part-length = length-spilled (b .cache) (g .lo) (area (g .lo) (g .hi) (b .main)) (spills c (g .words) (s .st) (s .ss) n) ∙ mid-len (g .lo) (g .hi) (b .main) inside
+    part-length = length-spilled (b .cache) (g .lo) (area (g .lo) (g .hi) (b .main)) (spills c (g .words) (s .specials .st) (s .specials .ss) n) ∙ mid-len (g .lo) (g .hi) (b .main) inside
 
     moved : stackMoved g s c n b .main ≡ putMid (g .lo) (g .hi - g .lo) (b .main) part
     unfolding stackMoved
@@ -142,7 +143,7 @@ module _ (g : Settings) (s : State) (c : StackControl) (n : ℕ) (b : Buffers) w
     stackMoved-above = ap (drop (g .hi)) moved ∙ drop-put (g .lo) (g .hi) (b .main) part ordered inside part-length
 
     -- The stack area is the old one with the words spilled into it.
-    pub stackMoved-area : area (g .lo) (g .hi) (stackMoved g s c n b .main) ≡ spilled (b .cache) (g .lo) (area (g .lo) (g .hi) (b .main)) (spills c (g .words) (s .st) (s .ss) n)
+    pub stackMoved-area : area (g .lo) (g .hi) (stackMoved g s c n b .main) ≡ spilled (b .cache) (g .lo) (area (g .lo) (g .hi) (b .main)) (spills c (g .words) (s .specials .st) (s .specials .ss) n)
     stackMoved-area =
         ap (area (g .lo) (g .hi)) moved
         ∙ ap (take (g .hi - g .lo)) (drop-at (take (g .lo) (b .main)) _ (g .lo) (length-take-le (g .lo) (b .main) (le-trans ordered inside)))
@@ -159,7 +160,7 @@ pub record Passed (g : Settings) (s : State) (e : Effect) : Type 0 where
   pub no-transfer : onTransfer false (λ d t. not (noneWaits (s .transfer))) e ≡ false
   pub aligned : isMisaligned e ≡ false
   pub stack : isBadStack g s e ≡ false
-  pub moves : onStack false (λ c n m. movedOutside c (g .words) (g .lo) (g .hi) (s .st) (s .ss) n) e ≡ false
+  pub moves : onStack false (λ c n m. movedOutside c (g .words) (g .lo) (g .hi) (s .specials .st) (s .specials .ss) n) e ≡ false
   pub access : isOutside g s e ≡ false
 
 -- Of tests that refuse nothing the first does not apply, nor does one of the others.
@@ -196,71 +197,71 @@ module _ (g : Settings) (code : List ℕ) (s : State) (fine : judged g code s �
   fine-effect e p = subst (λ (x : Effect). Passed g s x) p (fine-passed g s (effectAt code s) (fine-first _ _ (fine-first _ _ fine .1) .1))
 
 -- No test refuses slot one's effect in a bundle that answers Done.
-pub done-passed : (g : Settings) (code : List ℕ) (s : State) (b : Buffers) → bundle g code s b .stepped .answer ≡ Done → (e : Effect) → effectAt code s ≡ e → Passed g s e
+pub done-passed : (g : Settings) (code : List ℕ) (s : State) (b : Buffers) → bundle g code s b .answer ≡ done → (e : Effect) → effectAt code s ≡ e → Passed g s e
 done-passed g code s b d = fine-effect g code s (bundle-fine g code s b d)
 
 -- A stack instruction that no test refuses.
 module _ (g : Settings) (s : State) (c : StackControl) (n : ℕ) (m : Bool) (p : Passed g s (effect.Stack c n m)) where
   -- Its window and its amount are good.
-  pub stack-accepted : Accepted c (g .words) (s .st) (s .ss) n
+  pub stack-accepted : Accepted c (g .words) (s .specials .st) (s .specials .ss) n
   stack-accepted = p .stack
 
   -- Its plan is to move.
-  pub stack-planned : planned c (g .words) (g .lo) (g .hi) (s .st) (s .ss) n
-      ≡ Moves (topAfter c (s .st) n) (spillAfter c (g .words) (s .st) (s .ss) n) (length (spills c (g .words) (s .st) (s .ss) n)) (length (fills c (s .st) (s .ss) n))
+  pub stack-planned : planned c (g .words) (g .lo) (g .hi) (s .specials .st) (s .specials .ss) n
+      ≡ Moves (topAfter c (s .specials .st) n) (spillAfter c (g .words) (s .specials .st) (s .specials .ss) n) (length (spills c (g .words) (s .specials .st) (s .specials .ss) n)) (length (fills c (s .specials .st) (s .specials .ss) n))
   unfolding planned
   stack-planned = rw (p .stack, p .moves)
 
   -- Each word it spills lies in the window before it.
-  pub spills-from-window : s .ss < 2 ^ 32 → (i : ℕ) → i < length (spills c (g .words) (s .st) (s .ss) n)
-      → (s .st ≤ getD (spills c (g .words) (s .st) (s .ss) n) i 0) × (getD (spills c (g .words) (s .st) (s .ss) n) i 0 + 4 ≤ s .ss)
+  pub spills-from-window : s .specials .ss < 2 ^ 32 → (i : ℕ) → i < length (spills c (g .words) (s .specials .st) (s .specials .ss) n)
+      → (s .specials .st ≤ getD (spills c (g .words) (s .specials .st) (s .specials .ss) n) i 0) × (getD (spills c (g .words) (s .specials .st) (s .specials .ss) n) i 0 + 4 ≤ s .specials .ss)
   spills-from-window h i q =
-      let l = spills c (g .words) (s .st) (s .ss) n in
-      in-area (s .st) (s .ss) (getD l i 0) (every-at (inArea (s .st) (s .ss)) l (spills-window c (g .words) (s .st) (s .ss) n stack-accepted h) i q)
+      let l = spills c (g .words) (s .specials .st) (s .specials .ss) n in
+      in-area (s .specials .st) (s .specials .ss) (getD l i 0) (every-at (inArea (s .specials .st) (s .specials .ss)) l (spills-window c (g .words) (s .specials .st) (s .specials .ss) n stack-accepted h) i q)
 
   -- Every word it spills may be spilled.
-  pub spills-open : every (spillOpen (g .lo) (g .hi)) (spills c (g .words) (s .st) (s .ss) n) ≡ true
+  pub spills-open : every (spillOpen (g .lo) (g .hi)) (spills c (g .words) (s .specials .st) (s .specials .ss) n) ≡ true
   unfolding movedOutside
-  spills-open = and-left (every (spillOpen (g .lo) (g .hi)) (spills c (g .words) (s .st) (s .ss) n)) _ (not-false _ (p .moves))
+  spills-open = and-left (every (spillOpen (g .lo) (g .hi)) (spills c (g .words) (s .specials .st) (s .specials .ss) n)) _ (not-false _ (p .moves))
 
   -- Every word it fills may be filled.
-  pub fills-open : every (fillOpen (g .lo) (g .hi)) (fills c (s .st) (s .ss) n) ≡ true
+  pub fills-open : every (fillOpen (g .lo) (g .hi)) (fills c (s .specials .st) (s .specials .ss) n) ≡ true
   unfolding movedOutside
-  fills-open = and-right (every (spillOpen (g .lo) (g .hi)) (spills c (g .words) (s .st) (s .ss) n)) _ (not-false _ (p .moves))
+  fills-open = and-right (every (spillOpen (g .lo) (g .hi)) (spills c (g .words) (s .specials .st) (s .specials .ss) n)) _ (not-false _ (p .moves))
 
   -- Each word it spills lies in the stack area.
-  pub spills-in-area : (i : ℕ) → i < length (spills c (g .words) (s .st) (s .ss) n)
-      → (g .lo ≤ getD (spills c (g .words) (s .st) (s .ss) n) i 0) × (getD (spills c (g .words) (s .st) (s .ss) n) i 0 + 4 ≤ g .hi)
+  pub spills-in-area : (i : ℕ) → i < length (spills c (g .words) (s .specials .st) (s .specials .ss) n)
+      → (g .lo ≤ getD (spills c (g .words) (s .specials .st) (s .specials .ss) n) i 0) × (getD (spills c (g .words) (s .specials .st) (s .specials .ss) n) i 0 + 4 ≤ g .hi)
   spills-in-area i q = in-area (g .lo) (g .hi) _ (every-at (spillOpen (g .lo) (g .hi)) _ spills-open i q)
 
   -- Each word it fills lies in the stack area.
-  pub fills-in-area : (i : ℕ) → i < length (fills c (s .st) (s .ss) n)
-      → (g .lo ≤ getD (fills c (s .st) (s .ss) n) i 0) × (getD (fills c (s .st) (s .ss) n) i 0 + 4 ≤ g .hi)
+  pub fills-in-area : (i : ℕ) → i < length (fills c (s .specials .st) (s .specials .ss) n)
+      → (g .lo ≤ getD (fills c (s .specials .st) (s .specials .ss) n) i 0) × (getD (fills c (s .specials .st) (s .specials .ss) n) i 0 + 4 ≤ g .hi)
   fills-in-area i q = in-area (g .lo) (g .hi) _ (every-at (fillOpen (g .lo) (g .hi)) _ fills-open i q)
 
 -- The state after a stack instruction.
 module _ (g : Settings) (b : Buffers) (s : State) (c : StackControl) (n : ℕ) (m : Bool) (two : AluEffect) (following : ℕ) where
   -- Its st and ss are what the instruction makes them: slot two and the end of the bundle leave them.
-  pub written-stack : (written g b s (effect.Stack c n m) two following .st ≡ topAfter c (s .st) n)
-      × (written g b s (effect.Stack c n m) two following .ss ≡ spillAfter c (g .words) (s .st) (s .ss) n)
+  pub written-stack : (written g b s (effect.Stack c n m) two following .specials .st ≡ topAfter c (s .specials .st) n)
+      × (written g b s (effect.Stack c n m) two following .specials .ss ≡ spillAfter c (g .words) (s .specials .st) (s .specials .ss) n)
   unfolding written writeOne
   written-stack =
       onward-cases is following _ (effect.Stack c n m) (s .transfer) (λ srb sro fetch base w q. writeAlu-cases is two _ (λ rs ps. (refl, refl)))
     where
       is : State → Type 0
-      is x = (x .st ≡ topAfter c (s .st) n) × (x .ss ≡ spillAfter c (g .words) (s .st) (s .ss) n)
+      is x = (x .specials .st ≡ topAfter c (s .specials .st) n) × (x .specials .ss ≡ spillAfter c (g .words) (s .specials .st) (s .specials .ss) n)
 
   -- Its window is good again.
-  pub window-again : Passed g s (effect.Stack c n m) → s .ss < 2 ^ 32 → g .hi < 2 ^ 32
-      → badWindow (g .words) (written g b s (effect.Stack c n m) two following .st) (written g b s (effect.Stack c n m) two following .ss) ≡ false
+  pub window-again : Passed g s (effect.Stack c n m) → s .specials .ss < 2 ^ 32 → g .hi < 2 ^ 32
+      → badWindow (g .words) (written g b s (effect.Stack c n m) two following .specials .st) (written g b s (effect.Stack c n m) two following .specials .ss) ≡ false
   window-again p h q =
       rw (written-stack .0, written-stack .1)
-      (moves-window c (g .words) (g .lo) (g .hi) (s .st) (s .ss) n _ _ _ _ (stack-planned g s c n m p) h q)
+      (moves-window c (g .words) (g .lo) (g .hi) (s .specials .st) (s .specials .ss) n _ _ _ _ (stack-planned g s c n m p) h q)
 
 -- The window after a stack instruction's bundle that answers Done is good again.
 pub bundle-window : (g : Settings) (code : List ℕ) (s : State) (b : Buffers) (c : StackControl) (n : ℕ) (m : Bool) → effectAt code s ≡ effect.Stack c n m
-    → bundle g code s b .stepped .answer ≡ Done → s .ss < 2 ^ 32 → g .hi < 2 ^ 32
-    → badWindow (g .words) (bundle g code s b .stepped .state .st) (bundle g code s b .stepped .state .ss) ≡ false
+    → bundle g code s b .answer ≡ done → s .specials .ss < 2 ^ 32 → g .hi < 2 ^ 32
+    → badWindow (g .words) (bundle g code s b .state .specials .st) (bundle g code s b .state .specials .ss) ≡ false
 bundle-window g code s b c n m e d h q =
     rw (bundle-done-as g code s b (effect.Stack c n m) e d) (window-again g b s c n m _ _ (done-passed g code s b d (effect.Stack c n m) e) h q)
 
@@ -289,7 +290,7 @@ module _ (g : Settings) (s : State) (k : AccessKind) (w : StoreWidth) (a v : ℕ
   unfolding buffersAfter stored accessOpen
   store-area-byte i q r = go k (not-false _ (p .access))
     where
-      go : (k : AccessKind) → accessOpen mainWritable g (s .st) (s .ss) k a (2 ^ storeScale w) ≡ true → getD (stored b k (2 ^ storeScale w) a v .main) i 0 ≡ getD (b .main) i 0
+      go : (k : AccessKind) → accessOpen mainWritable g (s .specials .st) (s .specials .ss) k a (2 ^ storeScale w) ≡ true → getD (stored b k (2 ^ storeScale w) a v .main) i 0 ≡ getD (b .main) i 0
       go kind.Stack e = refl
       go kind.Local e = refl
       go kind.Cached e = byte-outside (2 ^ storeScale w) (b .main) a v i (apart (2 ^ storeScale w) i e q r)

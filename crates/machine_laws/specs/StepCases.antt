@@ -4,34 +4,36 @@ use mathlib.Core.Bool.{Bool, true, false, not, cond}
 use mathlib.Core.List.{List}
 use mathlib.Core.Path.{_≡_, refl, ap, _∙_}
 use lib.ListN.{length}
-use Rattle.machine.specs.declared.settings.Settings.{Settings}
+use Rattle.memory.specs.declared.settings.Settings.{Settings}
 use Rattle.machine.specs.declared.state.State.{State}
-use Rattle.machine.specs.declared.effect.Effect.{Effect}
-use Rattle.machine.specs.declared.judge.Verdict.{Verdict}
-use Rattle.machine.specs.declared.judge.Verdict.the-variants as verdict
-use Rattle.machine.specs.declared.step.Answer.{Answer}
-use Rattle.machine.specs.declared.step.Answer.the-variants.{Done, Ended, Refused}
-use Rattle.machine.specs.Settings.{admits, settingsOf}
-use Rattle.machine.specs.State.{state, holds, wellFormed, ended}
-use Rattle.machine.specs.Refusal.{verdict as verdictOf, bundleTests}
-use Rattle.machine.specs.Bundle.{Buffers, buffersAfter, written, countsOf, noCounts, Outcome, outcome, slotOne, slotTwo, bundleAt, followingAt, refusedOr, bundle, step}
+use Rattle.effects.specs.declared.effect.Effect.{Effect}
+use Rattle.memory.specs.declared.judge.Verdict.{Verdict}
+use Rattle.memory.specs.declared.judge.Verdict.the-variants as verdict
+use Rattle.machine.specs.declared.step.Readiness.the-variants as ready
+use Rattle.memory.specs.Answer.{Returned, accepted, done, ended, spent, refused}
+use Rattle.memory.specs.Settings.{admits, settingsOf}
+use Rattle.memory.specs.Access.{Buffers, verdict as verdictOf}
+use Rattle.effects.specs.Effect.{slotOne, slotTwo}
+use Rattle.machine.specs.State.{startOf, wellFormed, ended as hasEnded}
+use Rattle.machine.specs.Refusal.{bundleTests}
+use Rattle.machine.specs.Bundle.{buffersAfter, written, countsOf, noCounts, Outcome, outcome, bundleAt, followingAt, refusedOr, bundle, readiness, readyOr, lent, step}
 
 -- What slot one does at the fetch address, how the bundle there is judged, and its outcome where it is done.
 abbrev pub effectAt : List ℕ → State → Effect
-effectAt code s = slotOne s (bundleAt code (s .fetch))
+effectAt code s = slotOne (startOf s) (bundleAt code (s .fetch))
 
 abbrev pub judged : Settings → List ℕ → State → Verdict
 judged g code s = verdictOf (bundleTests g code s (bundleAt code (s .fetch)) (effectAt code s))
 
 abbrev pub stateAfter : Settings → List ℕ → State → Buffers → State
-stateAfter g code s b = written g b s (effectAt code s) (slotTwo s (bundleAt code (s .fetch))) (followingAt code (s .fetch))
+stateAfter g code s b = written g b s (effectAt code s) (slotTwo (startOf s) (bundleAt code (s .fetch))) (followingAt code (s .fetch))
 
 abbrev pub doneOutcome : Settings → List ℕ → State → Buffers → Outcome
-doneOutcome g code s b = outcome Done (stateAfter g code s b) (countsOf g s (effectAt code s)) (buffersAfter g s (effectAt code s) b)
+doneOutcome g code s b = outcome done (stateAfter g code s b) (countsOf g s (effectAt code s)) (buffersAfter g s (effectAt code s) b)
 
 module _ (g : Settings) (code : List ℕ) (s : State) (b : Buffers) where
   -- A bundle whose verdict is a refusal changes nothing and counts nothing.
-  pub bundle-refused : (n : ℕ) → judged g code s ≡ verdict.Refused n → bundle g code s b ≡ outcome (Refused n) s noCounts b
+  pub bundle-refused : (n : ℕ) → judged g code s ≡ verdict.Refused n → bundle g code s b ≡ outcome (refused n) s noCounts b
   unfolding bundle
   bundle-refused n e = rw e
 
@@ -41,93 +43,91 @@ module _ (g : Settings) (code : List ℕ) (s : State) (b : Buffers) where
   bundle-done e = rw e
 
   -- What holds of the outcome of a bundle refused and of one done holds of a bundle.
-  pub bundle-cases : (P : Outcome → Type 0) → ((n : ℕ) → judged g code s ≡ verdict.Refused n → P (outcome (Refused n) s noCounts b))
+  pub bundle-cases : (P : Outcome → Type 0) → ((n : ℕ) → judged g code s ≡ verdict.Refused n → P (outcome (refused n) s noCounts b))
       → (judged g code s ≡ verdict.Fine → P (doneOutcome g code s b)) → P (bundle g code s b)
   unfolding bundle
-  bundle-cases P refused done = go (judged g code s) refl
+  bundle-cases P ref fine = go (judged g code s) refl
     where
       go : (v : Verdict) → judged g code s ≡ v → P (refusedOr v s b (doneOutcome g code s b))
-      go verdict.Fine e = done e
-      go (verdict.Refused n) e = refused n e
+      go verdict.Fine e = fine e
+      go (verdict.Refused n) e = ref n e
 
   -- A bundle that answers Refused changes nothing.
-  pub bundle-unchanged : (n : ℕ) → bundle g code s b .stepped .answer ≡ Refused n → bundle g code s b ≡ outcome (Refused n) s noCounts b
-  bundle-unchanged n = bundle-cases (λ o. o .stepped .answer ≡ Refused n → o ≡ outcome (Refused n) s noCounts b) (λ m j e. ap (λ (a : Answer). outcome a s noCounts b) e) (λ j e. cc)
+  pub bundle-unchanged : (n : ℕ) → bundle g code s b .answer ≡ refused n → bundle g code s b ≡ outcome (refused n) s noCounts b
+  bundle-unchanged n = bundle-cases (λ o. o .answer ≡ refused n → o ≡ outcome (refused n) s noCounts b) (λ m j e. ap (λ (a : Returned). outcome a s noCounts b) e) (λ j e. cc)
 
   -- A bundle that answers Done was judged fine.
-  pub bundle-fine : bundle g code s b .stepped .answer ≡ Done → judged g code s ≡ verdict.Fine
-  bundle-fine = bundle-cases (λ o. o .stepped .answer ≡ Done → judged g code s ≡ verdict.Fine) (λ m j e. cc) (λ j e. j)
+  pub bundle-fine : bundle g code s b .answer ≡ done → judged g code s ≡ verdict.Fine
+  bundle-fine = bundle-cases (λ o. o .answer ≡ done → judged g code s ≡ verdict.Fine) (λ m j e. cc) (λ j e. j)
 
   -- What a bundle that answers Done leaves, where slot one's effect is known.
-  pub bundle-done-as : (e : Effect) → effectAt code s ≡ e → bundle g code s b .stepped .answer ≡ Done
-      → bundle g code s b ≡ outcome Done (written g b s e (slotTwo s (bundleAt code (s .fetch))) (followingAt code (s .fetch))) (countsOf g s e) (buffersAfter g s e b)
+  pub bundle-done-as : (e : Effect) → effectAt code s ≡ e → bundle g code s b .answer ≡ done
+      → bundle g code s b ≡ outcome done (written g b s e (slotTwo (startOf s) (bundleAt code (s .fetch))) (followingAt code (s .fetch))) (countsOf g s e) (buffersAfter g s e b)
   bundle-done-as e p d =
       bundle-done (bundle-fine d)
-      ∙ ap (λ (x : Effect). outcome Done (written g b s x (slotTwo s (bundleAt code (s .fetch))) (followingAt code (s .fetch))) (countsOf g s x) (buffersAfter g s x b)) p
+      ∙ ap (λ (x : Effect). outcome done (written g b s x (slotTwo (startOf s) (bundleAt code (s .fetch))) (followingAt code (s .fetch))) (countsOf g s x) (buffersAfter g s x b)) p
 
--- Whether an answer is Done.
-abbrev pub isDone : Answer → Bool
-isDone Done = true
-isDone Ended = false
-isDone (Refused n) = false
-
--- The settings of what is lent to a step.
-abbrev pub lent : List ℕ → ℕ → ℕ → Buffers → Settings
-lent code lo hi b = settingsOf code (b .main) (b .local) (b .cache) lo hi
+-- Whether an answer is done.
+abbrev pub isDone : Returned → Bool
+isDone accepted = false
+isDone done = true
+isDone ended = false
+isDone spent = false
+isDone (refused n) = false
 
 -- What a step goes past before it does its bundle: settings inside the limits, a well-formed state that has not ended.
 pub record Going (code : List ℕ) (lo hi : ℕ) (s : State) (b : Buffers) : Type 0 where
   pub admitted : admits (lent code lo hi b) ≡ true
   pub well-formed : wellFormed s ≡ true
-  pub not-ended : ended s (length code) ≡ false
+  pub not-ended : hasEnded s (length code) ≡ false
 
 module _ (code : List ℕ) (lo hi : ℕ) (s : State) (b : Buffers) where
   -- A step with settings outside the limits is refused with 1 and changes nothing.
-  pub step-settings : admits (lent code lo hi b) ≡ false → step code lo hi s b ≡ outcome (Refused 1) s noCounts b
-  unfolding step
+  pub step-settings : admits (lent code lo hi b) ≡ false → step code lo hi s b ≡ outcome (refused 1) s noCounts b
+  unfolding step readiness
   step-settings p = rw p
 
   -- A step on a state that is not well formed is refused with 11 and changes nothing.
-  pub step-state : admits (lent code lo hi b) ≡ true → wellFormed s ≡ false → step code lo hi s b ≡ outcome (Refused 11) s noCounts b
-  unfolding step
+  pub step-state : admits (lent code lo hi b) ≡ true → wellFormed s ≡ false → step code lo hi s b ≡ outcome (refused 11) s noCounts b
+  unfolding step readiness
   step-state p q = rw (p, q)
 
   -- A step on an ended state changes nothing.
-  pub step-ended : admits (lent code lo hi b) ≡ true → wellFormed s ≡ true → ended s (length code) ≡ true → step code lo hi s b ≡ outcome Ended s noCounts b
-  unfolding step
+  pub step-ended : admits (lent code lo hi b) ≡ true → wellFormed s ≡ true → hasEnded s (length code) ≡ true → step code lo hi s b ≡ outcome ended s noCounts b
+  unfolding step readiness
   step-ended p q r = rw (p, q, r)
 
   -- Any other step is its bundle.
   pub step-bundle : Going code lo hi s b → step code lo hi s b ≡ bundle (lent code lo hi b) code s b
-  unfolding step
+  unfolding step readiness
   step-bundle p = rw (p .admitted, p .well-formed, p .not-ended)
 
   -- What holds of the outcome of a step that changes nothing and of one whose bundle is done holds of a step.
-  pub step-cases : (P : Outcome → Type 0) → ((a : Answer) → isDone a ≡ false → P (outcome a s noCounts b))
+  pub step-cases : (P : Outcome → Type 0) → ((a : Returned) → isDone a ≡ false → P (outcome a s noCounts b))
       → (Going code lo hi s b → judged (lent code lo hi b) code s ≡ verdict.Fine → P (doneOutcome (lent code lo hi b) code s b)) → P (step code lo hi s b)
-  unfolding step
-  step-cases P same done = go (admits (lent code lo hi b)) (wellFormed s) (ended s (length code)) refl refl refl
+  unfolding step readiness
+  step-cases P same fine = go (admits (lent code lo hi b)) (wellFormed s) (hasEnded s (length code)) refl refl refl
     where
-      go : (x y z : Bool) → admits (lent code lo hi b) ≡ x → wellFormed s ≡ y → ended s (length code) ≡ z
-          → P (cond (not x) (outcome (Refused 1) s noCounts b) (cond (not y) (outcome (Refused 11) s noCounts b) (cond z (outcome Ended s noCounts b) (bundle (lent code lo hi b) code s b))))
-      go false y z p q r = same (Refused 1) refl
-      go true false z p q r = same (Refused 11) refl
-      go true true true p q r = same Ended refl
+      go : (x y z : Bool) → admits (lent code lo hi b) ≡ x → wellFormed s ≡ y → hasEnded s (length code) ≡ z
+          → P (readyOr (cond (not x) (ready.Refused 1) (cond (not y) (ready.Refused 11) (cond z ready.Ended ready.Ready))) s b (bundle (lent code lo hi b) code s b))
+      go false y z p q r = same (refused 1) refl
+      go true false z p q r = same (refused 11) refl
+      go true true true p q r = same ended refl
       go true true false p q r =
-          bundle-cases (lent code lo hi b) code s b P (λ n j. same (Refused n) refl) (done (record { admitted = p; well-formed = q; not-ended = r }))
+          bundle-cases (lent code lo hi b) code s b P (λ n j. same (refused n) refl) (fine (record { admitted = p; well-formed = q; not-ended = r }))
 
   -- A step that answers anything but Done changes nothing.
-  pub step-unchanged : (a : Answer) → isDone a ≡ false → step code lo hi s b .stepped .answer ≡ a → step code lo hi s b ≡ outcome a s noCounts b
-  step-unchanged a p = step-cases (λ o. o .stepped .answer ≡ a → o ≡ outcome a s noCounts b) (λ c q e. ap (λ (x : Answer). outcome x s noCounts b) e) (λ q j e. cc)
+  pub step-unchanged : (a : Returned) → isDone a ≡ false → step code lo hi s b .answer ≡ a → step code lo hi s b ≡ outcome a s noCounts b
+  step-unchanged a p = step-cases (λ o. o .answer ≡ a → o ≡ outcome a s noCounts b) (λ c q e. ap (λ (x : Returned). outcome x s noCounts b) e) (λ q j e. cc)
 
   -- A step that answers Done went past 1, 11 and ended.
-  pub step-going : step code lo hi s b .stepped .answer ≡ Done → Going code lo hi s b
-  step-going = step-cases (λ o. o .stepped .answer ≡ Done → Going code lo hi s b) (λ c q e. record { admitted = cc; well-formed = cc; not-ended = cc }) (λ q j e. q)
+  pub step-going : step code lo hi s b .answer ≡ done → Going code lo hi s b
+  step-going = step-cases (λ o. o .answer ≡ done → Going code lo hi s b) (λ c q e. record { admitted = cc; well-formed = cc; not-ended = cc }) (λ q j e. q)
 
   -- Its bundle was judged fine.
-  pub step-fine : step code lo hi s b .stepped .answer ≡ Done → judged (lent code lo hi b) code s ≡ verdict.Fine
-  step-fine = step-cases (λ o. o .stepped .answer ≡ Done → judged (lent code lo hi b) code s ≡ verdict.Fine) (λ c q e. cc) (λ q j e. j)
+  pub step-fine : step code lo hi s b .answer ≡ done → judged (lent code lo hi b) code s ≡ verdict.Fine
+  step-fine = step-cases (λ o. o .answer ≡ done → judged (lent code lo hi b) code s ≡ verdict.Fine) (λ c q e. cc) (λ q j e. j)
 
   -- Its outcome is that of the bundle done.
-  pub step-done : step code lo hi s b .stepped .answer ≡ Done → step code lo hi s b ≡ doneOutcome (lent code lo hi b) code s b
+  pub step-done : step code lo hi s b .answer ≡ done → step code lo hi s b ≡ doneOutcome (lent code lo hi b) code s b
   step-done e = step-bundle (step-going e) ∙ bundle-done (lent code lo hi b) code s b (step-fine e)

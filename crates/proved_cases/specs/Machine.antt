@@ -3,9 +3,9 @@
 use Prim.Native.Nat.{ℕ, _+_}
 use mathlib.Core.List.{List, [], _∷_, map}
 use mathlib.Core.Path.{refl}
-use Rattle.machine.specs.declared.state.Transfer.the-variants.{Br}
+use Rattle.effects.specs.declared.effect.Transfer.the-variants.{Br}
 use Rattle.machine.specs.declared.state.WaitingTransfer.the-variants.{Nothing, Waits}
-use Rattle.machine.specs.declared.step.Answer.the-variants.{Done, Refused}
+use Rattle.memory.specs.Answer.{done, refused}
 use Rattle.machine.specs.declared.step.Counts.{Counts}
 use Rattle.machine.specs.Bundle.{noCounts}
 use Rattle.proved_cases.specs.Case.{Case, AllHold}
@@ -36,7 +36,7 @@ abbrev pub reserving : List Tried → List Tried
 reserving rest =
     record {  -- sres 12
       word = 0x0300000C;
-      answer = Done;
+      answer = done;
       counts = counting 0 0;
       stack = record { st = 976; ss = 1024; spilled = []; filled = [] };
       flow = record { fetch = 4; transfer = Nothing };
@@ -44,7 +44,7 @@ reserving rest =
     } ∷
     record {  -- sres 8
       word = 0x03000008;
-      answer = Done;
+      answer = done;
       counts = counting 4 0;
       stack = record { st = 944; ss = 1008; spilled = 1020 ∷ 1016 ∷ 1012 ∷ 1008 ∷ []; filled = [] };
       flow = record { fetch = 8; transfer = Nothing };
@@ -58,7 +58,7 @@ abbrev pub freeing : ℕ → List ℕ → List Tried
 freeing address cache =
     record {  -- sfree 8
       word = 0x03200008;
-      answer = Done;
+      answer = done;
       counts = counting 0 0;
       stack = record { st = 976; ss = 1008; spilled = []; filled = [] };
       flow = record { fetch = address + 4; transfer = Nothing };
@@ -66,7 +66,7 @@ freeing address cache =
     } ∷
     record {  -- sens 12
       word = 0x0310000C;
-      answer = Done;
+      answer = done;
       counts = counting 0 4;
       stack = record { st = 976; ss = 1024; spilled = []; filled = 1008 ∷ 1012 ∷ 1016 ∷ 1020 ∷ [] };
       flow = record { fetch = address + 8; transfer = Nothing };
@@ -79,7 +79,7 @@ abbrev pub clearing : ℕ → ℕ → List ℕ → Tried
 clearing word fetch cache =
     record {
       word = word;
-      answer = Done;
+      answer = done;
       counts = counting 0 0;
       stack = record { st = 944; ss = 1008; spilled = []; filled = [] };
       flow = record { fetch = fetch; transfer = Nothing };
@@ -110,7 +110,7 @@ machineRuns =
       tried =
           record {
             word = 0x04FFFFFF;
-            answer = Done;
+            answer = done;
             counts = counting 0 0;
             stack = record { st = 1024; ss = 1024; spilled = []; filled = [] };
             flow = record { fetch = 20; transfer = Waits (Br 12) 2 };
@@ -118,7 +118,7 @@ machineRuns =
           } ∷
           record {
             word = nop;
-            answer = Done;
+            answer = done;
             counts = counting 0 0;
             stack = record { st = 1024; ss = 1024; spilled = []; filled = [] };
             flow = record { fetch = 24; transfer = Waits (Br 12) 1 };
@@ -126,7 +126,7 @@ machineRuns =
           } ∷
           record {
             word = nop;
-            answer = Done;
+            answer = done;
             counts = counting 0 0;
             stack = record { st = 1024; ss = 1024; spilled = []; filled = [] };
             flow = record { fetch = 12; transfer = Nothing };
@@ -140,7 +140,7 @@ machineRuns =
       tried =
           record {
             word = 0x43000004;
-            answer = Done;
+            answer = done;
             counts = counting 0 0;
             stack = record { st = 1024; ss = 1024; spilled = []; filled = [] };
             flow = record { fetch = 4; transfer = Nothing };
@@ -159,7 +159,7 @@ limitRuns =
       tried =
           record {
             word = 0x03000010;
-            answer = Done;
+            answer = done;
             counts = counting 0 0;
             stack = record { st = 960; ss = 1024; spilled = []; filled = [] };
             flow = record { fetch = 4; transfer = Nothing };
@@ -173,7 +173,7 @@ limitRuns =
       tried =
           record {
             word = 0x03000011;
-            answer = Refused 7;
+            answer = refused 7;
             counts = noCounts;
             stack = record { st = 1024; ss = 1024; spilled = []; filled = [] };
             flow = record { fetch = 0; transfer = Nothing };

@@ -13,18 +13,15 @@ use Rattle.stack_cache.specs.Stack.{isCacheSize, cacheWord, putCacheWord, partO
 use Rattle.stack_cache.specs.Stack.{topAfter, spills, fills, spillAfter, badWindow, badAmount, every, movedOutside, spilled, filled}
 use Rattle.machine.specs.declared.state.State.{State}
 use Rattle.machine.specs.declared.state.WaitingTransfer.{WaitingTransfer}
-use Rattle.machine.specs.declared.open.Opening.{Opening}
-use Rattle.machine.specs.declared.open.Opening.the-variants.{Opened}
-use Rattle.machine.specs.declared.step.Answer.{Answer}
-use Rattle.machine.specs.declared.step.Answer.the-variants.{Done, Ended, Refused}
+use Rattle.memory.specs.Answer.{Returned, accepted, done, ended, spent, refused}
 use Rattle.machine.specs.declared.step.Counts.{Counts}
-use Rattle.machine.specs.Settings.{admits}
-use Rattle.machine.specs.State.{withRegister, withPredicate, predicatesWord, predicatesOf, special, withSpecial, withStack, landed, goingOn, transferred, wellFormed, ended, fresh}
-use Rattle.machine.specs.Effect.{op2Value, aluEffect, loadScale, storeScale, accessAddress, amountWords, amountAligned, stackEffect, transferOf, effectOf, onStack}
-use Rattle.machine.specs.Effect.{slotOneEffect, slotTwoEffect}
-use Rattle.machine.specs.Refusal.{outsideCode, mainOpen, accessOpen, verdict}
-use Rattle.machine.specs.Bundle.{Buffers, buffers, readNumber, extended, loadedValue, stored, stackMoved, buffersAfter, writeAlu, writeOne, delaySlots, written}
-use Rattle.machine.specs.Bundle.{Outcome, outcome, slotOne, bundleAt, bundle, step}
+use Rattle.memory.specs.Settings.{admits}
+use Rattle.memory.specs.Access.{Buffers, buffers, loadScale, storeScale, readNumber, extended, loadedValue, stored, mainOpen, accessOpen, verdict}
+use Rattle.effects.specs.Effect.{predicatesWord, special, op2Value, aluEffect, accessAddress, amountWords, amountAligned, stackEffect, transferOf, effectOf}
+use Rattle.effects.specs.Effect.{slotOneEffect, slotTwoEffect, slotOne, onStack}
+use Rattle.machine.specs.State.{startOf, withRegister, withPredicate, predicatesOf, withSpecial, withStack, landed, goingOn, transferred, wellFormed, ended as hasEnded, fresh}
+use Rattle.machine.specs.Refusal.{outsideCode}
+use Rattle.machine.specs.Bundle.{stackMoved, buffersAfter, writeAlu, writeOne, delaySlots, written, Outcome, outcome, bundleAt, bundle, readiness, step}
 use Rattle.machine.specs.Open.{Open, opening}
 use Rattle.proved_cases.specs.Case.{Case, AllHold}
 
@@ -62,14 +59,16 @@ pub record Seen : Type 0 where
   pub filled : List ℕ
 
 -- A bundle that is not done moves no words.
-abbrev pub ifDone : Answer → List ℕ → List ℕ
-ifDone Done addresses = addresses
-ifDone Ended addresses = []
-ifDone (Refused n) addresses = []
+abbrev pub ifDone : Returned → List ℕ → List ℕ
+ifDone done addresses = addresses
+ifDone accepted addresses = []
+ifDone ended addresses = []
+ifDone spent addresses = []
+ifDone (refused n) addresses = []
 
 -- (Below `decoder.slotOne` is what a word holds; `slotOne` is what it does.)
 unfoldable pub seen : List ℕ → State → Buffers → Seen
-unfolding step admits isCacheSize wellFormed ended bundle
+unfolding step readiness admits isCacheSize wellFormed hasEnded bundle
     outsideCode numberAt bundleWords decode guardOf decoder.slotOne slotTwo reading row signed
     slotOneEffect slotTwoEffect effectOf aluEffect op2Value arithmetic multiply compare combine
     lessSigned lessEqualSigned shiftRightSigned copyBit productSigned predicatesWord special
@@ -80,11 +79,11 @@ unfolding step admits isCacheSize wellFormed ended bundle
     buffersAfter stored putNumber putCacheNumber putCacheWord putPart stackMoved spilled filled
 seen code s b =
     let o = step code lo hi s b in
-    let one = slotOne s (bundleAt code (s .fetch)) in
+    let one = slotOne (startOf s) (bundleAt code (s .fetch)) in
     record {
       outcome = o;
-      spilled = ifDone (o .stepped .answer) (onStack [] (λ c n m. spills c (length (b .cache)) (s .st) (s .ss) n) one);
-      filled = ifDone (o .stepped .answer) (onStack [] (λ c n m. fills c (s .st) (s .ss) n) one);
+      spilled = ifDone (o .answer) (onStack [] (λ c n m. spills c (length (b .cache)) (s .specials .st) (s .specials .ss) n) one);
+      filled = ifDone (o .answer) (onStack [] (λ c n m. fills c (s .specials .st) (s .specials .ss) n) one);
     }
 
 -- Each step goes on with the state and the buffers that the one before left.
@@ -92,16 +91,16 @@ abbrev pub stepsFrom : ℕ → List ℕ → State → Buffers → List Seen
 stepsFrom zero code s b = []
 stepsFrom (suc k) code s b =
     let x = seen code s b in
-    x ∷ stepsFrom k code (x .outcome .stepped .state) (x .outcome .buffers)
+    x ∷ stepsFrom k code (x .outcome .state) (x .outcome .buffers)
 
 -- What a run gives: the answer of its opening, and what each step gives.
 pub record Trace : Type 0 where
-  pub opened : Opening
+  pub opened : Returned
   pub steps : List Seen
 
 abbrev pub traced : Given → Trace
 traced g =
-    let o = opened g .opened in
+    let o = opened g in
     record { opened = o .answer; steps = stepsFrom (g .bundles) (g .code) (o .state) (lentAtStart g) }
 
 -- A run as data, in five records. Where st and ss are, and the addresses of the words moved;
@@ -124,7 +123,7 @@ pub record Lent : Type 0 where
 -- a bundle's word, and what must be after it;
 pub record Tried : Type 0 where
   pub word : ℕ
-  pub answer : Answer
+  pub answer : Returned
   pub counts : Counts
   pub stack : Stack
   pub flow : Flow
@@ -162,17 +161,17 @@ expected r t =
     }
 
 abbrev pub case : Run → Case Given Trace
-case r = record { given = given r; expected = record { opened = Opened; steps = map (expected r) (r .tried) } }
+case r = record { given = given r; expected = record { opened = accepted; steps = map (expected r) (r .tried) } }
 
 -- A run is computed bundle by bundle: each step by itself, from what the data says of the bundle before. (Computed as one, a run
 -- of four bundles costs too much.)
 abbrev pub eachFrom : List ℕ → (Tried → Seen) → State → Buffers → List Tried → List Seen
 eachFrom code e s b [] = []
-eachFrom code e s b (t ∷ ts) = seen code s b ∷ eachFrom code e (e t .outcome .stepped .state) (e t .outcome .buffers) ts
+eachFrom code e s b (t ∷ ts) = seen code s b ∷ eachFrom code e (e t .outcome .state) (e t .outcome .buffers) ts
 
 abbrev pub each : Run → Trace
 each r =
-    let o = opened (given r) .opened in
+    let o = opened (given r) in
     record { opened = o .answer; steps = eachFrom (given r .code) (expected r) (o .state) (lentAtStart (given r)) (r .tried) }
 
 abbrev pub EachHolds : List Run → Type 0
@@ -191,16 +190,16 @@ steps-hold : (code : List ℕ) (e : Tried → Seen) (s : State) (b : Buffers) (t
     → eachFrom code e s b ts ≡ map e ts → stepsFrom (length ts) code s b ≡ map e ts
 steps-hold code e s b [] h = refl
 steps-hold code e s b (t ∷ ts) h =
-    go (seen code s b) (ap (first (e t)) h) (steps-hold code e (e t .outcome .stepped .state) (e t .outcome .buffers) ts (ap rest h))
+    go (seen code s b) (ap (first (e t)) h) (steps-hold code e (e t .outcome .state) (e t .outcome .buffers) ts (ap rest h))
   where
-    go : (x : Seen) → x ≡ e t → stepsFrom (length ts) code (e t .outcome .stepped .state) (e t .outcome .buffers) ≡ map e ts
-        → x ∷ stepsFrom (length ts) code (x .outcome .stepped .state) (x .outcome .buffers) ≡ e t ∷ map e ts
+    go : (x : Seen) → x ≡ e t → stepsFrom (length ts) code (e t .outcome .state) (e t .outcome .buffers) ≡ map e ts
+        → x ∷ stepsFrom (length ts) code (x .outcome .state) (x .outcome .buffers) ≡ e t ∷ map e ts
     go x p q = rw p (ap (λ (l : List Seen). e t ∷ l) q)
 
 run-holds : (r : Run) → each r ≡ case r .expected → traced (given r) ≡ case r .expected
 run-holds r h =
-    let s = opened (given r) .opened .state in
-    let answer : traced (given r) .opened ≡ Opened = ap (λ (t : Trace). t .opened) h in
+    let s = opened (given r) .state in
+    let answer : traced (given r) .opened ≡ accepted = ap (λ (t : Trace). t .opened) h in
     rw (answer, steps-hold (given r .code) (expected r) s (lentAtStart (given r)) (r .tried) (ap (λ (t : Trace). t .steps) h))
 
 pub runs-hold : (runs : List Run) → EachHolds runs → AllHold traced (map case runs)

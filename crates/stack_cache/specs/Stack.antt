@@ -27,7 +27,7 @@ isCacheSize w = (leb least w && leb w greatest) && eqb (greatest % w) 0
 
 -- A cache of w words, or refusal 1.
 unfoldable pub makeCache : ℕ → Made
-makeCache w = cond (isCacheSize w) (made.Cache (record { words = w })) made.Refused
+makeCache w = cond (isCacheSize w) (made.Cache (record { words = w })) (made.Refused 1)
 
 -- "The word at address a sits at cache place a/4 modulo W."
 unfoldable pub cacheWord : List ℕ → ℕ → ℕ

@@ -6,6 +6,7 @@ use mathlib.Core.List.{List, [], _∷_, _++_}
 use native.Mathlib.Omega.{arith}
 use native.Mathlib.Numerals.{sub-one}
 use native.Mathlib.Nat.{pow-suc, mod-lt, mod-le, one-le-pow, div-add-mod', div-mul-le-self, div-lt-iff-lt-mul, mul-le-mul, le-refl, le-trans}
+use borrow.Author.Tests.{lt-ltb, le-ltb, ltb-true, ltb-false}
 use lib.Arith.{digits-lt, mod-mul}
 use lib.Pow.{pow-add}
 use lib.Dec.{ltb}
@@ -148,3 +149,11 @@ sizesBelow (suc k) = cond (isCacheSize k) (sizesBelow k ++ (k ∷ [])) (sizesBel
 sizes : sizesBelow 601 ≡ 4 ∷ 8 ∷ 16 ∷ 32 ∷ 64 ∷ 128 ∷ 256 ∷ 512 ∷ []
 unfolding sizesBelow isCacheSize
 sizes = refl
+
+-- More than w words, by bytes and by words that hold them.
+pub more-words : (w d : ℕ) → ltb w ((d + 3) / 4) ≡ ltb (4 * w) d
+more-words w d = go (ltb (4 * w) d) refl
+  where
+    go : (t : Bool) → ltb (4 * w) d ≡ t → ltb w ((d + 3) / 4) ≡ t
+    go true e = lt-ltb w ((d + 3) / 4) (omega (arith, ltb-true (4 * w) d e))
+    go false e = le-ltb w ((d + 3) / 4) (omega (arith, ltb-false (4 * w) d e))

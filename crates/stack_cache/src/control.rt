@@ -9,7 +9,7 @@ use crate::StackCache;
 use crate::StackControl;
 
 // Refusal 7 of every stack instruction and access.
-pub fn bad_window(w: u32, st: u32, ss: u32) -> bool
+pub fn bad_window(w: usize, st: u32, ss: u32) -> bool
     ensures { λ r. ⌜ r ≡ badWindow w st ss ⌝ }
 {
     if ss % 4 != 0 {
@@ -21,7 +21,7 @@ pub fn bad_window(w: u32, st: u32, ss: u32) -> bool
     if ss < st {
         return true;
     }
-    4 * (w as u64) < (ss - st) as u64
+    w < ((ss - st) as usize + 3) / 4
 }
 
 // Whether the words from an address up lie within the stack area, by the two ends of their range.
@@ -149,7 +149,7 @@ impl StackCache {
         ensures { λ r. ⌜ r ≡ planned control (self .words) lo hi st ss n ⌝ }
     {
         let w = self.words;
-        if bad_window(w, st, ss) {
+        if bad_window(w as usize, st, ss) {
             return Plan::Refused(7);
         }
         match control {

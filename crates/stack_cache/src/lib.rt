@@ -19,8 +19,9 @@ pub struct StackCache {
     pub words: u32,
 }
 
+// A cache, or document 01's number of the refusal.
 pub enum Made {
-    Refused,
+    Refused(u32),
     Cache(StackCache),
 }
 
@@ -47,13 +48,13 @@ impl StackCache {
         let least = StackCache::LEAST as usize;
         let greatest = StackCache::GREATEST as usize;
         if words < least {
-            return Made::Refused;
+            return Made::Refused(1);
         }
         if greatest < words {
-            return Made::Refused;
+            return Made::Refused(1);
         }
         if greatest % words != 0 {
-            return Made::Refused;
+            return Made::Refused(1);
         }
         Made::Cache(StackCache {
             words: words as u32,

@@ -15,6 +15,9 @@ add a b = (a + b) % 2 ^ 32
 abbrev pub sub : ℕ → ℕ → ℕ
 sub a b = (a + (2 ^ 32 - b)) % 2 ^ 32
 
+abbrev pub isMultipleOf4 : ℕ → Bool
+isMultipleOf4 n = eqb (n % 4) 0
+
 -- The two's complement reading of k bits: n itself below 2 ^ (k - 1), and n - 2 ^ k from there on.
 -- (`negsuc m` is the integer - (m + 1).)
 unfoldable pub signed : ℕ → ℕ → ℤ

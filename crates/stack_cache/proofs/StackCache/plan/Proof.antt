@@ -5,6 +5,9 @@ use borrow.Author.Needs.{needs}
 use Rattle.stack_cache.proofs.StackCache.plan.Statement.{statement}
 use Rattle.stack_cache.proofs.StackCache.plan.Tie as tie
 
+cast-bad-window : tie.Need-cast-bad-window
+cast-bad-window c = search needs
+
 bad-window-requires : tie.Need-bad-window-requires
 bad-window-requires c κs = search needs
 
@@ -56,6 +59,7 @@ pub plan-spec : {M : Type 1} → statement M
 plan-spec =
     tie.close
     (tie.spec
+    cast-bad-window
     bad-window-requires
     returns
     enum-told

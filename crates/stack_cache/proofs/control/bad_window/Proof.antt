@@ -1,3 +1,5 @@
+use Prim.Native.Nat.{_-_}
+use Rattle.stack_cache.specs.StackLaws.{more-words}
 use borrow.Author.Tests.{eq-eqb, ne-eqb, lt-ltb, le-ltb}
 use Rattle.stack_cache.specs.Stack.{badWindow}
 use borrow.Author.Needs.{needs}
@@ -16,15 +18,16 @@ returns-3 : tie.Need-returns-3
 unfolding badWindow
 returns-3 c = rw (eq-eqb _ _ (c .before .before .if1 .left), eq-eqb _ _ (c .before .if2 .left), lt-ltb _ _ (c .if3 .taken))
 
-mul-result : tie.Need-mul-result
-mul-result c = search needs
-
 cast-result : tie.Need-cast-result
 cast-result c = search needs
 
+add-result : tie.Need-add-result
+add-result c = search needs
+
 returns-4 : tie.Need-returns-4
 unfolding badWindow
-returns-4 c = rw (eq-eqb _ _ (c .before .before .if1 .left), eq-eqb _ _ (c .before .if2 .left), le-ltb _ _ (c .if3 .left))
+returns-4 c = let a = c .before .before .before .args in
+    rw (eq-eqb _ _ (c .before .before .if1 .left), eq-eqb _ _ (c .before .if2 .left), le-ltb _ _ (c .if3 .left)) (more-words (a .w) (a .ss - a .st))
 
 pub bad-window-spec : {M : Type 1} → statement M
-bad-window-spec = tie.close (tie.spec returns returns-2 returns-3 mul-result cast-result returns-4)
+bad-window-spec = tie.close (tie.spec returns returns-2 returns-3 cast-result add-result returns-4)

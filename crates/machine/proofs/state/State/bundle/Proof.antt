@@ -1,5 +1,5 @@
 use Rattle.machine.specs.BundleLaws.{bundle-refused, bundle-slots}
-use Rattle.machine.specs.SettingsLaws.{code-small}
+use Rattle.memory.specs.SettingsLaws.{code-small}
 use mathlib.Core.Path.{_≡_, refl, sym, ap, _∙_}
 use native.Mathlib.Omega.{arith}
 use borrow.Author.Needs.{needs}

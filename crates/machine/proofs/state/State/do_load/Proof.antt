@@ -5,11 +5,8 @@ use borrow.Author.Needs.{needs}
 use Rattle.machine.proofs.state.State.do_load.Statement.{statement}
 use Rattle.machine.proofs.state.State.do_load.Tie as tie
 
-load-size-requires : tie.Need-load-size-requires
-load-size-requires c κs = search needs
-
-judge-access-requires : tie.Need-judge-access-requires
-judge-access-requires c κs = search needs
+judge-load-requires : tie.Need-judge-load-requires
+judge-load-requires c κs = search needs
 
 enum-known-number : tie.Need-enum-known-number
 enum-known-number c = search needs
@@ -19,7 +16,7 @@ refused-requires c κs = search needs
 
 returns : tie.Need-returns
 unfolding executed written writeOne buffersAfter
-returns c = rw (load-tests (c .before .before .before .before .before .before .before .before .before .args .g) (c .before .before .before .before .before .before .before .before .before .args .self) (c .before .before .before .before .before .before .before .before .before .args .kind) (c .before .before .before .before .before .before .before .before .before .args .width) (c .before .before .before .before .before .before .before .before .before .args .rd) (c .before .before .before .before .before .before .before .before .before .args .address), ← c .before .before .before .before .before .load-size .ensures .0, ← c .before .before .before .before .judge-access .ensures, c .before .before .number .given .1, c .refused .ensures)
+returns c = rw (load-tests (c .before .before .before .before .before .before .before .before .args .g) (c .before .before .before .before .before .before .before .before .args .self) (c .before .before .before .before .before .before .before .before .args .kind) (c .before .before .before .before .before .before .before .before .args .width) (c .before .before .before .before .before .before .before .before .args .rd) (c .before .before .before .before .before .before .before .before .args .address), ← c .before .before .before .before .judge-load .ensures, c .before .before .number .given .1, c .refused .ensures)
 
 enum-told : tie.Need-enum-told
 enum-told c = search needs
@@ -38,14 +35,13 @@ finish-requires c κs = search needs
 
 returns-2 : tie.Need-returns-2
 unfolding executed written writeOne buffersAfter
-returns-2 c = rw (load-tests (c .before .before .before .before .before .before .before .before .before .before .before .args .g) (c .before .before .before .before .before .before .before .before .before .before .before .args .self) (c .before .before .before .before .before .before .before .before .before .before .before .args .kind) (c .before .before .before .before .before .before .before .before .before .before .before .args .width) (c .before .before .before .before .before .before .before .before .before .before .before .args .rd) (c .before .before .before .before .before .before .before .before .before .before .before .args .address), ← c .before .before .before .before .before .before .before .load-size .ensures .0, ← c .before .before .before .before .before .before .judge-access .ensures, c .before .before .before .before .enum-told .given .1, c .finish .ensures, c .before .with-load .ensures, c .before .before .land-load .ensures, c .before .before .before .load .ensures)
+returns-2 c = rw (load-tests (c .before .before .before .before .before .before .before .before .before .before .args .g) (c .before .before .before .before .before .before .before .before .before .before .args .self) (c .before .before .before .before .before .before .before .before .before .before .args .kind) (c .before .before .before .before .before .before .before .before .before .before .args .width) (c .before .before .before .before .before .before .before .before .before .before .args .rd) (c .before .before .before .before .before .before .before .before .before .before .args .address), ← c .before .before .before .before .before .before .judge-load .ensures, c .before .before .before .before .enum-told .given .1, c .finish .ensures, c .before .with-load .ensures, c .before .before .land-load .ensures, c .before .before .before .load .ensures)
 
 pub do-load-spec : {M : Type 1} → statement M
 do-load-spec =
     tie.close
     (tie.spec
-    load-size-requires
-    judge-access-requires
+    judge-load-requires
     enum-known-number
     refused-requires
     returns

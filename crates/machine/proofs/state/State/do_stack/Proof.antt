@@ -5,7 +5,7 @@ use Rattle.machine.specs.Bundle.{written, writeOne, buffersAfter, stackM
 use Rattle.machine.specs.Execute.{executed}
 use Rattle.machine.specs.ExecuteLaws.{stack-tests, one-way}
 use Rattle.stack_cache.specs.PlanLaws.{planned-told}
-use Rattle.machine.specs.SettingsLaws.{words-small, area-ordered, area-inside}
+use Rattle.memory.specs.SettingsLaws.{words-small, area-ordered, area-inside}
 use borrow.Author.Needs.{needs}
 use Rattle.machine.proofs.state.State.do_stack.Statement.{statement}
 use Rattle.machine.proofs.state.State.do_stack.Tie as tie

@@ -5,11 +5,8 @@ use borrow.Author.Needs.{needs}
 use Rattle.machine.proofs.state.State.do_store.Statement.{statement}
 use Rattle.machine.proofs.state.State.do_store.Tie as tie
 
-store-size-requires : tie.Need-store-size-requires
-store-size-requires c κs = search needs
-
-judge-access-requires : tie.Need-judge-access-requires
-judge-access-requires c κs = search needs
+judge-store-requires : tie.Need-judge-store-requires
+judge-store-requires c κs = search needs
 
 enum-known-number : tie.Need-enum-known-number
 enum-known-number c = search needs
@@ -19,7 +16,7 @@ refused-requires c κs = search needs
 
 returns : tie.Need-returns
 unfolding executed written writeOne buffersAfter
-returns c = rw (store-tests (c .before .before .before .before .before .before .before .before .before .args .g) (c .before .before .before .before .before .before .before .before .before .args .self) (c .before .before .before .before .before .before .before .before .before .args .kind) (c .before .before .before .before .before .before .before .before .before .args .width) (c .before .before .before .before .before .before .before .before .before .args .address) (c .before .before .before .before .before .before .before .before .before .args .value), ← c .before .before .before .before .before .store-size .ensures .0, ← c .before .before .before .before .judge-access .ensures, c .before .before .number .given .1, c .refused .ensures)
+returns c = rw (store-tests (c .before .before .before .before .before .before .before .before .args .g) (c .before .before .before .before .before .before .before .before .args .self) (c .before .before .before .before .before .before .before .before .args .kind) (c .before .before .before .before .before .before .before .before .args .width) (c .before .before .before .before .before .before .before .before .args .address) (c .before .before .before .before .before .before .before .before .args .value), ← c .before .before .before .before .judge-store .ensures, c .before .before .number .given .1, c .refused .ensures)
 
 enum-told : tie.Need-enum-told
 enum-told c = search needs
@@ -44,14 +41,13 @@ same-length-3 c = search needs
 
 returns-2 : tie.Need-returns-2
 unfolding executed written writeOne buffersAfter
-returns-2 c = rw (store-tests (c .before .before .before .before .before .before .before .before .before .before .before .before .before .before .before .before .before .before .before .args .g) (c .before .before .before .before .before .before .before .before .before .before .before .before .before .before .before .before .before .before .before .args .self) (c .before .before .before .before .before .before .before .before .before .before .before .before .before .before .before .before .before .before .before .args .kind) (c .before .before .before .before .before .before .before .before .before .before .before .before .before .before .before .before .before .before .before .args .width) (c .before .before .before .before .before .before .before .before .before .before .before .before .before .before .before .before .before .before .before .args .address) (c .before .before .before .before .before .before .before .before .before .before .before .before .before .before .before .before .before .before .before .args .value), ← (rw (c .before .before .before .before .before .before .before .before .before .before .before .before .before .before .before .store-size .ensures .0) at (c .before .before .before .before .before .before .before .before .before .before .before .before .before .before .judge-access .ensures)), c .before .before .before .before .before .before .before .before .before .before .before .before .enum-told .given .1, c .finish .ensures, c .before .land-load .ensures, c .before .before .before .before .before .before .before .before .store .ensures)
+returns-2 c = rw (store-tests (c .before .before .before .before .before .before .before .before .before .before .before .before .before .before .before .before .before .before .args .g) (c .before .before .before .before .before .before .before .before .before .before .before .before .before .before .before .before .before .before .args .self) (c .before .before .before .before .before .before .before .before .before .before .before .before .before .before .before .before .before .before .args .kind) (c .before .before .before .before .before .before .before .before .before .before .before .before .before .before .before .before .before .before .args .width) (c .before .before .before .before .before .before .before .before .before .before .before .before .before .before .before .before .before .before .args .address) (c .before .before .before .before .before .before .before .before .before .before .before .before .before .before .before .before .before .before .args .value), ← c .before .before .before .before .before .before .before .before .before .before .before .before .before .before .judge-store .ensures, c .before .before .before .before .before .before .before .before .before .before .before .before .enum-told .given .1, c .finish .ensures, c .before .land-load .ensures, c .before .before .before .before .before .before .before .before .store .ensures)
 
 pub do-store-spec : {M : Type 1} → statement M
 do-store-spec =
     tie.close
     (tie.spec
-    store-size-requires
-    judge-access-requires
+    judge-store-requires
     enum-known-number
     refused-requires
     returns

@@ -1,5 +1,5 @@
 use Rattle.machine.specs.Execute.{executed}
-use Rattle.machine.specs.Refusal.{verdict}
+use Rattle.memory.specs.Access.{verdict}
 use Rattle.machine.specs.Bundle.{written, writeOne, buffersAfter}
 use borrow.Author.Needs.{needs}
 use Rattle.machine.proofs.state.State.execute.Statement.{statement}

@@ -1,11 +1,8 @@
-use borrow.Author.Tests.{eq-eqb, ne-eqb, lt-ltb, le-ltb, le-leb, lt-leb, not-true, not-false}
-use Rattle.machine.specs.Refusal.{outsideCode, isUndecodable}
-use Rattle.machine.specs.BundleLaws.{fetched-known, fetched-undecodable}
+use borrow.Author.Tests.{ne-eqb, lt-ltb, le-ltb}
+use mathlib.Core.Path.{sym, _∙_}
+use Rattle.machine.specs.Refusal.{outsideCode}
 use Rattle.machine.specs.Execute.{fetched}
-use mathlib.Core.Bool.{true, false}
-use Rattle.decoder.specs.declared.instruction.Bundle.the-variants.{One, Two, Long}
-use mathlib.Core.Path.{_≡_, refl, sym, ap, _∙_}
-use native.Mathlib.Omega.{arith}
+use Rattle.machine.specs.BundleLaws.{fetched-read}
 use borrow.Author.Needs.{needs}
 use Rattle.machine.proofs.state.State.fetch_bundle.Statement.{statement}
 use Rattle.machine.proofs.state.State.fetch_bundle.Tie as tie
@@ -45,51 +42,22 @@ read-word-requires-2 c κs = search needs
 decode-requires : tie.Need-decode-requires
 decode-requires c κs = search needs
 
+effects-requires : tie.Need-effects-requires
+effects-requires c κs = search needs
+
 enum-told : tie.Need-enum-told
 enum-told c = search needs
 
-enum-known-i : tie.Need-enum-known-i
-enum-known-i c = search needs
-
-slot-one-requires : tie.Need-slot-one-requires
-slot-one-requires c κs = search needs
-
-alone-requires : tie.Need-alone-requires
-alone-requires c κs = search needs
-
-enum-known-i-2 : tie.Need-enum-known-i-2
-enum-known-i-2 c = search needs
-
-slot-one-requires-2 : tie.Need-slot-one-requires-2
-slot-one-requires-2 c κs = search needs
-
-slot-two-requires : tie.Need-slot-two-requires
-slot-two-requires c κs = search needs
-
-enum-known-i-3 : tie.Need-enum-known-i-3
-enum-known-i-3 c = search needs
-
-slot-one-requires-3 : tie.Need-slot-one-requires-3
-slot-one-requires-3 c κs = search needs
-
-alone-requires-2 : tie.Need-alone-requires-2
-alone-requires-2 c κs = search needs
+enum-known-one : tie.Need-enum-known-one
+enum-known-one c = search needs
 
 returns-3 : tie.Need-returns-3
 unfolding outsideCode
-returns-3 c = sym (fetched-undecodable (c .before .before .before .before .before .before .before .before .before .args .code .now) (c .before .before .before .before .before .before .before .before .before .args .t1) (sym (rw (c .before .before .before .before .before .before .read-word .ensures, c .before .before .before .read-word2 .ensures) at (c .before .before .decode .ensures)) ∙ c .enum-told .given .1) (rw (c .before .before .before .before .before .before .before .if1 .left, ← c .before .before .before .before .before .before .read-word .ensures, ← c .before .before .before .before .before .words-of .ensures .0, le-ltb _ _ (c .before .before .before .before .if2 .left))))
+returns-3 c = sym (fetched-read (c .before .before .before .before .before .before .before .before .before .before .before .before .before .before .before .args .code .now) (c .before .before .before .before .before .before .before .before .before .before .before .before .before .before .before .args .t1) _ (rw (c .before .before .before .before .before .before .before .before .before .before .before .before .before .if1 .left, ← c .before .before .before .before .before .before .before .before .before .before .before .before .read-word .ensures, ← c .before .before .before .before .before .before .before .before .before .before .before .words-of .ensures .0, le-ltb _ _ (c .before .before .before .before .before .before .before .before .before .before .if2 .left))) (sym (rw (c .before .before .before .before .before .before .before .before .decode .ensures, c .before .before .before .before .before .before .before .before .before .before .before .before .read-word .ensures, c .before .before .before .before .before .before .before .before .before .read-word2 .ensures) at (c .before .before .effects .ensures)) ∙ c .enum-told .given .1))
 
 returns-4 : tie.Need-returns-4
 unfolding outsideCode
-returns-4 c = rw (fetched-known (c .before .before .before .before .before .before .before .before .before .before .before .before .args .code .now) (c .before .before .before .before .before .before .before .before .before .before .before .before .args .t1) (One _) (sym (rw (c .before .before .before .before .before .before .before .before .before .read-word .ensures, c .before .before .before .before .before .before .read-word2 .ensures) at (c .before .before .before .before .before .decode .ensures)) ∙ c .before .before .before .i .given .1) (rw (c .before .before .before .before .before .before .before .before .before .before .if1 .left, ← c .before .before .before .before .before .before .before .before .before .read-word .ensures, ← c .before .before .before .before .before .before .before .before .words-of .ensures .0, le-ltb _ _ (c .before .before .before .before .before .before .before .if2 .left))) refl, ← c .before .before .before .before .before .before .before .before .before .read-word .ensures, ← c .before .before .before .before .before .before .before .before .words-of .ensures .0, ← c .before .slot-one .ensures) (c .alone .ensures)
-
-returns-5 : tie.Need-returns-5
-unfolding outsideCode
-returns-5 c = rw (fetched-known (c .before .before .before .before .before .before .before .before .before .before .before .before .before .before .before .before .before .args .code .now) (c .before .before .before .before .before .before .before .before .before .before .before .before .before .before .before .before .before .args .t1) (Two _ _) (sym (rw (c .before .before .before .before .before .before .before .before .before .before .before .before .before .before .read-word .ensures, c .before .before .before .before .before .before .before .before .before .before .before .read-word2 .ensures) at (c .before .before .before .before .before .before .before .before .before .before .decode .ensures)) ∙ c .before .before .before .before .before .before .before .before .i2 .given .1) (rw (c .before .before .before .before .before .before .before .before .before .before .before .before .before .before .before .if1 .left, ← c .before .before .before .before .before .before .before .before .before .before .before .before .before .before .read-word .ensures, ← c .before .before .before .before .before .before .before .before .before .before .before .before .before .words-of .ensures .0, le-ltb _ _ (c .before .before .before .before .before .before .before .before .before .before .before .before .if2 .left))) refl, ← c .before .before .before .before .before .before .before .before .before .before .before .before .before .before .read-word .ensures, ← c .before .before .before .before .before .before .before .before .before .before .before .before .before .words-of .ensures .0, ← c .before .before .before .before .before .before .slot-one2 .ensures, ← c .slot-two .ensures)
-
-returns-6 : tie.Need-returns-6
-unfolding outsideCode
-returns-6 c = rw (fetched-known (c .before .before .before .before .before .before .before .before .before .before .before .before .args .code .now) (c .before .before .before .before .before .before .before .before .before .before .before .before .args .t1) (Long _) (sym (rw (c .before .before .before .before .before .before .before .before .before .read-word .ensures, c .before .before .before .before .before .before .read-word2 .ensures) at (c .before .before .before .before .before .decode .ensures)) ∙ c .before .before .before .i3 .given .1) (rw (c .before .before .before .before .before .before .before .before .before .before .if1 .left, ← c .before .before .before .before .before .before .before .before .before .read-word .ensures, ← c .before .before .before .before .before .before .before .before .words-of .ensures .0, le-ltb _ _ (c .before .before .before .before .before .before .before .if2 .left))) refl, ← c .before .before .before .before .before .before .before .before .before .read-word .ensures, ← c .before .before .before .before .before .before .before .before .words-of .ensures .0, ← c .before .slot-one3 .ensures) (c .alone2 .ensures)
+returns-4 c = rw (fetched-read (c .before .before .before .before .before .before .before .before .before .before .before .before .before .before .before .before .args .code .now) (c .before .before .before .before .before .before .before .before .before .before .before .before .before .before .before .before .args .t1) _ (rw (c .before .before .before .before .before .before .before .before .before .before .before .before .before .before .if1 .left, ← c .before .before .before .before .before .before .before .before .before .before .before .before .before .read-word .ensures, ← c .before .before .before .before .before .before .before .before .before .before .before .before .words-of .ensures .0, le-ltb _ _ (c .before .before .before .before .before .before .before .before .before .before .before .if2 .left))) (sym (rw (c .before .before .before .before .before .before .before .before .before .decode .ensures, c .before .before .before .before .before .before .before .before .before .before .before .before .before .read-word .ensures, c .before .before .before .before .before .before .before .before .before .before .read-word2 .ensures) at (c .before .before .before .effects .ensures)) ∙ c .before .one .given .1), ← c .before .before .before .before .before .before .before .before .before .before .before .before .before .read-word .ensures, ← c .before .before .before .before .before .before .before .before .before .before .before .before .words-of .ensures .0)
 
 pub fetch-bundle-spec : {M : Type 1} → statement M
 fetch-bundle-spec =
@@ -106,17 +74,8 @@ fetch-bundle-spec =
     add-read-word
     read-word-requires-2
     decode-requires
+    effects-requires
     enum-told
-    enum-known-i
-    slot-one-requires
-    alone-requires
-    enum-known-i-2
-    slot-one-requires-2
-    slot-two-requires
-    enum-known-i-3
-    slot-one-requires-3
-    alone-requires-2
+    enum-known-one
     returns-3
-    returns-4
-    returns-5
-    returns-6)
+    returns-4)

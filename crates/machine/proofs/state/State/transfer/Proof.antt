@@ -30,7 +30,7 @@ returns c = rw (c .before .before .transfer .given .1) (c .go-on .ensures)
 
 returns-2 : tie.Need-returns-2
 unfolding transferred
-returns-2 c = rw (c .before .before .before .transfer2 .given .1, ← c .before .sub .ensures) (c .go-on2 .ensures)
+returns-2 c = rw (c .before .before .before .before .before .transfer2 .given .1, ← c .before .before .before .sub .ensures) (c .go-on2 .ensures)
 
 returns-3 : tie.Need-returns-3
 unfolding transferred

@@ -26,7 +26,7 @@ returns-2 c = rw (ne-eqb _ _ (c .before .if1 .left))
 
 returns-3 : tie.Need-returns-3
 unfolding withRegister
-returns-3 c = let s = c .before .before .args .t1 in let n : length (s .registers) ≡ 32 = search needs in rw (ne-eqb _ _ (c .before .if1 .left)) (ap (λ (l : List ℕ). state l (s .predicates) (s .sl) (s .sh) (s .ss) (s .st) (s .srb) (s .sro) (s .sxb) (s .sxo) (s .fetch) (s .base) (s .transfer) (s .load)) (sym (set-out _ _ _ (rw n (c .if2 .left)))))
+returns-3 c = let s = c .before .before .args .t1 in let n : length (s .registers) ≡ 32 = search needs in rw (ne-eqb _ _ (c .before .if1 .left)) (ap (λ (l : List ℕ). state l (s .predicates) (s .specials) (s .fetch) (s .base) (s .transfer) (s .load)) (sym (set-out _ _ _ (rw n (c .if2 .left)))))
 
 pub write-register-spec : {M : Type 1} → statement M
 write-register-spec = tie.close (tie.spec returns mul-self element-write-self returns-2 returns-3)

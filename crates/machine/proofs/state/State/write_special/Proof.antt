@@ -39,35 +39,35 @@ returns c = rw (c .before .enum-told .given .1, c .predicates-of .ensures)
 
 returns-2 : tie.Need-returns-2
 unfolding withSpecial
-returns-2 c = rw (c .enum-told2 .given .1)
+returns-2 c = rw (c .before .enum-told2 .given .1)
 
 returns-3 : tie.Need-returns-3
 unfolding withSpecial
-returns-3 c = rw (c .enum-told3 .given .1)
+returns-3 c = rw (c .before .enum-told3 .given .1)
 
 returns-4 : tie.Need-returns-4
 unfolding withSpecial
-returns-4 c = rw (c .enum-told4 .given .1)
+returns-4 c = rw (c .before .enum-told4 .given .1)
 
 returns-5 : tie.Need-returns-5
 unfolding withSpecial
-returns-5 c = rw (c .enum-told5 .given .1)
+returns-5 c = rw (c .before .enum-told5 .given .1)
 
 returns-6 : tie.Need-returns-6
 unfolding withSpecial
-returns-6 c = rw (c .enum-told6 .given .1)
+returns-6 c = rw (c .before .enum-told6 .given .1)
 
 returns-7 : tie.Need-returns-7
 unfolding withSpecial
-returns-7 c = rw (c .enum-told7 .given .1)
+returns-7 c = rw (c .before .enum-told7 .given .1)
 
 returns-8 : tie.Need-returns-8
 unfolding withSpecial
-returns-8 c = rw (c .enum-told8 .given .1)
+returns-8 c = rw (c .before .enum-told8 .given .1)
 
 returns-9 : tie.Need-returns-9
 unfolding withSpecial
-returns-9 c = rw (c .enum-told9 .given .1)
+returns-9 c = rw (c .before .enum-told9 .given .1)
 
 pub write-special-spec : {M : Type 1} → statement M
 write-special-spec =

@@ -1,0 +1,61 @@
+use Rattle.effects.specs.Effect.{stackEffect}
+use borrow.Author.Needs.{needs}
+use Rattle.effects.proofs.slot.stack_effect.Statement.{statement}
+use Rattle.effects.proofs.slot.stack_effect.Tie as tie
+
+enum-known-o : tie.Need-enum-known-o
+enum-known-o c = search needs
+
+enum-known-o-2 : tie.Need-enum-known-o-2
+enum-known-o-2 c = search needs
+
+amount-words-requires : tie.Need-amount-words-requires
+amount-words-requires c κs = search needs
+
+amount-aligned-requires : tie.Need-amount-aligned-requires
+amount-aligned-requires c κs = search needs
+
+enum-known-o-3 : tie.Need-enum-known-o-3
+enum-known-o-3 c = search needs
+
+enum-known-o-4 : tie.Need-enum-known-o-4
+enum-known-o-4 c = search needs
+
+amount-words-requires-2 : tie.Need-amount-words-requires-2
+amount-words-requires-2 c κs = search needs
+
+amount-aligned-requires-2 : tie.Need-amount-aligned-requires-2
+amount-aligned-requires-2 c κs = search needs
+
+returns : tie.Need-returns
+unfolding stackEffect
+returns c = rw (c .before .o .given .1)
+
+returns-2 : tie.Need-returns-2
+unfolding stackEffect
+returns-2 c = rw (c .before .before .before .o2 .given .1, ← c .before .amount-words .ensures, ← c .amount-aligned .ensures)
+
+returns-3 : tie.Need-returns-3
+unfolding stackEffect
+returns-3 c = rw (c .before .o3 .given .1)
+
+returns-4 : tie.Need-returns-4
+unfolding stackEffect
+returns-4 c = rw (c .before .before .before .o4 .given .1, ← c .before .amount-words2 .ensures, ← c .amount-aligned2 .ensures)
+
+pub stack-effect-spec : {M : Type 1} → statement M
+stack-effect-spec =
+    tie.close
+    (tie.spec
+    enum-known-o
+    enum-known-o-2
+    amount-words-requires
+    amount-aligned-requires
+    enum-known-o-3
+    enum-known-o-4
+    amount-words-requires-2
+    amount-aligned-requires-2
+    returns
+    returns-2
+    returns-3
+    returns-4)

@@ -1,0 +1,195 @@
+-- "Both slots read the state at the start": what a slot does is one value, computed from that state.
+use Prim.Native.Nat.{ℕ, _+_, _*_, _/_, _%_, _^_}
+use mathlib.Core.Bool.{Bool, true, false, not, cond, Bool·beq}
+use mathlib.Core.List.{List, [], _∷_}
+use lib.Dec.{eqb}
+use lib.ListN.{getD}
+use mir.Syntax.{w32}
+use mir.Val.{ofZ}
+use Rattle.word.specs.Word.{add, shiftLeft, copyBit}
+use Rattle.alu.specs.Alu.{arithmetic, multiply, compare, combine}
+use Rattle.decoder.specs.declared.instruction.PredicateOperand.{PredicateOperand}
+use Rattle.decoder.specs.declared.instruction.Op2.{Op2}
+use Rattle.decoder.specs.declared.instruction.Op2.the-variants as op2
+use Rattle.decoder.specs.declared.instruction.AluOperation.{AluOperation}
+use Rattle.decoder.specs.declared.instruction.AluOperation.the-variants.{Arithmetic, Compare, Predicate, BitCopy}
+use Rattle.decoder.specs.declared.instruction.Special.{Special}
+use Rattle.decoder.specs.declared.instruction.Special.the-variants.{S0, Sl, Sh, Ss, St, Srb, Sro, Sxb, Sxo}
+use Rattle.decoder.specs.declared.instruction.AccessKind.{AccessKind}
+use Rattle.decoder.specs.declared.instruction.AccessKind.the-variants.{Stack, Local, Cached, Main}
+use Rattle.decoder.specs.declared.instruction.StackAmount.{StackAmount}
+use Rattle.decoder.specs.declared.instruction.StackAmount.the-variants.{Words, Register}
+use Rattle.decoder.specs.declared.instruction.StackOperation.{StackOperation}
+use Rattle.decoder.specs.declared.instruction.StackOperation.the-variants as operation
+use Rattle.decoder.specs.declared.instruction.Target.{Target}
+use Rattle.decoder.specs.declared.instruction.Target.the-variants as target
+use Rattle.decoder.specs.declared.instruction.Operation.{Operation}
+use Rattle.decoder.specs.declared.instruction.Operation.the-variants.{Alu, Multiply, Mts, Mfs, Load, Store, StackControl, Transfer, Trap, Xret}
+use Rattle.decoder.specs.declared.instruction.Instruction.{Instruction}
+use Rattle.decoder.specs.declared.instruction.AluInstruction.{AluInstruction}
+use Rattle.decoder.specs.declared.instruction.Bundle.{Bundle}
+use Rattle.decoder.specs.declared.instruction.Bundle.the-variants.{Undecodable, One, Two, Long}
+use Rattle.stack_cache.specs.declared.StackControl as stack
+use Rattle.stack_cache.specs.declared.StackControl.the-variants as control
+use Rattle.memory.specs.Access.{loadScale, storeScale}
+use Rattle.effects.specs.declared.special.Specials.{Specials}
+use Rattle.effects.specs.declared.effect.Transfer as declared
+use Rattle.effects.specs.declared.effect.Transfer.the-variants as transfer
+use Rattle.effects.specs.declared.effect.AluEffect.{AluEffect}
+use Rattle.effects.specs.declared.effect.AluEffect.the-variants as alu
+use Rattle.effects.specs.declared.effect.Effect.{Effect}
+use Rattle.effects.specs.declared.effect.Effect.the-variants as effect
+use Rattle.effects.specs.declared.effect.Effects.{Effects}
+use Rattle.effects.specs.declared.effect.Effects.the-variants as effects
+
+-- The part of the state that slots read.
+pub record Start : Type 0 where
+  pub registers : List ℕ
+  pub predicates : List Bool
+  pub specials : Specials
+  pub fetch : ℕ
+
+abbrev pub start : List ℕ → List Bool → Specials → ℕ → Start
+start rs ps specials fetch = record { registers = rs; predicates = ps; specials = specials; fetch = fetch }
+
+abbrev pub register : Start → ℕ → ℕ
+register s r = getD (s .registers) r 0
+
+-- The value of a predicate operand.
+abbrev pub holds : List Bool → PredicateOperand → Bool
+holds predicates p = not (Bool·beq (p .negated) (getD predicates (p .predicate) false))
+
+-- s0: the predicates, p0 in bit 0.
+unfoldable pub predicatesWord : List Bool → ℕ
+predicatesWord [] = 0
+predicatesWord (p ∷ ps) = cond p 1 0 + 2 * predicatesWord ps
+
+unfoldable pub special : List Bool → Specials → Special → ℕ
+special ps s S0 = predicatesWord ps
+special ps s Sl = s .sl
+special ps s Sh = s .sh
+special ps s Ss = s .ss
+special ps s St = s .st
+special ps s Srb = s .srb
+special ps s Sro = s .sro
+special ps s Sxb = s .sxb
+special ps s Sxo = s .sxo
+
+-- The second operand of ALU and compare functions. The long constant is a word, the other immediates are zero-extended.
+unfoldable pub op2Value : List ℕ → Op2 → ℕ
+op2Value registers (op2.Register r) = getD registers r 0
+op2Value registers (op2.Immediate n) = n
+op2Value registers (op2.Long n) = n
+
+-- Sections 2.6.1 and 2.6.3 to 2.6.5.
+unfoldable pub aluEffect : List ℕ → List Bool → AluOperation → AluEffect
+aluEffect rs ps (Arithmetic f rd rs1 o) = alu.Register rd (arithmetic f (getD rs rs1 0) (op2Value rs o))
+aluEffect rs ps (Compare f pd rs1 o) = alu.Predicate pd (compare f (getD rs rs1 0) (op2Value rs o))
+aluEffect rs ps (Predicate f pd ps1 ps2) = alu.Predicate pd (combine f (holds ps ps1) (holds ps ps2))
+aluEffect rs ps (BitCopy rd rs1 bit p) = alu.Register rd (copyBit (getD rs rs1 0) bit (holds ps p))
+
+-- "A stack access's address is st plus the address its fields form; other accesses use that address itself."
+unfoldable pub accessAddress : AccessKind → ℕ → ℕ → ℕ
+accessAddress Stack st a = add st a
+accessAddress Local st a = a
+accessAddress Cached st a = a
+accessAddress Main st a = a
+
+abbrev pub address : List ℕ → ℕ → AccessKind → ℕ → ℕ → ℕ → ℕ
+address rs st kind scale ra offset = accessAddress kind st (add (getD rs ra 0) (shiftLeft offset scale))
+
+-- "Immediates are words n, registers bytes": the words, and whether the operand is a multiple of 4.
+unfoldable pub amountWords : List ℕ → StackAmount → ℕ
+amountWords rs (Words n) = n
+amountWords rs (Register r) = getD rs r 0 / 4
+
+unfoldable pub amountAligned : List ℕ → StackAmount → Bool
+amountAligned rs (Words n) = true
+amountAligned rs (Register r) = eqb (getD rs r 0 % 4) 0
+
+unfoldable pub stackEffect : List ℕ → StackOperation → Effect
+stackEffect rs (operation.Sres n) = effect.Stack control.Sres n true
+stackEffect rs (operation.Sens a) = effect.Stack control.Sens (amountWords rs a) (amountAligned rs a)
+stackEffect rs (operation.Sfree n) = effect.Stack control.Sfree n true
+stackEffect rs (operation.Sspill a) = effect.Stack control.Sspill (amountWords rs a) (amountAligned rs a)
+
+-- The byte address of a number of words.
+abbrev pub bytesOf : ℕ → ℕ
+bytesOf n = shiftLeft n 2
+
+-- "The target is read in the transfer's own bundle." br adds its signed words times 4 to the branch's address (`ofZ w32 z` is
+-- the word that reads as z); a register br or call is absolute; brcf adds offset to base register; ret goes to srb + sro.
+unfoldable pub transferOf : Start → Target → declared.Transfer
+transferOf s (target.Call n) = transfer.Call (bytesOf n)
+transferOf s (target.CallRegister r) = transfer.Call (register s r)
+transferOf s (target.Br z) = transfer.Br (add (s .fetch) (bytesOf (ofZ w32 z)))
+transferOf s (target.BrRegister r) = transfer.Br (register s r)
+transferOf s (target.Brcf n) = transfer.Block (bytesOf n) (bytesOf n)
+transferOf s (target.BrcfRegister b o) = transfer.Block (add (register s b) (register s o)) (register s b)
+transferOf s target.Ret = transfer.Block (add (s .specials .srb) (s .specials .sro)) (s .specials .srb)
+
+unfoldable pub effectOf : Start → Operation → Effect
+effectOf s (Alu o) = effect.Alu (aluEffect (s .registers) (s .predicates) o)
+effectOf s (Multiply f a b) =
+    let p = multiply f (register s a) (register s b) in
+    effect.Product (p % 2 ^ 32) (p / 2 ^ 32)
+effectOf s (Mts d r) = effect.Special d (register s r)
+effectOf s (Mfs r d) = effect.Alu (alu.Register r (special (s .predicates) (s .specials) d))
+effectOf s (Load k w rd ra o) = effect.Load k w rd (address (s .registers) (s .specials .st) k (loadScale w) ra o)
+effectOf s (Store k w ra rs o) = effect.Store k w (address (s .registers) (s .specials .st) k (storeScale w) ra o) (register s rs)
+effectOf s (StackControl o) = stackEffect (s .registers) o
+effectOf s (Transfer d t) = effect.Transfer d (transferOf s t)
+effectOf s (Trap n) = effect.Exception
+effectOf s (Xret d) = effect.Exception
+
+-- "A false guard makes its slot do nothing and refuse nothing."
+unfoldable pub slotOneEffect : Start → Instruction → Effect
+slotOneEffect s i = cond (holds (s .predicates) (i .guard)) (effectOf s (i .operation)) (effect.Alu alu.Nothing)
+
+unfoldable pub slotTwoEffect : List ℕ → List Bool → AluInstruction → AluEffect
+slotTwoEffect rs ps i = cond (holds ps (i .guard)) (aluEffect rs ps (i .operation)) alu.Nothing
+
+-- The two slots of a bundle. Slot two of a bundle that has none does nothing.
+abbrev pub slotOne : Start → Bundle → Effect
+slotOne s Undecodable = effect.Alu alu.Nothing
+slotOne s (One i) = slotOneEffect s i
+slotOne s (Two i j) = slotOneEffect s i
+slotOne s (Long i) = slotOneEffect s i
+
+abbrev pub slotTwo : Start → Bundle → AluEffect
+slotTwo s Undecodable = alu.Nothing
+slotTwo s (One i) = alu.Nothing
+slotTwo s (Two i j) = slotTwoEffect (s .registers) (s .predicates) j
+slotTwo s (Long i) = alu.Nothing
+
+-- By cases: of a transfer, of a stack instruction, and of every other effect.
+abbrev pub onTransfer : {A : Type 0} → A → (Bool → declared.Transfer → A) → Effect → A
+onTransfer other f (effect.Alu a) = other
+onTransfer other f (effect.Special d v) = other
+onTransfer other f (effect.Product l h) = other
+onTransfer other f (effect.Load k w r a) = other
+onTransfer other f (effect.Store k w a v) = other
+onTransfer other f (effect.Stack c n m) = other
+onTransfer other f (effect.Transfer d t) = f d t
+onTransfer other f effect.Exception = other
+
+abbrev pub onStack : {A : Type 0} → A → (stack.StackControl → ℕ → Bool → A) → Effect → A
+onStack other f (effect.Alu a) = other
+onStack other f (effect.Special d v) = other
+onStack other f (effect.Product l h) = other
+onStack other f (effect.Load k w r a) = other
+onStack other f (effect.Store k w a v) = other
+onStack other f (effect.Stack c n m) = f c n m
+onStack other f (effect.Transfer d t) = other
+onStack other f effect.Exception = other
+
+-- Refusal 3: undecodable.
+abbrev pub isUndecodable : Bundle → Bool
+isUndecodable Undecodable = true
+isUndecodable (One i) = false
+isUndecodable (Two i j) = false
+isUndecodable (Long i) = false
+
+-- Both slots of a bundle, if it has a meaning.
+unfoldable pub effectsOf : Start → Bundle → Effects
+effectsOf s b = cond (isUndecodable b) effects.Undecodable (effects.Slots (slotOne s b) (slotTwo s b))

@@ -1,0 +1,247 @@
+// What the slots of a bundle do: their operations read in the state at the start of the bundle.
+ghost use mathlib.Core.Path.{_≡_};
+ghost use Rattle.effects.specs.Effect.{start, accessAddress, address, amountWords, amountAligned, stackEffect, transferOf, effectOf, slotOneEffect, effectsOf};
+use crate::effect::AluEffect;
+use crate::effect::Effect;
+use crate::effect::Effects;
+use crate::effect::Transfer;
+use crate::effect::alu_effect;
+use crate::effect::operand;
+use crate::effect::register;
+use crate::effect::slot_two;
+use crate::special::Specials;
+use crate::special::read_special;
+use decoder::instruction::AccessKind;
+use decoder::instruction::Bundle;
+use decoder::instruction::Instruction;
+use decoder::instruction::Operation;
+use decoder::instruction::StackAmount;
+use decoder::instruction::StackOperation;
+use decoder::instruction::Target;
+use memory::width::load_scale;
+use memory::width::store_scale;
+use stack_cache::StackControl;
+use word::arithmetic::add;
+use word::bits::shift_left;
+
+// A stack access is relative to st.
+fn access_address(kind: AccessKind, st: u32, a: u32) -> u32
+    ensures { λ x. ⌜ x ≡ accessAddress kind st a ⌝ }
+{
+    match kind {
+        AccessKind::Stack => add(st, a),
+        AccessKind::Local => a,
+        AccessKind::Cached => a,
+        AccessKind::Main => a,
+    }
+}
+
+// The words that a stack instruction's operand says.
+fn amount_words(registers: &[u32], a: StackAmount) -> u32
+    ensures { λ x. ⌜ x ≡ amountWords (now (registers .entry)) a ⌝ }
+{
+    match a {
+        StackAmount::Words(n) => n,
+        StackAmount::Register(r) => register(registers, r) / 4,
+    }
+}
+
+fn amount_aligned(registers: &[u32], a: StackAmount) -> bool
+    ensures { λ x. ⌜ x ≡ amountAligned (now (registers .entry)) a ⌝ }
+{
+    match a {
+        StackAmount::Words(_) => true,
+        StackAmount::Register(r) => register(registers, r) % 4 == 0,
+    }
+}
+
+fn stack_effect(registers: &[u32], o: StackOperation) -> Effect
+    ensures { λ x. ⌜ x ≡ stackEffect (now (registers .entry)) o ⌝ }
+{
+    match o {
+        StackOperation::Sres(n) => Effect::Stack {
+            control: StackControl::Sres,
+            words: n,
+            aligned: true,
+        },
+        StackOperation::Sens(a) => Effect::Stack {
+            control: StackControl::Sens,
+            words: amount_words(registers, a),
+            aligned: amount_aligned(registers, a),
+        },
+        StackOperation::Sfree(n) => Effect::Stack {
+            control: StackControl::Sfree,
+            words: n,
+            aligned: true,
+        },
+        StackOperation::Sspill(a) => Effect::Stack {
+            control: StackControl::Sspill,
+            words: amount_words(registers, a),
+            aligned: amount_aligned(registers, a),
+        },
+    }
+}
+
+// Where a transfer of this bundle goes.
+fn transfer_of(
+    registers: &[u32],
+    predicates: [bool; 8],
+    specials: Specials,
+    fetch: u32,
+    t: Target,
+) -> Transfer
+    ensures { λ x. ⌜ x ≡ transferOf (start (now (registers .entry)) predicates specials fetch) t ⌝ }
+{
+    match t {
+        Target::Call(n) => Transfer::Call {
+            target: shift_left(n, 2),
+        },
+        Target::CallRegister(r) => Transfer::Call {
+            target: register(registers, r),
+        },
+        Target::Br(words) => Transfer::Br {
+            target: add(fetch, shift_left(word::sign::unsigned(words), 2)),
+        },
+        Target::BrRegister(r) => Transfer::Br {
+            target: register(registers, r),
+        },
+        Target::Brcf(n) => {
+            let base = shift_left(n, 2);
+            Transfer::Block { target: base, base }
+        }
+        Target::BrcfRegister(b, o) => {
+            let base = register(registers, b);
+            let offset = register(registers, o);
+            Transfer::Block {
+                target: add(base, offset),
+                base,
+            }
+        }
+        Target::Ret => {
+            let base = specials.srb;
+            Transfer::Block {
+                target: add(base, specials.sro),
+                base,
+            }
+        }
+    }
+}
+
+// The address of an access: the base register plus the scaled immediate, and for the stack st as well.
+fn address(registers: &[u32], st: u32, kind: AccessKind, scale: u32, ra: u32, offset: u32) -> u32
+    ensures { λ x. ⌜ x ≡ address (now (registers .entry)) st kind scale ra offset ⌝ }
+{
+    let a = add(register(registers, ra), shift_left(offset, scale));
+    access_address(kind, st, a)
+}
+
+// What an operation does.
+fn effect(
+    registers: &[u32],
+    predicates: [bool; 8],
+    specials: Specials,
+    fetch: u32,
+    o: Operation,
+) -> Effect
+    ensures { λ x. ⌜ x ≡ effectOf (start (now (registers .entry)) predicates specials fetch) o ⌝ }
+{
+    match o {
+        Operation::Alu(a) => Effect::Alu(alu_effect(registers, &predicates, a)),
+        Operation::Multiply { function, rs1, rs2 } => {
+            let p = alu::multiply(function, register(registers, rs1), register(registers, rs2));
+            Effect::Product {
+                low: (p % 4294967296) as u32,
+                high: (p / 4294967296) as u32,
+            }
+        }
+        Operation::Mts { special, rs1 } => Effect::Special {
+            special,
+            value: register(registers, rs1),
+        },
+        Operation::Mfs { rd, special } => Effect::Alu(AluEffect::Register {
+            rd,
+            value: read_special(predicates, specials, special),
+        }),
+        Operation::Load {
+            kind,
+            width,
+            rd,
+            ra,
+            offset,
+        } => Effect::Load {
+            kind,
+            width,
+            rd,
+            address: address(registers, specials.st, kind, load_scale(width), ra, offset),
+        },
+        Operation::Store {
+            kind,
+            width,
+            ra,
+            rs,
+            offset,
+        } => Effect::Store {
+            kind,
+            width,
+            address: address(registers, specials.st, kind, store_scale(width), ra, offset),
+            value: register(registers, rs),
+        },
+        Operation::StackControl(operation) => stack_effect(registers, operation),
+        Operation::Transfer { delayed, target } => Effect::Transfer {
+            delayed,
+            transfer: transfer_of(registers, predicates, specials, fetch, target),
+        },
+        Operation::Trap(_) => Effect::Exception,
+        Operation::Xret { delayed: _ } => Effect::Exception,
+    }
+}
+
+// What slot one does: nothing where its guard is false.
+fn slot_one(
+    registers: &[u32],
+    predicates: [bool; 8],
+    specials: Specials,
+    fetch: u32,
+    i: Instruction,
+) -> Effect
+    ensures { λ x. ⌜ x ≡ slotOneEffect (start (now (registers .entry)) predicates specials fetch) i ⌝ }
+{
+    let guard = i.guard;
+    let operation = i.operation;
+    if operand(&predicates, guard) {
+        return effect(registers, predicates, specials, fetch, operation);
+    }
+    Effect::Alu(AluEffect::Nothing)
+}
+
+// A bundle whose slot two does nothing.
+fn alone(one: Effect) -> Effects
+    ensures { λ r. ⌜ r ≡ Effects.Slots one AluEffect.Nothing ⌝ }
+{
+    Effects::Slots {
+        one,
+        two: AluEffect::Nothing,
+    }
+}
+
+// What both slots of a bundle do.
+pub fn effects(
+    registers: &[u32],
+    predicates: [bool; 8],
+    specials: Specials,
+    fetch: u32,
+    b: Bundle,
+) -> Effects
+    ensures { λ x. ⌜ x ≡ effectsOf (start (now (registers .entry)) predicates specials fetch) b ⌝ }
+{
+    match b {
+        Bundle::Undecodable => Effects::Undecodable,
+        Bundle::One(i) => alone(slot_one(registers, predicates, specials, fetch, i)),
+        Bundle::Two(i, j) => {
+            let one = slot_one(registers, predicates, specials, fetch, i);
+            let two = slot_two(registers, &predicates, j);
+            Effects::Slots { one, two }
+        }
+        Bundle::Long(i) => alone(slot_one(registers, predicates, specials, fetch, i)),
+    }
+}

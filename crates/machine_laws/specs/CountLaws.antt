@@ -1,0 +1,105 @@
+-- The counts of one step are small: sums over a run of 2 ^ 32 bundles fit 64 bits.
+use Prim.Native.Nat.{ℕ, zero, suc, _-_, _*_, _/_, _≤_, min}
+use mathlib.Core.Bool.{Bool, true, false, cond, _||_}
+use mathlib.Core.List.{List, [], _∷_}
+use mathlib.Core.Path.{_≡_, refl}
+use native.Mathlib.Omega.{arith}
+use native.Mathlib.Nat.{le-trans}
+use borrow.Author.Tests.{ltb-false}
+use lib.Dec.{ltb}
+use lib.ListN.{length}
+use Rattle.word.specs.Word.{add, sub}
+use Rattle.stack_cache.specs.declared.StackControl.{StackControl}
+use Rattle.stack_cache.specs.declared.StackControl.the-variants.{Sres, Sens, Sfree, Sspill}
+use Rattle.stack_cache.specs.Stack.{badWindow, badAmount, below, spillWhile, fillWhile, spills, fills}
+use Rattle.stack_cache.specs.Count.{Accepted}
+use Rattle.stack_cache.specs.StackLaws.{length-below}
+use Rattle.stack_cache.specs.RangeLaws.{or-right}
+use Rattle.stack_cache.specs.PlanLaws.{accepted-window}
+use Rattle.memory.specs.declared.settings.Settings.{Settings}
+use Rattle.memory.specs.SettingsLaws.{words-small}
+use Rattle.memory.specs.Access.{Buffers}
+use Rattle.effects.specs.declared.effect.Transfer.{Transfer}
+use Rattle.effects.specs.declared.effect.Transfer.the-variants.{Br, Call, Block}
+use Rattle.effects.specs.declared.effect.Effect.{Effect}
+use Rattle.effects.specs.declared.effect.Effect.the-variants as effect
+use Rattle.machine.specs.declared.state.State.{State}
+use Rattle.machine.specs.declared.step.Counts.{Counts}
+use Rattle.machine.specs.Bundle.{undelayedCycles, cyclesOf, spilledBy, filledBy, noCounts, countsOf, lent, step}
+use Rattle.machine_laws.specs.StepCases.{effectAt, step-cases}
+use Rattle.machine_laws.specs.StackKept.{Passed, fine-effect}
+
+-- Each loop moves no more words than it may.
+spillWhile-few : (most w st ss : ℕ) → length (spillWhile most w st ss) ≤ most
+unfolding spillWhile
+spillWhile-few zero w st ss = omega arith
+spillWhile-few (suc most) w st ss = go (ltb (4 * w) (ss - st)) (spillWhile-few most w st (sub ss 4))
+  where
+    go : (t : Bool) → length (spillWhile most w st (sub ss 4)) ≤ most → length (cond t (sub ss 4 ∷ spillWhile most w st (sub ss 4)) []) ≤ suc most
+    go true h = omega (arith, h)
+    go false h = omega arith
+
+fillWhile-few : (most n st ss : ℕ) → length (fillWhile most n st ss) ≤ most
+unfolding fillWhile
+fillWhile-few zero n st ss = omega arith
+fillWhile-few (suc most) n st ss = go (ltb (ss - st) (4 * n)) (fillWhile-few most n st (add ss 4))
+  where
+    go : (t : Bool) → length (fillWhile most n st (add ss 4)) ≤ most → length (cond t (ss ∷ fillWhile most n st (add ss 4)) []) ≤ suc most
+    go true h = omega (arith, h)
+    go false h = omega arith
+
+-- A stack instruction moves W words at most.
+pub spills-few : (c : StackControl) (w st ss n : ℕ) → Accepted c w st ss n → length (spills c w st ss n) ≤ w
+unfolding spills
+spills-few Sres w st ss n a = spillWhile-few w w (st - 4 * n) ss
+spills-few Sens w st ss n a = omega arith
+spills-few Sfree w st ss n a = omega arith
+spills-few Sspill w st ss n a = rw (length-below (min n ((ss - st) / 4)) ss) (omega (arith, accepted-window Sspill w st ss n a .fits))
+
+pub fills-few : (c : StackControl) (w st ss n : ℕ) → Accepted c w st ss n → length (fills c st ss n) ≤ w
+unfolding fills badAmount
+fills-few Sres w st ss n a = omega arith
+fills-few Sens w st ss n a = le-trans (fillWhile-few n n st ss) (ltb-false w n (or-right (badWindow w st ss) (ltb w n) a))
+fills-few Sfree w st ss n a = omega arith
+fills-few Sspill w st ss n a = omega arith
+
+-- Counts of one bundle.
+pub record Small (c : Counts) : Type 0 where
+  pub bundles : c .bundles ≤ 1
+  pub cycles : c .cycles ≤ 4
+  pub spilled : c .spilled ≤ 512
+  pub filled : c .filled ≤ 512
+
+undelayed-small : (t : Transfer) → undelayedCycles t ≤ 4
+undelayed-small (Br target) = omega arith
+undelayed-small (Call target) = omega arith
+undelayed-small (Block target base) = omega arith
+
+effect-small : (g : Settings) (s : State) (e : Effect) → g .words ≤ 512 → Passed g s e → Small (countsOf g s e)
+effect-small g s (effect.Alu a) h p = record { bundles = omega arith; cycles = omega arith; spilled = omega arith; filled = omega arith }
+effect-small g s (effect.Special d v) h p = record { bundles = omega arith; cycles = omega arith; spilled = omega arith; filled = omega arith }
+effect-small g s (effect.Product x y) h p = record { bundles = omega arith; cycles = omega arith; spilled = omega arith; filled = omega arith }
+effect-small g s (effect.Load k w r a) h p = record { bundles = omega arith; cycles = omega arith; spilled = omega arith; filled = omega arith }
+effect-small g s (effect.Store k w a v) h p = record { bundles = omega arith; cycles = omega arith; spilled = omega arith; filled = omega arith }
+effect-small g s (effect.Stack c n m) h p =
+    record {
+      bundles = omega arith;
+      cycles = omega arith;
+      spilled = le-trans (spills-few c (g .words) (s .specials .st) (s .specials .ss) n (p .stack)) h;
+      filled = le-trans (fills-few c (g .words) (s .specials .st) (s .specials .ss) n (p .stack)) h;
+    }
+effect-small g s (effect.Transfer d t) h p = record { bundles = omega arith; cycles = go d; spilled = omega arith; filled = omega arith }
+  where
+    go : (x : Bool) → cond x 1 (undelayedCycles t) ≤ 4
+    go true = omega arith
+    go false = undelayed-small t
+effect-small g s effect.Exception h p = record { bundles = omega arith; cycles = omega arith; spilled = omega arith; filled = omega arith }
+
+nothing-small : Small noCounts
+nothing-small = record { bundles = omega arith; cycles = omega arith; spilled = omega arith; filled = omega arith }
+
+-- So are those of a step, whatever it answers.
+pub step-small : (code : List ℕ) (lo hi : ℕ) (s : State) (b : Buffers) → Small (step code lo hi s b .counts)
+step-small code lo hi s b =
+    step-cases code lo hi s b (λ o. Small (o .counts)) (λ a p. nothing-small)
+    (λ p j. effect-small (lent code lo hi b) s (effectAt code s) (words-small (lent code lo hi b) (p .admitted)) (fine-effect (lent code lo hi b) code s j (effectAt code s) refl))

@@ -1,0 +1,57 @@
+use Rattle.memory.specs.Access.{accessOpen}
+use borrow.Author.Needs.{needs}
+use Rattle.memory.proofs.judge.access_open.Statement.{statement}
+use Rattle.memory.proofs.judge.access_open.Tie as tie
+
+add-end : tie.Need-add-end
+add-end c = search needs
+
+enum-told : tie.Need-enum-told
+enum-told c = search needs
+
+enum-told-2 : tie.Need-enum-told-2
+enum-told-2 c = search needs
+
+enum-told-3 : tie.Need-enum-told-3
+enum-told-3 c = search needs
+
+main-open-requires : tie.Need-main-open-requires
+main-open-requires c κs = search needs
+
+enum-told-4 : tie.Need-enum-told-4
+enum-told-4 c = search needs
+
+main-open-requires-2 : tie.Need-main-open-requires-2
+main-open-requires-2 c κs = search needs
+
+returns : tie.Need-returns
+unfolding accessOpen
+returns c = rw (c .enum-told .given .1)
+
+returns-2 : tie.Need-returns-2
+unfolding accessOpen
+returns-2 c = rw (c .before .enum-told2 .given .1)
+
+returns-3 : tie.Need-returns-3
+unfolding accessOpen
+returns-3 c = rw (c .before .enum-told3 .given .1, ← c .main-open .ensures)
+
+returns-4 : tie.Need-returns-4
+unfolding accessOpen
+returns-4 c = rw (c .before .enum-told4 .given .1, ← c .main-open2 .ensures)
+
+pub access-open-spec : {M : Type 1} → statement M
+access-open-spec =
+    tie.close
+    (tie.spec
+    add-end
+    enum-told
+    enum-told-2
+    enum-told-3
+    main-open-requires
+    enum-told-4
+    main-open-requires-2
+    returns
+    returns-2
+    returns-3
+    returns-4)

@@ -1,0 +1,15 @@
+use borrow.Author.Needs.{needs}
+use Rattle.memory.proofs.judge.judge_load.Statement.{statement}
+use Rattle.memory.proofs.judge.judge_load.Tie as tie
+
+load-size-requires : tie.Need-load-size-requires
+load-size-requires c κs = search needs
+
+judge-requires : tie.Need-judge-requires
+judge-requires c κs = search needs
+
+returns : tie.Need-returns
+returns c = rw (← c .before .load-size .ensures .0) (c .judge .ensures)
+
+pub judge-load-spec : {M : Type 1} → statement M
+judge-load-spec = tie.close (tie.spec load-size-requires judge-requires returns)

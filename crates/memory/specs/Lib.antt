@@ -1,0 +1,4 @@
+pub mod Answer
+pub mod Settings
+pub mod Access
+pub mod SettingsLaws

@@ -1,0 +1,24 @@
+use borrow.Author.Needs.{needs}
+use Rattle.run.proofs.standing.Statement.{statement}
+use Rattle.run.proofs.standing.Tie as tie
+
+enum-known-r : tie.Need-enum-known-r
+enum-known-r c = search needs
+
+enum-told : tie.Need-enum-told
+enum-told c = search needs
+
+enum-told-2 : tie.Need-enum-told-2
+enum-told-2 c = search needs
+
+returns : tie.Need-returns
+returns c = λ s b. rw (c .before .r .given .1)
+
+returns-2 : tie.Need-returns-2
+returns-2 c = λ s b. rw (c .enum-told .given .1)
+
+returns-3 : tie.Need-returns-3
+returns-3 c = λ s b. rw (c .enum-told2 .given .1)
+
+pub standing-spec : {M : Type 1} → statement M
+standing-spec = tie.close (tie.spec enum-known-r enum-told enum-told-2 returns returns-2 returns-3)

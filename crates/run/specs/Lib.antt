@@ -1,0 +1,4 @@
+pub mod Run
+pub mod RunLaws
+pub mod TriesLaws
+pub mod LoopLaws

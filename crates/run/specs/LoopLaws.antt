@@ -1,0 +1,39 @@
+-- One turn of the loop: what a step gives as the code has it, and the run from there on.
+use Prim.Native.Nat.{ℕ, _+_, _-_, _<_}
+use mathlib.Core.Bool.{false}
+use mathlib.Core.List.{List}
+use mathlib.Core.Path.{_≡_, refl, sym, ap, subst, _∙_}
+use native.Mathlib.Omega.{arith}
+use Rattle.memory.specs.Answer.{Returned, done}
+use Rattle.memory.specs.Access.{Buffers}
+use Rattle.machine.specs.declared.state.State.{State}
+use Rattle.machine.specs.declared.step.Answer.{Answer}
+use Rattle.machine.specs.declared.step.Answer.the-variants.{Done}
+use Rattle.machine.specs.declared.step.Counts.{Counts}
+use Rattle.machine.specs.declared.step.Stepped.{Stepped}
+use Rattle.machine.specs.Bundle.{Outcome, outcome, noCounts, returned, full, step}
+use Rattle.machine_laws.specs.StepCases.{isDone}
+use Rattle.machine_laws.specs.CountLaws.{Small, step-small}
+use Rattle.run.specs.Run.{plus, counted, run}
+use Rattle.run.specs.RunLaws.{plus-none, counted-counted, run-stops, run-goes-on}
+
+module _ (code : List ℕ) (lo hi : ℕ) (s : State) (b b′ : Buffers) (r : Stepped) (e : full r b′ ≡ step code lo hi s b) where
+  -- The counts of the step are small.
+  pub step-few : Small (r .counts)
+  step-few = subst (λ (o : Outcome). Small (o .counts)) (sym e) (step-small code lo hi s b)
+
+  -- An answer other than done is the run's, with the counts from before.
+  pub turn-stops : (c : Counts) (left : ℕ) (a : Answer) → 0 < left → r .answer ≡ a → isDone (returned a) ≡ false
+      → outcome (returned a) (r .state) c b′ ≡ counted c (run code lo hi left s b)
+  turn-stops c left a h p q =
+      let n : isDone (returned (r .answer)) ≡ false = ap (λ (x : Answer). isDone (returned x)) p ∙ q in
+      sym (ap (counted c) (run-stops code lo hi left s b (full r b′) h e n)
+      ∙ ap (λ (x : Counts). outcome (returned (r .answer)) (r .state) x b′) (plus-none c)
+      ∙ ap (λ (x : Answer). outcome (returned x) (r .state) c b′) p)
+
+  -- A bundle done is counted, and the rest goes on.
+  pub turn-goes-on : (c : Counts) (left : ℕ) → 0 < left → r .answer ≡ Done
+      → counted (plus c (r .counts)) (run code lo hi (left - 1) (r .state) b′) ≡ counted c (run code lo hi left s b)
+  turn-goes-on c left h p =
+      counted-counted c (r .counts) (run code lo hi (left - 1) (r .state) b′)
+      ∙ ap (counted c) (sym (run-goes-on code lo hi left (left - 1) s b (full r b′) (omega arith) e (ap returned p)))

@@ -1,0 +1,91 @@
+-- A run with a budget: the bundle repeated, and beside it the list of the bundles that it tries.
+use Prim.Native.Nat.{ℕ, zero, suc, _+_}
+use mathlib.Core.Bool.{cond}
+use mathlib.Core.List.{List, [], _∷_}
+use Rattle.memory.specs.Answer.{Returned, accepted, done, ended, spent, refused}
+use Rattle.memory.specs.Access.{Buffers}
+use Rattle.machine.specs.declared.state.State.{State}
+use Rattle.machine.specs.declared.step.Counts.{Counts}
+use Rattle.machine.specs.declared.step.Readiness.{Readiness}
+use Rattle.machine.specs.declared.step.Readiness.the-variants.{Ready, Ended, Refused}
+use Rattle.run.specs.declared.RunAnswer.{RunAnswer}
+use Rattle.run.specs.declared.RunAnswer.the-variants as answer
+use Rattle.run.specs.declared.Ran.{Ran}
+use Rattle.machine.specs.Bundle.{Outcome, outcome, noCounts, readiness, readyOr, lent, step}
+
+-- Counts are summed bundle by bundle.
+abbrev pub plus : Counts → Counts → Counts
+plus c d =
+    record { bundles = c .bundles + d .bundles; cycles = c .cycles + d .cycles; spilled = c .spilled + d .spilled; filled = c .filled + d .filled }
+
+-- By cases: a bundle done, and every other answer.
+abbrev pub ifDone : {A : Type 0} → Returned → A → A → A
+ifDone done a other = a
+ifDone accepted a other = other
+ifDone ended a other = other
+ifDone spent a other = other
+ifDone (refused n) a other = other
+
+-- The outcome with counts from before.
+abbrev pub counted : Counts → Outcome → Outcome
+counted c o = outcome (o .answer) (o .state) (plus c (o .counts)) (o .buffers)
+
+-- A run with no budget left: 1, 11, ended, spent.
+abbrev pub stopped : List ℕ → ℕ → ℕ → State → Buffers → Outcome
+stopped code lo hi s b = readyOr (readiness (lent code lo hi b) s) s b (outcome spent s noCounts b)
+
+-- A run: a bundle that is done is followed by the run of the rest, and any other answer of the step is the run's. "Spent: as many bundles as the budget were done, and ended does not hold."
+unfoldable pub run : List ℕ → ℕ → ℕ → ℕ → State → Buffers → Outcome
+run code lo hi zero s b = stopped code lo hi s b
+run code lo hi (suc k) s b =
+    let o = step code lo hi s b in
+    let rest = run code lo hi k (o .state) (o .buffers) in
+    ifDone (o .answer) (counted (o .counts) rest) o
+
+-- A tried bundle: its fetch address, whether it was done or refused and with which number, the counts so far, and the state and
+-- the buffers after it.
+pub record Tried : Type 0 where
+  pub fetch : ℕ
+  pub answer : Returned
+  pub counts : Counts
+  pub state : State
+  pub buffers : Buffers
+
+abbrev pub triedAt : ℕ → Counts → Outcome → Tried
+triedAt fetch before o = record { fetch = fetch; answer = o .answer; counts = plus before (o .counts); state = o .state; buffers = o .buffers }
+
+-- "A run tries bundles; a refused one counts as tried and is the last. The first gets the state and buffers handed in, each later
+-- one what the one before left." The counts are those of the bundles before.
+abbrev pub whenReady : {A : Type 0} → Readiness → List A → List A
+whenReady Ready l = l
+whenReady Ended l = []
+whenReady (Refused n) l = []
+
+unfoldable pub tries : List ℕ → ℕ → ℕ → ℕ → State → Buffers → Counts → List Tried
+tries code lo hi zero s b before = []
+tries code lo hi (suc k) s b before =
+    let o = step code lo hi s b in
+    let t = triedAt (s .fetch) before o in
+    let rest = tries code lo hi k (o .state) (o .buffers) (t .counts) in
+    whenReady (readiness (lent code lo hi b) s) (t ∷ ifDone (o .answer) rest [])
+
+-- What a list of tried bundles ends in: the refusal of its last, or, where the last was done, ended or spent; with the state, the
+-- buffers and the counts after the last that was done.
+unfoldable pub endOf : List ℕ → ℕ → ℕ → State → Buffers → Counts → List Tried → Outcome
+endOf code lo hi s b before [] = counted before (stopped code lo hi s b)
+endOf code lo hi s b before (t ∷ rest) =
+    ifDone (t .answer) (endOf code lo hi (t .state) (t .buffers) (t .counts) rest) (outcome (t .answer) (t .state) (t .counts) (t .buffers))
+
+-- How many of a list of tried bundles were done.
+unfoldable pub doneIn : List Tried → ℕ
+doneIn [] = 0
+doneIn (t ∷ rest) = ifDone (t .answer) 1 0 + doneIn rest
+
+-- What each answer of the function returns, and the outcome of what it gives back with the buffers that it leaves.
+abbrev pub returned : RunAnswer → Returned
+returned answer.Ended = ended
+returned answer.Spent = spent
+returned (answer.Refused n) = refused n
+
+abbrev pub whole : Ran → Buffers → Outcome
+whole r b = outcome (returned (r .answer)) (r .state) (r .counts) b

@@ -1,0 +1,120 @@
+// A run with a budget.
+ghost use mathlib.Core.Path.{_≡_};
+ghost use Prim.Native.Nat.{_+_, _^_, _<_};
+ghost use Rattle.memory.specs.Access.{Buffers, buffers};
+ghost use Rattle.machine.specs.Bundle.{noCounts, outcome, readiness, readyOr};
+ghost use Rattle.memory.specs.Answer.{spent};
+ghost use Rattle.run.specs.Run.{plus, counted, run, returned, whole};
+use machine::state::State;
+use machine::step::Answer;
+use machine::step::Counts;
+use machine::step::Readiness;
+use memory::settings::Settings;
+
+// What a run answers; Refused holds document 01's number.
+pub enum RunAnswer {
+    Ended,
+    Spent,
+    Refused(u32),
+}
+
+// A run's answer, with the state handed back and the counts of the bundles done.
+pub struct Ran {
+    pub answer: RunAnswer,
+    pub state: State,
+    pub counts: Counts,
+}
+
+fn sum(c: Counts, d: Counts) -> Counts
+    requires { ⌜ (c .bundles + d .bundles < 2 ^ 64) × (c .cycles + d .cycles < 2 ^ 64) × (c .spilled + d .spilled < 2 ^ 64) × (c .filled + d .filled < 2 ^ 64) ⌝ }
+    ensures { λ r. ⌜ r ≡ plus c d ⌝ }
+{
+    Counts {
+        bundles: c.bundles + d.bundles,
+        cycles: c.cycles + d.cycles,
+        spilled: c.spilled + d.spilled,
+        filled: c.filled + d.filled,
+    }
+}
+
+// What a run answers whose budget is used up.
+fn standing(r: Readiness) -> RunAnswer
+    ensures { λ x. ⌜ ((s : State) (b : Buffers) → outcome (returned x) s noCounts b ≡ readyOr r s b (outcome spent s noCounts b)) ⌝ }
+{
+    match r {
+        Readiness::Refused(n) => RunAnswer::Refused(n),
+        Readiness::Ended => RunAnswer::Ended,
+        Readiness::Ready => RunAnswer::Spent,
+    }
+}
+
+// The end of such a run.
+fn stopped(state: State, counts: Counts, g: Settings) -> Ran
+    ensures { λ r. ⌜ ((b : Buffers) → whole r b ≡ counted counts (readyOr (readiness g state) state b (outcome spent state noCounts b))) ⌝ }
+{
+    let answer = standing(state.readiness(g));
+    Ran {
+        answer,
+        state,
+        counts,
+    }
+}
+
+// Bundles from a state on, until the code's end, a refusal or the budget's end.
+pub fn run(
+    start: State,
+    code: &[u8],
+    main: &mut [u8],
+    local: &mut [u8],
+    cache: &mut [u32],
+    lo: u32,
+    hi: u32,
+    budget: u32,
+) -> Ran
+    ensures { λ r. ⌜ whole r (buffers (now (main .exit)) (now (local .exit)) (now (cache .exit))) ≡ run (now (code .entry)) lo hi budget start (buffers (now (main .entry)) (now (local .entry)) (now (cache .entry))) ⌝ }
+{
+    let mut state = start;
+    let mut counts = Counts {
+        bundles: 0,
+        cycles: 0,
+        spilled: 0,
+        filled: 0,
+    };
+    let mut left = budget;
+    while 0 < left {
+        let r = state.step(code, &mut *main, &mut *local, &mut *cache, lo, hi);
+        let answer = r.answer;
+        let next = r.state;
+        let more = r.counts;
+        match answer {
+            Answer::Refused(n) => {
+                return Ran {
+                    answer: RunAnswer::Refused(n),
+                    state: next,
+                    counts,
+                };
+            }
+            Answer::Ended => {
+                return Ran {
+                    answer: RunAnswer::Ended,
+                    state: next,
+                    counts,
+                };
+            }
+            Answer::Done => {
+                state = next;
+                counts = sum(counts, more);
+                left = left - 1;
+            }
+        }
+    }
+    let g = Settings {
+        code: code.len(),
+        main: main.len(),
+        local: local.len(),
+        words: cache.len(),
+        lo,
+        hi,
+    };
+    stopped(state, counts, g)
+}
