@@ -2,7 +2,7 @@
 use Prim.Native.Nat.{ℕ}
 use mathlib.Core.Bool.{Bool, true, false, cond}
 use mathlib.Core.Option.{Option, none, some}
-use mathlib.Core.Path.{_≡_, refl}
+use mathlib.Core.Path.{_≡_, refl, ap}
 use native.Mathlib.Omega.{arith}
 use Rattle.decoder.specs.Format.{reading}
 use Rattle.decoder.specs.Formats.{longFormats}
@@ -35,6 +35,22 @@ words-two first = go (isTwoWords first)
 pub decode-alone : (first s t : ℕ) → bundleWords first ≡ 1 → decode first s ≡ decode first t
 unfolding decode
 decode-alone first s t e = rw (words-one first e)
+
+-- What is decoded, by whether it is a long immediate.
+pub decode-by-long : (first second : ℕ) (r : Option AluOperation) → cond (isTwoWords first) (applied (reading longFormats first) second) none ≡ r
+    → decode first second ≡ long (guardOf first) r (cond (isTwoWords first) (two (guardOf first) (slotOne first) (guardOf second) (slotTwo second)) (one (guardOf first) (slotOne first)))
+unfolding decode
+decode-by-long first second r = go (isTwoWords first)
+  where
+    go : (t : Bool) → cond t (applied (reading longFormats first) second) none ≡ r
+        → cond t (long (guardOf first) (applied (reading longFormats first) second) (two (guardOf first) (slotOne first) (guardOf second) (slotTwo second))) (one (guardOf first) (slotOne first))
+        ≡ long (guardOf first) r (cond t (two (guardOf first) (slotOne first) (guardOf second) (slotTwo second)) (one (guardOf first) (slotOne first)))
+    go true e = ap (λ (x : Option AluOperation). long (guardOf first) x (two (guardOf first) (slotOne first) (guardOf second) (slotTwo second))) e
+    go false e = ap (λ (x : Option AluOperation). long (guardOf first) x (one (guardOf first) (slotOne first))) e
+
+pub either-way : (t : Bool) (b : Bundle) → cond t b b ≡ b
+either-way true b = refl
+either-way false b = refl
 
 -- The number of words that a decoded bundle has. Of an undecodable one nothing is said.
 abbrev pub HasWords : ℕ → Bundle → Type 0

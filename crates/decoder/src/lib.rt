@@ -6,7 +6,11 @@ pub mod instruction;
 mod tables;
 
 ghost use mathlib.Core.Path.{_≡_};
-ghost use Rattle.decoder.specs.Decode.{bundleWords, guardOf, slotOne, slotTwo, one, two, decode};
+ghost use mathlib.Core.Bool.{cond};
+ghost use mathlib.Core.Option.{none};
+ghost use Rattle.decoder.specs.Format.{reading};
+ghost use Rattle.decoder.specs.Formats.{longFormats};
+ghost use Rattle.decoder.specs.Decode.{isTwoWords, bundleWords, guardOf, slotOne, slotTwo, applied, decode};
 ghost use Rattle.decoder.specs.Readings.{aluFound, found};
 use alu_formats::AluReading;
 use first_formats::Reading;
@@ -50,52 +54,42 @@ fn slot_two(w: u32) -> AluReading
     alu_formats::read_alu(w)
 }
 
-// A bundle of one word.
-fn decode_one(w: u32) -> Bundle
-    ensures { λ r. ⌜ r ≡ one (guardOf w) (slotOne w) ⌝ }
+// A long immediate, which needs a bundle of two words.
+fn long(first: u32, second: u32) -> AluReading
+    ensures { λ r. ⌜ aluFound r ≡ cond (isTwoWords first) (applied (reading longFormats first) second) none ⌝ }
 {
-    let Reading::Found(operation) = slot_one(w) else {
-        return Bundle::Undecodable;
-    };
-    Bundle::One(Instruction {
-        guard: guard_of(w),
-        operation,
-    })
-}
-
-// A bundle of two instructions.
-fn decode_two(first: u32, second: u32) -> Bundle
-    ensures { λ r. ⌜ r ≡ two (guardOf first) (slotOne first) (guardOf second) (slotTwo second) ⌝ }
-{
-    let Reading::Found(operation) = slot_one(first) else {
-        return Bundle::Undecodable;
-    };
-    let AluReading::Found(other) = slot_two(second) else {
-        return Bundle::Undecodable;
-    };
-    let one = Instruction {
-        guard: guard_of(first),
-        operation,
-    };
-    let two = AluInstruction {
-        guard: guard_of(second),
-        operation: other,
-    };
-    Bundle::Two(one, two)
+    if bundle_words(first) == 1 {
+        return AluReading::Nothing;
+    }
+    alu_formats::read_long(first, second)
 }
 
 // The bundle that a first and a second word encode. Where the first says that it is alone the second does not matter.
 pub fn decode(first: u32, second: u32) -> Bundle
     ensures { λ r. ⌜ r ≡ decode first second ⌝ }
 {
-    if bundle_words(first) == 1 {
-        return decode_one(first);
-    }
-    if let AluReading::Found(operation) = alu_formats::read_long(first, second) {
+    if let AluReading::Found(operation) = long(first, second) {
         return Bundle::Long(Instruction {
             guard: guard_of(first),
             operation: Operation::Alu(operation),
         });
     }
-    decode_two(first, second)
+    let Reading::Found(operation) = slot_one(first) else {
+        return Bundle::Undecodable;
+    };
+    let one = Instruction {
+        guard: guard_of(first),
+        operation,
+    };
+    if bundle_words(first) == 1 {
+        return Bundle::One(one);
+    }
+    let AluReading::Found(other) = slot_two(second) else {
+        return Bundle::Undecodable;
+    };
+    let two = AluInstruction {
+        guard: guard_of(second),
+        operation: other,
+    };
+    Bundle::Two(one, two)
 }

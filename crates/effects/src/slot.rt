@@ -1,6 +1,8 @@
 // What the slots of a bundle do: their operations read in the state at the start of the bundle.
 ghost use mathlib.Core.Path.{_≡_};
-ghost use Rattle.effects.specs.Effect.{start, accessAddress, address, amountWords, amountAligned, stackEffect, transferOf, effectOf, slotOneEffect, effectsOf};
+ghost use Rattle.effects.specs.Effect.{start, accessAddress, address, amountWords, amountAligned, stackEffect, transferOf, effectOf, slotOneEffect, slotTwo, effectsOf};
+ghost use Prim.Native.Nat.{ℕ};
+ghost use Rattle.effects.specs.EffectLaws.{firstOf};
 use crate::effect::AluEffect;
 use crate::effect::Effect;
 use crate::effect::Effects;
@@ -214,13 +216,32 @@ fn slot_one(
     Effect::Alu(AluEffect::Nothing)
 }
 
-// A bundle whose slot two does nothing.
-fn alone(one: Effect) -> Effects
-    ensures { λ r. ⌜ r ≡ Effects.Slots one AluEffect.Nothing ⌝ }
+// The instruction of slot one, if the bundle has a meaning.
+pub enum First {
+    Undecodable,
+    Slot(Instruction),
+}
+
+fn first_slot(b: Bundle) -> First
+    ensures { λ r. ⌜ r ≡ firstOf b ⌝ }
 {
-    Effects::Slots {
-        one,
-        two: AluEffect::Nothing,
+    match b {
+        Bundle::Undecodable => First::Undecodable,
+        Bundle::One(i) => First::Slot(i),
+        Bundle::Two(i, _) => First::Slot(i),
+        Bundle::Long(i) => First::Slot(i),
+    }
+}
+
+// What slot two of a bundle does; nothing where it has none.
+fn second<'a>(registers: &'a [u32], predicates: &'a [bool], b: Bundle) -> AluEffect
+    ensures { λ x. ⌜ ((specials : Specials) (fetch : ℕ) → x ≡ slotTwo (start (now (registers .entry)) (now (predicates .entry)) specials fetch) b) ⌝ }
+{
+    match b {
+        Bundle::Undecodable => AluEffect::Nothing,
+        Bundle::One(_) => AluEffect::Nothing,
+        Bundle::Two(_, j) => slot_two(registers, predicates, j),
+        Bundle::Long(_) => AluEffect::Nothing,
     }
 }
 
@@ -234,14 +255,12 @@ pub fn effects(
 ) -> Effects
     ensures { λ x. ⌜ x ≡ effectsOf (start (now (registers .entry)) predicates specials fetch) b ⌝ }
 {
-    match b {
-        Bundle::Undecodable => Effects::Undecodable,
-        Bundle::One(i) => alone(slot_one(registers, predicates, specials, fetch, i)),
-        Bundle::Two(i, j) => {
+    match first_slot(b) {
+        First::Undecodable => Effects::Undecodable,
+        First::Slot(i) => {
             let one = slot_one(registers, predicates, specials, fetch, i);
-            let two = slot_two(registers, &predicates, j);
+            let two = second(registers, &predicates, b);
             Effects::Slots { one, two }
         }
-        Bundle::Long(i) => alone(slot_one(registers, predicates, specials, fetch, i)),
     }
 }

@@ -3,7 +3,7 @@ use Prim.Native.Nat.{ℕ, _^_}
 use mathlib.Core.Bool.{Bool, true, false, not, cond, _||_}
 use lib.ListN.{length}
 use mathlib.Core.List.{List}
-use mathlib.Core.Path.{_≡_, refl, ap}
+use mathlib.Core.Path.{_≡_, refl, ap, _∙_}
 use Rattle.decoder.specs.declared.instruction.AccessKind.{AccessKind}
 use Rattle.decoder.specs.declared.instruction.LoadWidth.{LoadWidth}
 use Rattle.decoder.specs.declared.instruction.StoreWidth.{StoreWidth}
@@ -22,9 +22,10 @@ use Rattle.effects.specs.declared.effect.Effect.the-variants as effect
 use Rattle.memory.specs.declared.judge.Verdict.{Verdict}
 use Rattle.memory.specs.declared.judge.Verdict.the-variants.{Fine, Refused}
 use Rattle.machine.specs.State.{noneWaits, withStack, landed}
-use Rattle.memory.specs.Access.{loadScale, storeScale, buffers, verdict, accessVerdict}
+use Rattle.machine.specs.declared.step.Stepped.{Stepped}
+use Rattle.memory.specs.Access.{loadScale, storeScale, Buffers, buffers, verdict, accessVerdict}
 use Rattle.machine.specs.Refusal.{effectTests}
-use Rattle.machine.specs.Bundle.{full, written, writeOne, writeAlu, nearer, buffersAfter, stackMoved}
+use Rattle.machine.specs.Bundle.{Outcome, full, written, writeOne, writeAlu, nearer, buffersAfter, stackMoved}
 use Rattle.machine.specs.Execute.{doneWith, executed, Moved}
 
 pub load-tests : (g : Settings) (s : State) (k : AccessKind) (w : LoadWidth) (r a : ℕ)
@@ -79,3 +80,10 @@ unfolding executed written writeOne buffersAfter stackMoved
 stack-done g s c n m two following main local cache main′ cache′ st′ ss′ j k p e v =
     let t = planned-told c (g .words) (g .lo) (g .hi) (s .specials .st) (s .specials .ss) n st′ ss′ j k e in
     rw (stack-tests g s c n m, p, e, ← t .top, ← t .spill, ← t .spilled, ← t .filled, t .words-below, t .words-above, ← v .memory, ← v .words)
+
+-- equal results with the same buffers
+pub full-same : (x y : Stepped) (b : Buffers) → x ≡ y → full x b ≡ full y b
+full-same x y b e = ap (λ (r : Stepped). full r b) e
+
+pub full-then : (x y : Stepped) (b : Buffers) (o : Outcome) → x ≡ y → full y b ≡ o → full x b ≡ o
+full-then x y b o e f = full-same x y b e ∙ f

@@ -1,4 +1,5 @@
 pub mod State
+pub mod Core
 pub mod Refusal
 pub mod Bundle
 pub mod Open

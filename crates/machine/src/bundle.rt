@@ -1,17 +1,21 @@
 // One bundle fetched, decoded, and done or refused; and the step, which judges settings and state before it.
 ghost use mathlib.Core.Path.{_≡_};
-ghost use mathlib.Core.Bool.{true};
+ghost use mathlib.Core.Bool.{Bool, true};
+ghost use mathlib.Core.List.{List};
 ghost use lib.ListN.{length};
-ghost use Prim.Native.Nat.{_<_, _≤_};
+ghost use Prim.Native.Nat.{ℕ, _<_, _≤_};
+ghost use Rattle.machine.specs.Core.{joined, steppedAs};
 ghost use Rattle.decoder.specs.Decode.{bundleWords};
 ghost use Rattle.memory.specs.Settings.{admits};
 ghost use Rattle.memory.specs.Access.{buffers};
 ghost use Rattle.machine.specs.State.{loadOk, waitOk, noneWaits, wellFormed, ended};
 ghost use Rattle.machine.specs.Bundle.{full, bundle, readiness, step};
 ghost use Rattle.machine.specs.Execute.{fetched};
+use crate::core::Core;
 use crate::state::State;
 use crate::state::WaitingLoad;
 use crate::state::WaitingTransfer;
+use crate::step::Advanced;
 use crate::step::Readiness;
 use crate::step::Stepped;
 use effects::effect::AluEffect;
@@ -60,27 +64,32 @@ fn none_waits(w: WaitingTransfer) -> bool
     }
 }
 
-impl State {
+impl Core {
     // Whether refusal 11 does not describe the state.
-    fn is_well_formed(self) -> bool
-        ensures { λ r. ⌜ r ≡ wellFormed self ⌝ }
+    fn is_well_formed(self, registers: &[u32; 32], predicates: &[bool; 8]) -> bool
+        ensures { λ r. ⌜ r ≡ wellFormed (joined (now (registers .entry)) (now (predicates .entry)) self) ⌝ }
     {
         let load = self.load;
         let transfer = self.transfer;
-        ((self.registers[0] == 0) & self.predicates[0]) & (load_ok(load) & wait_ok(transfer))
+        ((registers[0] == 0) & predicates[0]) & (load_ok(load) & wait_ok(transfer))
     }
 
     fn has_ended(self, code: usize) -> bool
-        ensures { λ r. ⌜ r ≡ ended self code ⌝ }
+        ensures { λ r. ⌜ ((rs : List ℕ) (ps : List Bool) → r ≡ ended (joined rs ps self) code) ⌝ }
     {
         let transfer = self.transfer;
         (self.fetch as usize == code) & none_waits(transfer)
     }
 
     // The bundle at the fetch address, read and told as what its slots do.
-    fn fetch_bundle(self, code: &[u8]) -> Fetched
+    fn fetch_bundle<'a>(
+        self,
+        registers: &'a [u32; 32],
+        predicates: &'a [bool; 8],
+        code: &'a [u8],
+    ) -> Fetched
         requires { ⌜ length (now code) ≤ 65536 ⌝ }
-        ensures { λ r. ⌜ r ≡ fetched (now (code .entry)) self ⌝ }
+        ensures { λ r. ⌜ r ≡ fetched (now (code .entry)) (joined (now (registers .entry)) (now (predicates .entry)) self) ⌝ }
     {
         let fetch = self.fetch;
         if fetch % 4 != 0 {
@@ -93,9 +102,8 @@ impl State {
         }
         let following = end as u32;
         let b = decoder::decode(first, read_word(code, fetch + 4));
-        let predicates = self.predicates;
         let specials = self.specials;
-        match effects::slot::effects(&self.registers, predicates, specials, fetch, b) {
+        match effects::slot::effects(registers, *predicates, specials, fetch, b) {
             Effects::Undecodable => Fetched::Refused(3),
             Effects::Slots { one, two } => Fetched::Slots {
                 one,
@@ -108,33 +116,47 @@ impl State {
     // The bundle at the fetch address, done or refused.
     fn bundle(
         self,
+        registers: &mut [u32; 32],
+        predicates: &mut [bool; 8],
         g: Settings,
         code: &[u8],
         main: &mut [u8],
         local: &mut [u8],
         cache: &mut [u32],
-    ) -> Stepped
+    ) -> Advanced
         requires { ⌜ (admits g ≡ true) × (g .main ≡ length (now main)) × (g .code ≡ length (now code)) ⌝ }
-        ensures { λ r. ⌜ full r (buffers (now (main .exit)) (now (local .exit)) (now (cache .exit))) ≡ bundle g (now (code .entry)) self (buffers (now (main .entry)) (now (local .entry)) (now (cache .entry))) ⌝ }
+        ensures { λ r. ⌜ full (steppedAs (now (registers .exit)) (now (predicates .exit)) r) (buffers (now (main .exit)) (now (local .exit)) (now (cache .exit))) ≡ bundle g (now (code .entry)) (joined (now (registers .entry)) (now (predicates .entry)) self) (buffers (now (main .entry)) (now (local .entry)) (now (cache .entry))) ⌝ }
     {
-        match self.fetch_bundle(code) {
+        match self.fetch_bundle(&*registers, &*predicates, code) {
             Fetched::Refused(n) => self.refused(n),
             Fetched::Slots {
                 one,
                 two,
                 following,
-            } => { self.execute(g, one, two, following, &mut *main, &mut *local, &mut *cache) }
+            } => {
+                self.execute(
+                    &mut *registers,
+                    &mut *predicates,
+                    g,
+                    one,
+                    two,
+                    following,
+                    &mut *main,
+                    &mut *local,
+                    &mut *cache,
+                )
+            }
         }
     }
 
     // What is judged before a bundle is tried: the settings, the state, and whether it has ended.
-    pub fn readiness(self, g: Settings) -> Readiness
-        ensures { λ r. ⌜ r ≡ readiness g self ⌝ }
+    pub fn readiness(self, registers: &[u32; 32], predicates: &[bool; 8], g: Settings) -> Readiness
+        ensures { λ r. ⌜ r ≡ readiness g (joined (now (registers .entry)) (now (predicates .entry)) self) ⌝ }
     {
         if !g.admits() {
             return Readiness::Refused(1);
         }
-        if !self.is_well_formed() {
+        if !self.is_well_formed(registers, predicates) {
             return Readiness::Refused(11);
         }
         if self.has_ended(g.code) {
@@ -143,6 +165,45 @@ impl State {
         Readiness::Ready
     }
 
+    // One step, with the registers and predicates lent.
+    pub fn step(
+        self,
+        registers: &mut [u32; 32],
+        predicates: &mut [bool; 8],
+        code: &[u8],
+        main: &mut [u8],
+        local: &mut [u8],
+        cache: &mut [u32],
+        lo: u32,
+        hi: u32,
+    ) -> Advanced
+        ensures { λ r. ⌜ full (steppedAs (now (registers .exit)) (now (predicates .exit)) r) (buffers (now (main .exit)) (now (local .exit)) (now (cache .exit))) ≡ step (now (code .entry)) lo hi (joined (now (registers .entry)) (now (predicates .entry)) self) (buffers (now (main .entry)) (now (local .entry)) (now (cache .entry))) ⌝ }
+    {
+        let g = Settings {
+            code: code.len(),
+            main: main.len(),
+            local: local.len(),
+            words: cache.len(),
+            lo,
+            hi,
+        };
+        match self.readiness(&*registers, &*predicates, g) {
+            Readiness::Refused(n) => self.refused(n),
+            Readiness::Ended => self.ended(),
+            Readiness::Ready => self.bundle(
+                &mut *registers,
+                &mut *predicates,
+                g,
+                code,
+                &mut *main,
+                &mut *local,
+                &mut *cache,
+            ),
+        }
+    }
+}
+
+impl State {
     // One step: settings and state are judged, an ended state is left as it is, and else the bundle is done or refused.
     pub fn step(
         self,
@@ -155,18 +216,25 @@ impl State {
     ) -> Stepped
         ensures { λ r. ⌜ full r (buffers (now (main .exit)) (now (local .exit)) (now (cache .exit))) ≡ step (now (code .entry)) lo hi self (buffers (now (main .entry)) (now (local .entry)) (now (cache .entry))) ⌝ }
     {
-        let g = Settings {
-            code: code.len(),
-            main: main.len(),
-            local: local.len(),
-            words: cache.len(),
+        let mut registers = self.registers;
+        let mut predicates = self.predicates;
+        let r = self.core().step(
+            &mut registers,
+            &mut predicates,
+            code,
+            &mut *main,
+            &mut *local,
+            &mut *cache,
             lo,
             hi,
-        };
-        match self.readiness(g) {
-            Readiness::Refused(n) => self.refused(n),
-            Readiness::Ended => self.ended(),
-            Readiness::Ready => self.bundle(g, code, &mut *main, &mut *local, &mut *cache),
+        );
+        let answer = r.answer;
+        let counts = r.counts;
+        let core = r.core;
+        Stepped {
+            answer,
+            state: State::join(registers, predicates, core),
+            counts,
         }
     }
 }

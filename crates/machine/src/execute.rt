@@ -7,11 +7,13 @@ ghost use lib.ListN.{length};
 ghost use Rattle.memory.specs.Settings.{admits};
 ghost use Rattle.memory.specs.Access.{Buffers, buffers};
 ghost use Rattle.machine.specs.Bundle.{full, writeAlu, nearer, undelayedCycles};
+ghost use Rattle.machine.specs.Core.{joined, steppedAs};
 ghost use Rattle.machine.specs.Execute.{doneWith, executed, Moved};
-use crate::state::State;
+use crate::core::Core;
 use crate::state::WaitingLoad;
 use crate::state::WaitingTransfer;
-use crate::step::Stepped;
+use crate::step::Advanced;
+use crate::step::write_alu;
 use decoder::instruction::AccessKind;
 use decoder::instruction::LoadWidth;
 use decoder::instruction::StoreWidth;
@@ -26,17 +28,27 @@ use stack_cache::StackControl;
 use stack_cache::moves::fill;
 use stack_cache::moves::spill;
 
-impl State {
+impl Core {
     // The end of a bundle of one cycle that begins no transfer and moves no stack word: slot two is written and a transfer
     // that waits comes nearer.
-    fn finish(self, waiting: WaitingTransfer, two: AluEffect, following: u32) -> Stepped
-        ensures { λ r. ⌜ r ≡ doneWith (nearer waiting following (writeAlu two self)) 1 0 0 ⌝ }
+    fn finish(
+        self,
+        registers: &mut [u32; 32],
+        predicates: &mut [bool; 8],
+        waiting: WaitingTransfer,
+        two: AluEffect,
+        following: u32,
+    ) -> Advanced
+        ensures { λ r. ⌜ steppedAs (now (registers .exit)) (now (predicates .exit)) r ≡ doneWith (nearer waiting following (writeAlu two (joined (now (registers .entry)) (now (predicates .entry)) self))) 1 0 0 ⌝ }
     {
-        self.write_alu(two).nearer(waiting, following).done(1, 0, 0)
+        write_alu(&mut *registers, &mut *predicates, two);
+        self.nearer(waiting, following).done(1, 0, 0)
     }
 
     fn do_load(
         self,
+        registers: &mut [u32; 32],
+        predicates: &mut [bool; 8],
         g: Settings,
         kind: AccessKind,
         width: LoadWidth,
@@ -47,8 +59,8 @@ impl State {
         main: &[u8],
         local: &[u8],
         cache: &[u32],
-    ) -> Stepped
-        ensures { λ r. ⌜ full r (buffers (now (main .entry)) (now (local .entry)) (now (cache .entry))) ≡ executed g self (Effect.Load kind width rd address) two following (buffers (now (main .entry)) (now (local .entry)) (now (cache .entry))) ⌝ }
+    ) -> Advanced
+        ensures { λ r. ⌜ full (steppedAs (now (registers .exit)) (now (predicates .exit)) r) (buffers (now (main .entry)) (now (local .entry)) (now (cache .entry))) ≡ executed g (joined (now (registers .entry)) (now (predicates .entry)) self) (Effect.Load kind width rd address) two following (buffers (now (main .entry)) (now (local .entry)) (now (cache .entry))) ⌝ }
     {
         let st = self.specials.st;
         let ss = self.specials.ss;
@@ -68,13 +80,15 @@ impl State {
             register: rd,
             value,
         };
-        self.land_load()
+        self.land_load(&mut *registers)
             .with_load(load)
-            .finish(waiting, two, following)
+            .finish(&mut *registers, &mut *predicates, waiting, two, following)
     }
 
     fn do_store(
         self,
+        registers: &mut [u32; 32],
+        predicates: &mut [bool; 8],
         g: Settings,
         kind: AccessKind,
         width: StoreWidth,
@@ -85,8 +99,8 @@ impl State {
         main: &mut [u8],
         local: &mut [u8],
         cache: &mut [u32],
-    ) -> Stepped
-        ensures { λ r. ⌜ full r (buffers (now (main .exit)) (now (local .exit)) (now (cache .exit))) ≡ executed g self (Effect.Store kind width address value) two following (buffers (now (main .entry)) (now (local .entry)) (now (cache .entry))) ⌝ }
+    ) -> Advanced
+        ensures { λ r. ⌜ full (steppedAs (now (registers .exit)) (now (predicates .exit)) r) (buffers (now (main .exit)) (now (local .exit)) (now (cache .exit))) ≡ executed g (joined (now (registers .entry)) (now (predicates .entry)) self) (Effect.Store kind width address value) two following (buffers (now (main .entry)) (now (local .entry)) (now (cache .entry))) ⌝ }
     {
         let st = self.specials.st;
         let ss = self.specials.ss;
@@ -110,11 +124,14 @@ impl State {
             value,
         );
         let waiting = self.transfer;
-        self.land_load().finish(waiting, two, following)
+        self.land_load(&mut *registers)
+            .finish(&mut *registers, &mut *predicates, waiting, two, following)
     }
 
     fn do_stack(
         self,
+        registers: &mut [u32; 32],
+        predicates: &mut [bool; 8],
         g: Settings,
         control: StackControl,
         words: u32,
@@ -123,9 +140,9 @@ impl State {
         following: u32,
         main: &mut [u8],
         cache: &mut [u32],
-    ) -> Stepped
+    ) -> Advanced
         requires { ⌜ (admits g ≡ true) × (g .main ≡ length (now main)) ⌝ }
-        ensures { λ r. ⌜ ((l : List ℕ) → full r (buffers (now (main .exit)) l (now (cache .exit))) ≡ executed g self (Effect.Stack control words aligned) two following (buffers (now (main .entry)) l (now (cache .entry)))) ⌝ }
+        ensures { λ r. ⌜ ((l : List ℕ) → full (steppedAs (now (registers .exit)) (now (predicates .exit)) r) (buffers (now (main .exit)) l (now (cache .exit))) ≡ executed g (joined (now (registers .entry)) (now (predicates .entry)) self) (Effect.Stack control words aligned) two following (buffers (now (main .entry)) l (now (cache .entry)))) ⌝ }
     {
         if !aligned {
             return self.refused(5);
@@ -143,7 +160,8 @@ impl State {
             } => {
                 move_words(&mut *main, &mut *cache, g.lo, g.hi, old, spilled, filled);
                 let waiting = self.transfer;
-                let onto = self.land_load().write_stack(st, ss).write_alu(two);
+                let onto = self.land_load(&mut *registers).write_stack(st, ss);
+                write_alu(&mut *registers, &mut *predicates, two);
                 onto.nearer(waiting, following)
                     .done(1, wide(spilled), wide(filled))
             }
@@ -153,6 +171,8 @@ impl State {
     // A decoded bundle, whose slots have these effects, done or refused.
     pub(crate) fn execute(
         self,
+        registers: &mut [u32; 32],
+        predicates: &mut [bool; 8],
         g: Settings,
         one: Effect,
         two: AluEffect,
@@ -160,23 +180,25 @@ impl State {
         main: &mut [u8],
         local: &mut [u8],
         cache: &mut [u32],
-    ) -> Stepped
+    ) -> Advanced
         requires { ⌜ (admits g ≡ true) × (g .main ≡ length (now main)) ⌝ }
-        ensures { λ r. ⌜ full r (buffers (now (main .exit)) (now (local .exit)) (now (cache .exit))) ≡ executed g self one two following (buffers (now (main .entry)) (now (local .entry)) (now (cache .entry))) ⌝ }
+        ensures { λ r. ⌜ full (steppedAs (now (registers .exit)) (now (predicates .exit)) r) (buffers (now (main .exit)) (now (local .exit)) (now (cache .exit))) ≡ executed g (joined (now (registers .entry)) (now (predicates .entry)) self) one two following (buffers (now (main .entry)) (now (local .entry)) (now (cache .entry))) ⌝ }
     {
         let waiting = self.transfer;
         match one {
-            Effect::Alu(a) => self.land_load()
-                .write_alu(a)
-                .finish(waiting, two, following),
-            Effect::Special { special, value } => {
-                self.land_load()
-                    .write_special(special, value)
-                    .finish(waiting, two, following)
+            Effect::Alu(a) => {
+                let onto = self.land_load(&mut *registers);
+                write_alu(&mut *registers, &mut *predicates, a);
+                onto.finish(&mut *registers, &mut *predicates, waiting, two, following)
             }
-            Effect::Product { low, high } => self.land_load()
+            Effect::Special { special, value } => {
+                self.land_load(&mut *registers)
+                    .write_special(&mut *predicates, special, value)
+                    .finish(&mut *registers, &mut *predicates, waiting, two, following)
+            }
+            Effect::Product { low, high } => self.land_load(&mut *registers)
                 .write_product(low, high)
-                .finish(waiting, two, following),
+                .finish(&mut *registers, &mut *predicates, waiting, two, following),
             Effect::Load {
                 kind,
                 width,
@@ -184,6 +206,8 @@ impl State {
                 address,
             } => {
                 self.do_load(
+                    &mut *registers,
+                    &mut *predicates,
                     g,
                     kind,
                     width,
@@ -203,6 +227,8 @@ impl State {
                 value,
             } => {
                 self.do_store(
+                    &mut *registers,
+                    &mut *predicates,
                     g,
                     kind,
                     width,
@@ -221,6 +247,8 @@ impl State {
                 aligned,
             } => {
                 self.do_stack(
+                    &mut *registers,
+                    &mut *predicates,
                     g,
                     control,
                     words,
@@ -232,6 +260,8 @@ impl State {
                 )
             }
             Effect::Transfer { delayed, transfer } => self.do_transfer(
+                &mut *registers,
+                &mut *predicates,
                 g,
                 delayed,
                 transfer,
@@ -244,13 +274,15 @@ impl State {
 
     fn do_transfer(
         self,
+        registers: &mut [u32; 32],
+        predicates: &mut [bool; 8],
         g: Settings,
         delayed: bool,
         transfer: Transfer,
         two: AluEffect,
         following: u32,
-    ) -> Stepped
-        ensures { λ r. ⌜ ((b : Buffers) → full r b ≡ executed g self (Effect.Transfer delayed transfer) two following b) ⌝ }
+    ) -> Advanced
+        ensures { λ r. ⌜ ((b : Buffers) → full (steppedAs (now (registers .exit)) (now (predicates .exit)) r) b ≡ executed g (joined (now (registers .entry)) (now (predicates .entry)) self) (Effect.Transfer delayed transfer) two following b) ⌝ }
     {
         let waiting = self.transfer;
         if let WaitingTransfer::Waits {
@@ -260,10 +292,9 @@ impl State {
             return self.refused(4);
         }
         let cycles = transfer_cycles(delayed, transfer);
-        self.land_load()
-            .write_alu(two)
-            .begin(delayed, transfer, following)
-            .done(cycles, 0, 0)
+        let onto = self.land_load(&mut *registers);
+        write_alu(&mut *registers, &mut *predicates, two);
+        onto.begin(delayed, transfer, following).done(cycles, 0, 0)
     }
 }
 

@@ -1,10 +1,11 @@
 // Writing the special registers.
 ghost use mathlib.Core.Path.{_≡_};
-ghost use mathlib.Core.Bool.{true};
-ghost use mathlib.Core.List.{_∷_};
-ghost use Prim.Native.Nat.{_/_};
+ghost use mathlib.Core.Bool.{Bool, true};
+ghost use mathlib.Core.List.{List, _∷_};
+ghost use Prim.Native.Nat.{ℕ, _/_};
+ghost use Rattle.machine.specs.Core.{joined};
 ghost use Rattle.machine.specs.State.{predicatesOf, withSpecial, withProduct, withStack};
-use crate::state::State;
+use crate::core::Core;
 use decoder::instruction::Special;
 
 // The predicates that a word written to s0 makes: p0 is true, p1 to p7 are bits 1 to 7.
@@ -30,14 +31,13 @@ fn predicates_of(v: u32) -> [bool; 8]
     ]
 }
 
-impl State {
-    pub(crate) fn write_special(mut self, s: Special, v: u32) -> State
-        ensures { λ r. ⌜ r ≡ withSpecial self s v ⌝ }
+impl Core {
+    pub(crate) fn write_special(mut self, predicates: &mut [bool; 8], s: Special, v: u32) -> Core
+        ensures { λ r. ⌜ ((rs : List ℕ) → joined rs (now (predicates .exit)) r ≡ withSpecial (joined rs (now (predicates .entry)) self) s v) ⌝ }
     {
         match s {
             Special::S0 => {
-                let predicates = predicates_of(v);
-                self.predicates = predicates;
+                *predicates = predicates_of(v);
                 self
             }
             Special::Sl => {
@@ -75,16 +75,16 @@ impl State {
         }
     }
 
-    pub(crate) fn write_product(mut self, low: u32, high: u32) -> State
-        ensures { λ r. ⌜ r ≡ withProduct self low high ⌝ }
+    pub(crate) fn write_product(mut self, low: u32, high: u32) -> Core
+        ensures { λ r. ⌜ ((rs : List ℕ) (ps : List Bool) → joined rs ps r ≡ withProduct (joined rs ps self) low high) ⌝ }
     {
         self.specials.sl = low;
         self.specials.sh = high;
         self
     }
 
-    pub(crate) fn write_stack(mut self, st: u32, ss: u32) -> State
-        ensures { λ r. ⌜ r ≡ withStack self st ss ⌝ }
+    pub(crate) fn write_stack(mut self, st: u32, ss: u32) -> Core
+        ensures { λ r. ⌜ ((rs : List ℕ) (ps : List Bool) → joined rs ps r ≡ withStack (joined rs ps self) st ss) ⌝ }
     {
         self.specials.st = st;
         self.specials.ss = ss;

@@ -1,6 +1,9 @@
 // The state of the core, by value, and what is done to it.
 ghost use mathlib.Core.Path.{_≡_};
-ghost use Rattle.machine.specs.State.{withRegister, withPredicate, withLoad, landed, goingOn, transferred};
+ghost use Rattle.machine.specs.State.{withRegister, landed, transferred};
+ghost use Rattle.machine.specs.Core.{joined};
+use crate::core::Core;
+use crate::core::write_register;
 use effects::effect::Transfer;
 use effects::special::Specials;
 
@@ -27,47 +30,14 @@ pub struct State {
 }
 
 impl State {
-    // A register written; r0 stays zero.
-    pub fn write_register(mut self, r: u32, v: u32) -> State
-        ensures { λ x. ⌜ x ≡ withRegister self r v ⌝ }
+    // The state beside registers and predicates.
+    pub fn core(self) -> Core
+        ensures { λ x. ⌜ joined (self .registers) (self .predicates) x ≡ self ⌝ }
     {
-        if r == 0 {
-            return self;
-        }
-        let k = r as usize;
-        if k < 32 {
-            self.registers[k] = v;
-            return self;
-        }
-        self
-    }
-
-    // A predicate written; p0 stays true.
-    pub(crate) fn write_predicate(mut self, p: u32, v: bool) -> State
-        ensures { λ x. ⌜ x ≡ withPredicate self p v ⌝ }
-    {
-        if p == 0 {
-            return self;
-        }
-        let k = p as usize;
-        if k < 8 {
-            self.predicates[k] = v;
-            return self;
-        }
-        self
-    }
-
-    // The waiting load replaced.
-    pub(crate) fn with_load(self, load: WaitingLoad) -> State
-        ensures { λ x. ⌜ x ≡ withLoad self load ⌝ }
-    {
-        let registers = self.registers;
-        let predicates = self.predicates;
         let specials = self.specials;
         let transfer = self.transfer;
-        State {
-            registers,
-            predicates,
+        let load = self.load;
+        Core {
             specials,
             fetch: self.fetch,
             base: self.base,
@@ -76,57 +46,54 @@ impl State {
         }
     }
 
-    // The load waiting from the bundle before is written, and waits no more.
-    pub fn land_load(self) -> State
-        ensures { λ x. ⌜ x ≡ landed self ⌝ }
+    // The state of its three parts.
+    pub fn join(registers: [u32; 32], predicates: [bool; 8], core: Core) -> State
+        ensures { λ x. ⌜ x ≡ joined registers predicates core ⌝ }
     {
-        let load = self.load;
-        match load {
-            WaitingLoad::Nothing => self,
-            WaitingLoad::Waits { register, value } => {
-                self.write_register(register, value)
-                    .with_load(WaitingLoad::Nothing)
-            }
-        }
-    }
-
-    // Going on at an address, with a transfer that waits or none.
-    pub(crate) fn go_on(self, fetch: u32, transfer: WaitingTransfer) -> State
-        ensures { λ x. ⌜ x ≡ goingOn self fetch transfer ⌝ }
-    {
-        let registers = self.registers;
-        let predicates = self.predicates;
-        let specials = self.specials;
-        let load = self.load;
+        let specials = core.specials;
+        let transfer = core.transfer;
+        let load = core.load;
         State {
             registers,
             predicates,
             specials,
-            fetch,
-            base: self.base,
+            fetch: core.fetch,
+            base: core.base,
             transfer,
             load,
         }
     }
 
+    // A register written; r0 stays zero.
+    pub fn write_register(self, r: u32, v: u32) -> State
+        ensures { λ x. ⌜ x ≡ withRegister self r v ⌝ }
+    {
+        let mut registers = self.registers;
+        let predicates = self.predicates;
+        write_register(&mut registers, r, v);
+        State::join(registers, predicates, self.core())
+    }
+
+    // The load waiting from the bundle before is written, and waits no more.
+    pub fn land_load(self) -> State
+        ensures { λ x. ⌜ x ≡ landed self ⌝ }
+    {
+        let mut registers = self.registers;
+        let predicates = self.predicates;
+        let core = self.core().land_load(&mut registers);
+        State::join(registers, predicates, core)
+    }
+
     // A transfer carried out at the end of a bundle, whose following address a call keeps, relative to the old base.
-    pub fn transfer(mut self, transfer: Transfer, following: u32) -> State
+    pub fn transfer(self, transfer: Transfer, following: u32) -> State
         ensures { λ x. ⌜ x ≡ transferred self transfer following ⌝ }
     {
-        match transfer {
-            Transfer::Br { target } => self.go_on(target, WaitingTransfer::Nothing),
-            Transfer::Call { target } => {
-                let base = self.base;
-                let offset = word::arithmetic::sub(following, base);
-                self.specials.srb = base;
-                self.specials.sro = offset;
-                self.base = target;
-                self.go_on(target, WaitingTransfer::Nothing)
-            }
-            Transfer::Block { target, base } => {
-                self.base = base;
-                self.go_on(target, WaitingTransfer::Nothing)
-            }
-        }
+        let registers = self.registers;
+        let predicates = self.predicates;
+        State::join(
+            registers,
+            predicates,
+            self.core().transfer(transfer, following),
+        )
     }
 }

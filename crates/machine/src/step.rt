@@ -1,8 +1,14 @@
 // What a step gives, and the end of a bundle.
 ghost use mathlib.Core.Path.{_≡_};
-ghost use Prim.Native.Nat.{_<_};
+ghost use mathlib.Core.Bool.{Bool};
+ghost use mathlib.Core.List.{List};
+ghost use Prim.Native.Nat.{ℕ};
+ghost use Rattle.machine.specs.Core.{joined, steppedAs};
 ghost use Rattle.machine.specs.Bundle.{writeAlu, delaySlots, nearer, begun};
 ghost use Rattle.machine.specs.Execute.{refusedWith, endedWith, doneWith};
+use crate::core::Core;
+use crate::core::write_predicate;
+use crate::core::write_register;
 use crate::state::State;
 use crate::state::WaitingTransfer;
 use effects::effect::AluEffect;
@@ -37,6 +43,13 @@ pub struct Stepped {
     pub counts: Counts,
 }
 
+// The same beside the registers and predicates, which were lent.
+pub struct Advanced {
+    pub answer: Answer,
+    pub core: Core,
+    pub counts: Counts,
+}
+
 // How many bundles a delayed transfer waits.
 fn delay_slots(t: Transfer) -> u32
     ensures { λ r. ⌜ r ≡ delaySlots t ⌝ }
@@ -48,21 +61,21 @@ fn delay_slots(t: Transfer) -> u32
     }
 }
 
-impl State {
-    // What a slot's ALU effect writes.
-    pub(crate) fn write_alu(self, e: AluEffect) -> State
-        ensures { λ r. ⌜ r ≡ writeAlu e self ⌝ }
-    {
-        match e {
-            AluEffect::Nothing => self,
-            AluEffect::Register { rd, value } => self.write_register(rd, value),
-            AluEffect::Predicate { pd, value } => self.write_predicate(pd, value),
-        }
+// What a slot's ALU effect writes.
+pub(crate) fn write_alu(registers: &mut [u32; 32], predicates: &mut [bool; 8], e: AluEffect)
+    ensures { λ _. ⌜ ((c : Core) → joined (now (registers .exit)) (now (predicates .exit)) c ≡ writeAlu e (joined (now (registers .entry)) (now (predicates .entry)) c)) ⌝ }
+{
+    match e {
+        AluEffect::Nothing => {}
+        AluEffect::Register { rd, value } => write_register(&mut *registers, rd, value),
+        AluEffect::Predicate { pd, value } => write_predicate(&mut *predicates, pd, value),
     }
+}
 
+impl Core {
     // A transfer that waits comes one bundle nearer, and is carried out when it falls due.
-    pub(crate) fn nearer(self, waiting: WaitingTransfer, following: u32) -> State
-        ensures { λ r. ⌜ r ≡ nearer waiting following self ⌝ }
+    pub(crate) fn nearer(self, waiting: WaitingTransfer, following: u32) -> Core
+        ensures { λ r. ⌜ ((rs : List ℕ) (ps : List Bool) → joined rs ps r ≡ nearer waiting following (joined rs ps self)) ⌝ }
     {
         match waiting {
             WaitingTransfer::Nothing => self.go_on(following, WaitingTransfer::Nothing),
@@ -83,8 +96,8 @@ impl State {
     }
 
     // A transfer of this bundle: it waits for its delay slots, or is carried out at once.
-    pub(crate) fn begin(self, delayed: bool, transfer: Transfer, following: u32) -> State
-        ensures { λ r. ⌜ r ≡ begun delayed transfer following self ⌝ }
+    pub(crate) fn begin(self, delayed: bool, transfer: Transfer, following: u32) -> Core
+        ensures { λ r. ⌜ ((rs : List ℕ) (ps : List Bool) → joined rs ps r ≡ begun delayed transfer following (joined rs ps self)) ⌝ }
     {
         if delayed {
             let wait = delay_slots(transfer);
@@ -94,12 +107,12 @@ impl State {
     }
 
     // A refused bundle changes nothing and counts nothing.
-    pub(crate) fn refused(self, n: u32) -> Stepped
-        ensures { λ r. ⌜ r ≡ refusedWith self n ⌝ }
+    pub(crate) fn refused(self, n: u32) -> Advanced
+        ensures { λ r. ⌜ ((rs : List ℕ) (ps : List Bool) → steppedAs rs ps r ≡ refusedWith (joined rs ps self) n) ⌝ }
     {
-        Stepped {
+        Advanced {
             answer: Answer::Refused(n),
-            state: self,
+            core: self,
             counts: Counts {
                 bundles: 0,
                 cycles: 0,
@@ -110,12 +123,12 @@ impl State {
     }
 
     // A step on an ended state changes nothing and counts nothing.
-    pub(crate) fn ended(self) -> Stepped
-        ensures { λ r. ⌜ r ≡ endedWith self ⌝ }
+    pub(crate) fn ended(self) -> Advanced
+        ensures { λ r. ⌜ ((rs : List ℕ) (ps : List Bool) → steppedAs rs ps r ≡ endedWith (joined rs ps self)) ⌝ }
     {
-        Stepped {
+        Advanced {
             answer: Answer::Ended,
-            state: self,
+            core: self,
             counts: Counts {
                 bundles: 0,
                 cycles: 0,
@@ -125,12 +138,12 @@ impl State {
         }
     }
 
-    pub(crate) fn done(self, cycles: u64, spilled: u64, filled: u64) -> Stepped
-        ensures { λ r. ⌜ r ≡ doneWith self cycles spilled filled ⌝ }
+    pub(crate) fn done(self, cycles: u64, spilled: u64, filled: u64) -> Advanced
+        ensures { λ r. ⌜ ((rs : List ℕ) (ps : List Bool) → steppedAs rs ps r ≡ doneWith (joined rs ps self) cycles spilled filled) ⌝ }
     {
-        Stepped {
+        Advanced {
             answer: Answer::Done,
-            state: self,
+            core: self,
             counts: Counts {
                 bundles: 1,
                 cycles,

@@ -1,21 +1,24 @@
 -- One turn of the loop: what a step gives as the code has it, and the run from there on.
-use Prim.Native.Nat.{ℕ, _+_, _-_, _<_}
+use Prim.Native.Nat.{ℕ, _+_, _-_, _≤_, _<_}
 use mathlib.Core.Bool.{false}
 use mathlib.Core.List.{List}
 use mathlib.Core.Path.{_≡_, refl, sym, ap, subst, _∙_}
 use native.Mathlib.Omega.{arith}
-use Rattle.memory.specs.Answer.{Returned, done}
+use Rattle.memory.specs.Answer.{Returned, done, spent}
 use Rattle.memory.specs.Access.{Buffers}
 use Rattle.machine.specs.declared.state.State.{State}
 use Rattle.machine.specs.declared.step.Answer.{Answer}
 use Rattle.machine.specs.declared.step.Answer.the-variants.{Done}
 use Rattle.machine.specs.declared.step.Counts.{Counts}
 use Rattle.machine.specs.declared.step.Stepped.{Stepped}
-use Rattle.machine.specs.Bundle.{Outcome, outcome, noCounts, returned, full, step}
+use Rattle.machine.specs.declared.step.Readiness.{Readiness}
+use Rattle.machine.specs.Bundle.{Outcome, outcome, noCounts, returned, full, readiness, readyOr, lent, step}
 use Rattle.machine_laws.specs.StepCases.{isDone}
 use Rattle.machine_laws.specs.CountLaws.{Small, step-small}
+use Rattle.run.specs.declared.RunAnswer.{RunAnswer}
+use Rattle.run.specs.Run as run
 use Rattle.run.specs.Run.{plus, counted, run}
-use Rattle.run.specs.RunLaws.{plus-none, counted-counted, run-stops, run-goes-on}
+use Rattle.run.specs.RunLaws.{plus-none, counted-counted, run-none, run-stops, run-goes-on}
 
 module _ (code : List ℕ) (lo hi : ℕ) (s : State) (b b′ : Buffers) (r : Stepped) (e : full r b′ ≡ step code lo hi s b) where
   -- The counts of the step are small.
@@ -37,3 +40,11 @@ module _ (code : List ℕ) (lo hi : ℕ) (s : State) (b b′ : Buffers) (r : Ste
   turn-goes-on c left h p =
       counted-counted c (r .counts) (run code lo hi (left - 1) (r .state) b′)
       ∙ ap (counted c) (sym (run-goes-on code lo hi left (left - 1) s b (full r b′) (omega arith) e (ap returned p)))
+
+-- The end of a run whose budget is used up, by what the function answers there.
+pub turn-spent : (code : List ℕ) (lo hi : ℕ) (s : State) (b : Buffers) (c : Counts) (left : ℕ) (a : RunAnswer) (r : Readiness) → r ≡ readiness (lent code lo hi b) s
+    → ((t : State) (d : Buffers) → outcome (run.returned a) t noCounts d ≡ readyOr r t d (outcome spent t noCounts d)) → left ≤ 0
+    → outcome (run.returned a) s c b ≡ counted c (run code lo hi left s b)
+turn-spent code lo hi s b c left a r e f h =
+    sym (ap (λ (x : Counts). outcome (run.returned a) s x b) (plus-none c))
+    ∙ ap (counted c) (f s b ∙ ap (λ (x : Readiness). readyOr x s b (outcome spent s noCounts b)) e ∙ sym (run-none code lo hi left s b h))

@@ -2,9 +2,11 @@
 ghost use mathlib.Core.Path.{_≡_};
 ghost use Prim.Native.Nat.{_+_, _^_, _<_};
 ghost use Rattle.memory.specs.Access.{Buffers, buffers};
-ghost use Rattle.machine.specs.Bundle.{noCounts, outcome, readiness, readyOr};
+ghost use Rattle.machine.specs.Bundle.{noCounts, outcome, readyOr};
+ghost use Rattle.machine.specs.Core.{joined};
 ghost use Rattle.memory.specs.Answer.{spent};
-ghost use Rattle.run.specs.Run.{plus, counted, run, returned, whole};
+ghost use Rattle.run.specs.Run.{plus, run, returned, whole};
+use machine::core::Core;
 use machine::state::State;
 use machine::step::Answer;
 use machine::step::Counts;
@@ -48,11 +50,17 @@ fn standing(r: Readiness) -> RunAnswer
     }
 }
 
-// The end of such a run.
-fn stopped(state: State, counts: Counts, g: Settings) -> Ran
-    ensures { λ r. ⌜ ((b : Buffers) → whole r b ≡ counted counts (readyOr (readiness g state) state b (outcome spent state noCounts b))) ⌝ }
+// What a run gives back.
+fn result(
+    answer: RunAnswer,
+    registers: [u32; 32],
+    predicates: [bool; 8],
+    core: Core,
+    counts: Counts,
+) -> Ran
+    ensures { λ r. ⌜ ((b : Buffers) → whole r b ≡ outcome (returned answer) (joined registers predicates core) counts b) ⌝ }
 {
-    let answer = standing(state.readiness(g));
+    let state = State::join(registers, predicates, core);
     Ran {
         answer,
         state,
@@ -60,7 +68,7 @@ fn stopped(state: State, counts: Counts, g: Settings) -> Ran
     }
 }
 
-// Bundles from a state on, until the code's end, a refusal or the budget's end.
+// Bundles from a state on, until the code's end, a refusal or the budget's end. The registers and predicates are lent to each.
 pub fn run(
     start: State,
     code: &[u8],
@@ -73,7 +81,9 @@ pub fn run(
 ) -> Ran
     ensures { λ r. ⌜ whole r (buffers (now (main .exit)) (now (local .exit)) (now (cache .exit))) ≡ run (now (code .entry)) lo hi budget start (buffers (now (main .entry)) (now (local .entry)) (now (cache .entry))) ⌝ }
 {
-    let mut state = start;
+    let mut registers = start.registers;
+    let mut predicates = start.predicates;
+    let mut core = start.core();
     let mut counts = Counts {
         bundles: 0,
         cycles: 0,
@@ -82,27 +92,28 @@ pub fn run(
     };
     let mut left = budget;
     while 0 < left {
-        let r = state.step(code, &mut *main, &mut *local, &mut *cache, lo, hi);
+        let r = core.step(
+            &mut registers,
+            &mut predicates,
+            code,
+            &mut *main,
+            &mut *local,
+            &mut *cache,
+            lo,
+            hi,
+        );
         let answer = r.answer;
-        let next = r.state;
+        let next = r.core;
         let more = r.counts;
         match answer {
             Answer::Refused(n) => {
-                return Ran {
-                    answer: RunAnswer::Refused(n),
-                    state: next,
-                    counts,
-                };
+                return result(RunAnswer::Refused(n), registers, predicates, next, counts);
             }
             Answer::Ended => {
-                return Ran {
-                    answer: RunAnswer::Ended,
-                    state: next,
-                    counts,
-                };
+                return result(RunAnswer::Ended, registers, predicates, next, counts);
             }
             Answer::Done => {
-                state = next;
+                core = next;
                 counts = sum(counts, more);
                 left = left - 1;
             }
@@ -116,5 +127,6 @@ pub fn run(
         lo,
         hi,
     };
-    stopped(state, counts, g)
+    let answer = standing(core.readiness(&registers, &predicates, g));
+    result(answer, registers, predicates, core, counts)
 }

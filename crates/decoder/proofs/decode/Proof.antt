@@ -1,21 +1,12 @@
-use Rattle.decoder.specs.Decode.{decode}
-use Rattle.decoder.specs.DecodeLaws.{words-one, words-two}
+use Rattle.decoder.specs.Decode.{isTwoWords}
+use mathlib.Core.Path.{sym}
+use Rattle.decoder.specs.DecodeLaws.{words-one, words-two, decode-by-long, either-way}
 use borrow.Author.Needs.{needs}
 use Rattle.decoder.proofs.decode.Statement.{statement}
 use Rattle.decoder.proofs.decode.Tie as tie
 
-bundle-words-requires : tie.Need-bundle-words-requires
-bundle-words-requires c κs = search needs
-
-decode-one-requires : tie.Need-decode-one-requires
-decode-one-requires c κs = search needs
-
-returns : tie.Need-returns
-unfolding decode
-returns c = rw (words-one (c .before .before .before .args .first) (rw (c .before .before .bundle-words .ensures) at (c .before .if1 .taken))) (c .decode-one .ensures)
-
-read-long-requires : tie.Need-read-long-requires
-read-long-requires c κs = search needs
+long-requires : tie.Need-long-requires
+long-requires c κs = search needs
 
 enum-known-operation : tie.Need-enum-known-operation
 enum-known-operation c = search needs
@@ -23,31 +14,70 @@ enum-known-operation c = search needs
 guard-of-requires : tie.Need-guard-of-requires
 guard-of-requires c κs = search needs
 
-returns-2 : tie.Need-returns-2
-unfolding decode
-returns-2 c = rw (words-two (c .before .before .before .before .before .before .before .args .first) (rw (c .before .before .before .before .before .before .bundle-words .ensures) at (c .before .before .before .before .before .if1 .left)), ← c .before .before .before .before .read-long .ensures, c .before .before .operation .given .1, c .guard-of .ensures)
+returns : tie.Need-returns
+returns c = rw (decode-by-long (c .before .before .before .before .before .args .first) (c .before .before .before .before .before .args .second) _ (sym (c .before .before .before .before .long .ensures)), c .before .before .operation .given .1, c .guard-of .ensures)
 
 enum-told : tie.Need-enum-told
 enum-told c = search needs
 
-decode-two-requires : tie.Need-decode-two-requires
-decode-two-requires c κs = search needs
+slot-one-requires : tie.Need-slot-one-requires
+slot-one-requires c κs = search needs
+
+enum-known-operation-2 : tie.Need-enum-known-operation-2
+enum-known-operation-2 c = search needs
+
+enum-told-2 : tie.Need-enum-told-2
+enum-told-2 c = search needs
+
+returns-2 : tie.Need-returns-2
+returns-2 c = rw (decode-by-long (c .before .before .before .before .before .before .args .first) (c .before .before .before .before .before .before .args .second) _ (sym (c .before .before .before .before .before .long .ensures)), c .before .before .before .enum-told .given .1, ← c .before .before .slot-one .ensures, c .enum-told2 .given .1) (sym (either-way (isTwoWords (c .before .before .before .before .before .before .args .first)) _))
+
+guard-of-requires-2 : tie.Need-guard-of-requires-2
+guard-of-requires-2 c κs = search needs
+
+bundle-words-requires : tie.Need-bundle-words-requires
+bundle-words-requires c κs = search needs
 
 returns-3 : tie.Need-returns-3
-unfolding decode
-returns-3 c = rw (words-two (c .before .before .before .before .before .before .args .first) (rw (c .before .before .before .before .before .bundle-words .ensures) at (c .before .before .before .before .if1 .left)), ← c .before .before .before .read-long .ensures, c .before .enum-told .given .1) (c .decode-two .ensures)
+returns-3 c = rw (decode-by-long (c .before .before .before .before .before .before .before .before .before .before .args .first) (c .before .before .before .before .before .before .before .before .before .before .args .second) _ (sym (c .before .before .before .before .before .before .before .before .before .long .ensures)), c .before .before .before .before .before .before .before .enum-told .given .1, ← c .before .before .before .before .before .before .slot-one .ensures, c .before .before .before .before .operation2 .given .1, words-one (c .before .before .before .before .before .before .before .before .before .before .args .first) (rw (c .before .bundle-words .ensures) at (c .if1 .taken)), c .before .before .guard-of2 .ensures)
+
+slot-two-requires : tie.Need-slot-two-requires
+slot-two-requires c κs = search needs
+
+enum-known-other : tie.Need-enum-known-other
+enum-known-other c = search needs
+
+enum-told-3 : tie.Need-enum-told-3
+enum-told-3 c = search needs
+
+returns-4 : tie.Need-returns-4
+returns-4 c = rw (decode-by-long (c .before .before .before .before .before .before .before .before .before .before .before .before .before .args .first) (c .before .before .before .before .before .before .before .before .before .before .before .before .before .args .second) _ (sym (c .before .before .before .before .before .before .before .before .before .before .before .before .long .ensures)), c .before .before .before .before .before .before .before .before .before .before .enum-told .given .1, ← c .before .before .before .before .before .before .before .before .before .slot-one .ensures, c .before .before .before .before .before .before .before .operation2 .given .1, words-two (c .before .before .before .before .before .before .before .before .before .before .before .before .before .args .first) (rw (c .before .before .before .before .bundle-words .ensures) at (c .before .before .before .if1 .left)), ← c .before .before .slot-two .ensures, c .enum-told3 .given .1)
+
+guard-of-requires-3 : tie.Need-guard-of-requires-3
+guard-of-requires-3 c κs = search needs
+
+returns-5 : tie.Need-returns-5
+returns-5 c = rw (decode-by-long (c .before .before .before .before .before .before .before .before .before .before .before .before .before .before .before .args .first) (c .before .before .before .before .before .before .before .before .before .before .before .before .before .before .before .args .second) _ (sym (c .before .before .before .before .before .before .before .before .before .before .before .before .before .before .long .ensures)), c .before .before .before .before .before .before .before .before .before .before .before .before .enum-told .given .1, ← c .before .before .before .before .before .before .before .before .before .before .before .slot-one .ensures, c .before .before .before .before .before .before .before .before .before .operation2 .given .1, words-two (c .before .before .before .before .before .before .before .before .before .before .before .before .before .before .before .args .first) (rw (c .before .before .before .before .before .before .bundle-words .ensures) at (c .before .before .before .before .before .if1 .left)), ← c .before .before .before .before .slot-two .ensures, c .before .before .other .given .1, c .guard-of3 .ensures, c .before .before .before .before .before .before .before .guard-of2 .ensures)
 
 pub decode-spec : {M : Type 1} → statement M
 decode-spec =
     tie.close
     (tie.spec
-    bundle-words-requires
-    decode-one-requires
-    returns
-    read-long-requires
+    long-requires
     enum-known-operation
     guard-of-requires
-    returns-2
+    returns
     enum-told
-    decode-two-requires
-    returns-3)
+    slot-one-requires
+    enum-known-operation-2
+    enum-told-2
+    returns-2
+    guard-of-requires-2
+    bundle-words-requires
+    returns-3
+    slot-two-requires
+    enum-known-other
+    enum-told-3
+    returns-4
+    guard-of-requires-3
+    returns-5)

@@ -1,52 +1,24 @@
+use Prim.Native.Nat.{ℕ}
+use mathlib.Core.List.{List}
+use mathlib.Core.Bool.{Bool}
+use mathlib.Core.Path.{_≡_, sym, ap, _∙_}
+use Rattle.machine.specs.declared.state.State.{State}
 use Rattle.machine.specs.State.{transferred}
 use borrow.Author.Needs.{needs}
 use Rattle.machine.proofs.state.State.transfer.Statement.{statement}
 use Rattle.machine.proofs.state.State.transfer.Tie as tie
 
-enum-known-transfer : tie.Need-enum-known-transfer
-enum-known-transfer c = search needs
+core-requires : tie.Need-core-requires
+core-requires c κs = search needs
 
-go-on-requires : tie.Need-go-on-requires
-go-on-requires c κs = search needs
+transfer-requires : tie.Need-transfer-requires
+transfer-requires c κs = search needs
 
-enum-known-transfer-2 : tie.Need-enum-known-transfer-2
-enum-known-transfer-2 c = search needs
-
-sub-requires : tie.Need-sub-requires
-sub-requires c κs = search needs
-
-go-on-requires-2 : tie.Need-go-on-requires-2
-go-on-requires-2 c κs = search needs
-
-enum-known-transfer-3 : tie.Need-enum-known-transfer-3
-enum-known-transfer-3 c = search needs
-
-go-on-requires-3 : tie.Need-go-on-requires-3
-go-on-requires-3 c κs = search needs
+join-requires : tie.Need-join-requires
+join-requires c κs = search needs
 
 returns : tie.Need-returns
-unfolding transferred
-returns c = rw (c .before .before .transfer .given .1) (c .go-on .ensures)
-
-returns-2 : tie.Need-returns-2
-unfolding transferred
-returns-2 c = rw (c .before .before .before .before .before .transfer2 .given .1, ← c .before .before .before .sub .ensures) (c .go-on2 .ensures)
-
-returns-3 : tie.Need-returns-3
-unfolding transferred
-returns-3 c = rw (c .before .before .transfer3 .given .1) (c .go-on3 .ensures)
+returns c = let a = c .before .before .before .before .before .args in c .join .ensures ∙ c .before .transfer .ensures _ _ ∙ ap (λ (s : State). transferred s (a .transfer) (a .following)) (c .before .before .core .ensures)
 
 pub transfer-spec : {M : Type 1} → statement M
-transfer-spec =
-    tie.close
-    (tie.spec
-    enum-known-transfer
-    go-on-requires
-    enum-known-transfer-2
-    sub-requires
-    go-on-requires-2
-    enum-known-transfer-3
-    go-on-requires-3
-    returns
-    returns-2
-    returns-3)
+transfer-spec = tie.close (tie.spec core-requires transfer-requires join-requires returns)

@@ -1,32 +1,36 @@
-use borrow.Author.Tests.{eq-eqb, ne-eqb, lt-ltb, le-ltb, le-leb, lt-leb, not-true, not-false}
-use Rattle.machine.specs.State.{withRegister, state}
-use mathlib.Core.Path.{_≡_, _∙_, ap, sym}
-use lib.Seq.{set-out}
-use lib.ListN.{length}
-use mathlib.Core.List.{List}
 use Prim.Native.Nat.{ℕ}
+use mathlib.Core.List.{List}
 use mathlib.Core.Bool.{Bool}
+use mathlib.Core.Path.{_≡_, refl, sym, ap, _∙_}
+use Rattle.machine.specs.declared.state.State.{State}
+use Rattle.machine.specs.State.{withRegister}
+use Rattle.machine.specs.Core.{joined}
 use borrow.Author.Needs.{needs}
 use Rattle.machine.proofs.state.State.write_register.Statement.{statement}
 use Rattle.machine.proofs.state.State.write_register.Tie as tie
 
+slice-aggregate-write-register : tie.Need-slice-aggregate-write-register
+slice-aggregate-write-register c = search needs
+
+write-register-requires : tie.Need-write-register-requires
+write-register-requires c κs = search needs
+
+core-requires : tie.Need-core-requires
+core-requires c κs = search needs
+
+join-requires : tie.Need-join-requires
+join-requires c κs = search needs
+
 returns : tie.Need-returns
 unfolding withRegister
-returns c = rw (c .if1 .taken)
-
-mul-self : tie.Need-mul-self
-mul-self c = search needs
-
-element-write-self : tie.Need-element-write-self
-element-write-self c = search needs
-
-returns-2 : tie.Need-returns-2
-unfolding withRegister
-returns-2 c = rw (ne-eqb _ _ (c .before .if1 .left))
-
-returns-3 : tie.Need-returns-3
-unfolding withRegister
-returns-3 c = let s = c .before .before .args .t1 in let n : length (s .registers) ≡ 32 = search needs in rw (ne-eqb _ _ (c .before .if1 .left)) (ap (λ (l : List ℕ). state l (s .predicates) (s .specials) (s .fetch) (s .base) (s .transfer) (s .load)) (sym (set-out _ _ _ (rw n (c .if2 .left)))))
+returns c = let a = c .before .before .before .before .before .before .before .args in c .join .ensures ∙ ap (λ (l : List ℕ). joined l (a .self .predicates) (c .before .core .result)) (c .before .before .before .write-register .ensures) ∙ ap (λ (s : State). withRegister s (a .r) (a .v)) (c .before .core .ensures)
 
 pub write-register-spec : {M : Type 1} → statement M
-write-register-spec = tie.close (tie.spec returns mul-self element-write-self returns-2 returns-3)
+write-register-spec =
+    tie.close
+    (tie.spec
+    slice-aggregate-write-register
+    write-register-requires
+    core-requires
+    join-requires
+    returns)

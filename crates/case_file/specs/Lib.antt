@@ -1,0 +1,4 @@
+pub mod Number
+pub mod NumberLaws
+pub mod Field
+pub mod FieldLaws

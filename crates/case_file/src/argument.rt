@@ -1,0 +1,84 @@
+// The fields after a line's keyword.
+use crate::field::next_field;
+use crate::keyword::Item;
+use crate::keyword::marking_item;
+use crate::number::Number;
+use crate::number::decimal;
+use crate::number::word;
+use crate::reason::Reason;
+
+// A number or word, and the place after its field.
+pub enum Argument {
+    Value { value: u32, next: usize },
+    Mistake(Reason),
+}
+
+// The next entry of a code line.
+pub enum CodeEntry {
+    Word { word: u32, next: usize },
+    Mistake(Reason),
+    End,
+}
+
+// The next entry of a private line.
+pub enum PrivateEntry {
+    Item { item: Item, next: usize },
+    Mistake(Reason),
+    End,
+}
+
+// Whether no field is left.
+pub fn ended(line: &[u8], at: usize) -> bool {
+    let f = next_field(line, at);
+    f.start == f.end
+}
+
+pub fn number_at(line: &[u8], at: usize) -> Argument {
+    let f = next_field(line, at);
+    let start = f.start;
+    let end = f.end;
+    if start == end {
+        return Argument::Mistake(Reason::FieldMissing);
+    }
+    match decimal(&line[start..end]) {
+        Number::Value(value) => Argument::Value { value, next: end },
+        Number::Bad => Argument::Mistake(Reason::NotANumber),
+    }
+}
+
+pub fn word_at(line: &[u8], at: usize) -> Argument {
+    let f = next_field(line, at);
+    let start = f.start;
+    let end = f.end;
+    if start == end {
+        return Argument::Mistake(Reason::FieldMissing);
+    }
+    match word(&line[start..end]) {
+        Number::Value(value) => Argument::Value { value, next: end },
+        Number::Bad => Argument::Mistake(Reason::NotAWord),
+    }
+}
+
+pub fn code_entry(line: &[u8], at: usize) -> CodeEntry {
+    if ended(line, at) {
+        return CodeEntry::End;
+    }
+    match word_at(line, at) {
+        Argument::Value { value, next } => CodeEntry::Word { word: value, next },
+        Argument::Mistake(r) => CodeEntry::Mistake(r),
+    }
+}
+
+pub fn private_entry(line: &[u8], at: usize) -> PrivateEntry {
+    let f = next_field(line, at);
+    let start = f.start;
+    let end = f.end;
+    if start == end {
+        return PrivateEntry::End;
+    }
+    let item = marking_item(&line[start..end]);
+    if let Item::Unknown = item {
+        return PrivateEntry::Mistake(Reason::NoSuchItem);
+    }
+    PrivateEntry::Item { item, next: end }
+}

@@ -1,0 +1,23 @@
+// Why a line is a mistake.
+pub enum Reason {
+    UnknownWord,
+    FieldMissing,
+    FieldTooMany,
+    NotANumber,
+    NotAWord,
+    NotAName,
+    NotABit,
+    NoSuchRegister,
+    NoSuchPredicate,
+    NoSuchSpecial,
+    NoSuchTransfer,
+    NoSuchItem,
+    LineTooLong,
+    BeforeFirstCase,
+    AfterOperation,
+    Repeated,
+    TooMuchCode,
+    TooMuchMemory,
+    PlaceOutside,
+    NoCheck,
+}

@@ -1,0 +1,44 @@
+use borrow.Author.Needs.{needs}
+use Rattle.effects.proofs.slot.second.Statement.{statement}
+use Rattle.effects.proofs.slot.second.Tie as tie
+
+enum-told : tie.Need-enum-told
+enum-told c = search needs
+
+enum-told-2 : tie.Need-enum-told-2
+enum-told-2 c = search needs
+
+enum-known-b : tie.Need-enum-known-b
+enum-known-b c = search needs
+
+slot-two-requires : tie.Need-slot-two-requires
+slot-two-requires c κs = search needs
+
+enum-told-3 : tie.Need-enum-told-3
+enum-told-3 c = search needs
+
+returns : tie.Need-returns
+returns c = λ x f. rw (c .enum-told .given .1)
+
+returns-2 : tie.Need-returns-2
+returns-2 c = λ x f. rw (c .enum-told2 .given .1)
+
+returns-3 : tie.Need-returns-3
+returns-3 c = λ x f. rw (c .before .before .b .given .1) (c .slot-two .ensures)
+
+returns-4 : tie.Need-returns-4
+returns-4 c = λ x f. rw (c .enum-told3 .given .1)
+
+pub second-spec : {M : Type 1} → statement M
+second-spec =
+    tie.close
+    (tie.spec
+    enum-told
+    enum-told-2
+    enum-known-b
+    slot-two-requires
+    enum-told-3
+    returns
+    returns-2
+    returns-3
+    returns-4)

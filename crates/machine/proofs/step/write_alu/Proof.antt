@@ -1,0 +1,50 @@
+use Prim.Native.Nat.{ℕ}
+use mathlib.Core.List.{List}
+use mathlib.Core.Bool.{Bool}
+use mathlib.Core.Path.{_≡_, refl, sym, ap, _∙_}
+use Rattle.machine.specs.Bundle.{writeAlu}
+use Rattle.machine.specs.State.{withRegister, withPredicate}
+use Rattle.machine.specs.Core.{joined}
+use borrow.Author.Needs.{needs}
+use Rattle.machine.proofs.step.write_alu.Statement.{statement}
+use Rattle.machine.proofs.step.write_alu.Tie as tie
+
+enum-told : tie.Need-enum-told
+enum-told c = search needs
+
+enum-known-e : tie.Need-enum-known-e
+enum-known-e c = search needs
+
+write-register-requires : tie.Need-write-register-requires
+write-register-requires c κs = search needs
+
+enum-known-e-2 : tie.Need-enum-known-e-2
+enum-known-e-2 c = search needs
+
+write-predicate-requires : tie.Need-write-predicate-requires
+write-predicate-requires c κs = search needs
+
+returns : tie.Need-returns
+unfolding writeAlu withRegister withPredicate
+returns c = λ k. rw (c .enum-told .given .1)
+
+returns-2 : tie.Need-returns-2
+unfolding writeAlu withRegister withPredicate
+returns-2 c = λ k. let a = c .before .before .before .before .before .args in rw (c .before .before .before .e .given .1) (ap (λ (l : List ℕ). joined l (a .predicates .now) k) (c .write-register .ensures))
+
+returns-3 : tie.Need-returns-3
+unfolding writeAlu withRegister withPredicate
+returns-3 c = λ k. let a = c .before .before .before .before .before .args in rw (c .before .before .before .e2 .given .1) (ap (λ (l : List Bool). joined (a .registers .now) l k) (c .write-predicate .ensures))
+
+pub write-alu-spec : {M : Type 1} → statement M
+write-alu-spec =
+    tie.close
+    (tie.spec
+    enum-told
+    enum-known-e
+    write-register-requires
+    enum-known-e-2
+    write-predicate-requires
+    returns
+    returns-2
+    returns-3)

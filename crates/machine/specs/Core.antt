@@ -1,0 +1,23 @@
+-- The state in three parts, for the contracts of the functions that are lent the registers and the predicates.
+use Prim.Native.Nat.{ℕ}
+use mathlib.Core.Bool.{Bool, cond}
+use mathlib.Core.List.{List}
+use lib.Dec.{eqb}
+use lib.ListN.{set}
+use Rattle.machine.specs.declared.state.State.{State}
+use Rattle.machine.specs.declared.core.Core.{Core}
+use Rattle.machine.specs.declared.step.Advanced.{Advanced}
+use Rattle.machine.specs.declared.step.Stepped.{Stepped}
+use Rattle.machine.specs.State.{state}
+
+-- A state of its registers, its predicates and the rest.
+abbrev pub joined : List ℕ → List Bool → Core → State
+joined rs ps c = state rs ps (c .specials) (c .fetch) (c .base) (c .transfer) (c .load)
+
+-- What is given back with the registers and predicates that are left.
+abbrev pub steppedAs : List ℕ → List Bool → Advanced → Stepped
+steppedAs rs ps r = record { answer = r .answer; state = joined rs ps (r .core); counts = r .counts }
+
+-- A list with one place written, the first excepted: r0 and p0 are never written.
+abbrev pub putLater : {A : Type 0} → List A → ℕ → A → List A
+putLater l i v = cond (eqb i 0) l (set l i v)

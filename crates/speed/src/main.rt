@@ -1,0 +1,173 @@
+// Runs a workload and prints what came of it, in the form of the plain interpreter in bench/: to be timed from outside.
+ghost use Prim.Native.Nat.{_≤_};
+
+mod workload;
+
+use case_file::number::Number;
+use case_file::number::decimal;
+use libc::STDERR_FILENO;
+use libc::STDOUT_FILENO;
+use machine::open::Opening;
+use machine::state::State;
+use run::Ran;
+use run::RunAnswer;
+
+// What is handed in beside the workload's name.
+pub struct Setting {
+    pub budget: u32,
+    pub main: u32,
+    pub words: u32,
+}
+
+fn put_code(code: &mut [u8], words: &[u32]) {
+    let mut at: u32 = 0;
+    let mut i = 0;
+    while i < words.len() {
+        word::bytes::write_word(&mut *code, at, words[i]);
+        at = std::num::wrapping_add_u32(at, 4);
+        i += 1;
+    }
+}
+
+// The registers in one number: each is exclusive-ored to what came before, turned left by one bit.
+fn checksum(registers: [u32; 32]) -> u32 {
+    let mut sum: u32 = 0;
+    let mut i = 0;
+    while i < 32 {
+        let turned = word::bits::or(
+            word::bits::shift_left(sum, 1),
+            word::bits::shift_right(sum, 31),
+        );
+        sum = word::bits::xor(turned, registers[i]);
+        i += 1;
+    }
+    sum
+}
+
+fn print_number(label: &[u8], n: u64) {
+    io::write_all(STDOUT_FILENO, label);
+    io::print_decimal(STDOUT_FILENO, n);
+}
+
+fn print_answer(a: RunAnswer) {
+    match a {
+        RunAnswer::Ended => {
+            io::write_all(STDOUT_FILENO, b" ended");
+        }
+        RunAnswer::Spent => {
+            io::write_all(STDOUT_FILENO, b" spent");
+        }
+        RunAnswer::Refused(n) => print_number(b" refused ", n as u64),
+    }
+}
+
+fn print_ran(r: Ran) {
+    let answer = r.answer;
+    let state = r.state;
+    let registers = state.registers;
+    let counts = r.counts;
+    print_answer(answer);
+    print_number(b" bundles ", counts.bundles);
+    print_number(b" cycles ", counts.cycles);
+    print_number(b" spilled ", counts.spilled);
+    print_number(b" filled ", counts.filled);
+    io::write_all(STDOUT_FILENO, b" checksum ");
+    io::print_hex(STDOUT_FILENO, checksum(registers) as u64, 8);
+    io::write_all(STDOUT_FILENO, b"\n");
+}
+
+fn least(a: usize, b: usize) -> usize
+    ensures { λ r. ⌜ r ≤ b ⌝ }
+{
+    if a < b { a } else { b }
+}
+
+// A workload run on what is lent. The stack area is the upper half of main memory.
+fn run_workload(
+    s: Setting,
+    words: &[u32],
+    code: &mut [u8],
+    main: &mut [u8],
+    local: &mut [u8],
+    cache: &mut [u32],
+) {
+    let lo = s.main / 8 * 4;
+    let hi = s.main / 4 * 4;
+    put_code(&mut *code, words);
+    let opened = State::fresh(&*code, &*main, &*local, &mut *cache, lo, hi, 0);
+    let answer = opened.answer;
+    let state = opened.state;
+    match answer {
+        Opening::Refused(k) => {
+            print_number(b" open refused ", k as u64);
+            io::write_all(STDOUT_FILENO, b"\n");
+        }
+        Opening::Opened => print_ran(run::run(
+            state,
+            &*code,
+            &mut *main,
+            &mut *local,
+            &mut *cache,
+            lo,
+            hi,
+            s.budget,
+        )),
+    }
+}
+
+// The parts of the buffers that the setting asks for.
+fn cut(
+    s: Setting,
+    words: &[u32],
+    code: &mut [u8],
+    main: &mut [u8],
+    local: &mut [u8],
+    cache: &mut [u32],
+) {
+    let n = least(words.len(), code.len() / 4) * 4;
+    let m = least(s.main as usize, main.len());
+    let w = least(s.words as usize, cache.len());
+    run_workload(
+        s,
+        words,
+        &mut code[..n],
+        &mut main[..m],
+        &mut *local,
+        &mut cache[..w],
+    );
+}
+
+// Main memory and cache have one place more than the greatest that is accepted, so that settings beyond the limits are refused.
+fn measure(name: &[u8], words: &[u32], s: Setting) {
+    let mut code = [0u8; 256];
+    let mut main = [0u8; 65537];
+    let mut local = [0u8; 1024];
+    let mut cache = [0u32; 513];
+    io::write_all(STDOUT_FILENO, name);
+    cut(s, words, &mut code, &mut main, &mut local, &mut cache);
+}
+
+// A word of the command line as a number, 0 where it is none.
+fn argument(i: usize) -> u32 {
+    let mut text = io::buffer();
+    let n = os::arg(i, &mut text);
+    match decimal(&text[..n]) {
+        Number::Value(v) => v,
+        Number::Bad => 0,
+    }
+}
+
+fn main() {
+    if os::arg_count() != 4 {
+        io::write_all(STDERR_FILENO, b"usage: speed BUDGET MAINLEN W\n");
+        return;
+    }
+    let s = Setting {
+        budget: argument(1),
+        main: argument(2),
+        words: argument(3),
+    };
+    measure(b"loop", &workload::LOOP, s);
+    measure(b"calls", &workload::CALLS, s);
+    measure(b"memory", &workload::MEMORY, s);
+}
