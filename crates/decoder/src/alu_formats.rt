@@ -106,6 +106,42 @@ pub(crate) fn read_alu(w: u32) -> AluReading
     }
 }
 
+// The same for slot two, which alone calls it, so that each can be made part of its caller and no reading goes through memory.
+pub(crate) fn read_second(w: u32) -> AluReading
+    ensures { λ r. ⌜ aluFound r ≡ reading aluFormats w ⌝ }
+{
+    let rd = w / 131072 % 32;
+    let rs1 = w / 4096 % 32;
+    let rs2 = w / 128 % 32;
+    let code = w % 16;
+    if w / 33554432 % 4 == 0 {
+        return arithmetic(w / 4194304 % 8, rd, rs1, Op2::Immediate(w % 4096));
+    }
+    if w / 4194304 % 32 != 8 {
+        return AluReading::Nothing;
+    }
+    let to = w / 131072 % 8;
+    let opc = w / 16 % 8;
+    match opc {
+        0 => arithmetic(code, rd, rs1, Op2::Register(rs2)),
+        3 => compare(code, to, rs1, Op2::Register(rs2)),
+        4 => predicate(
+            code,
+            to,
+            predicate_operand(w / 4096 % 16),
+            predicate_operand(w / 128 % 16),
+        ),
+        5 => AluReading::Found(AluOperation::BitCopy {
+            rd,
+            rs1,
+            bit: rs2,
+            ps: predicate_operand(code),
+        }),
+        6 => compare(code, to, rs1, Op2::Immediate(rs2)),
+        _ => AluReading::Nothing,
+    }
+}
+
 // A first word whose second word is a constant.
 pub(crate) fn read_long(first: u32, second: u32) -> AluReading
     ensures { λ r. ⌜ aluFound r ≡ applied (reading longFormats first) second ⌝ }

@@ -51,7 +51,7 @@ fn slot_two(w: u32) -> AluReading
     if w / 2147483648 % 2 == 1 {
         return AluReading::Nothing;
     }
-    alu_formats::read_alu(w)
+    alu_formats::read_second(w)
 }
 
 // A long immediate, which needs a bundle of two words.

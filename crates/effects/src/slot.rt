@@ -2,6 +2,7 @@
 ghost use mathlib.Core.Path.{_≡_};
 ghost use Rattle.effects.specs.Effect.{start, accessAddress, address, amountWords, amountAligned, stackEffect, transferOf, effectOf, slotOneEffect, slotTwo, effectsOf};
 ghost use Prim.Native.Nat.{ℕ};
+ghost use Rattle.decoder.specs.Decode.{decode};
 ghost use Rattle.effects.specs.EffectLaws.{firstOf};
 use crate::effect::AluEffect;
 use crate::effect::Effect;
@@ -246,7 +247,7 @@ fn second<'a>(registers: &'a [u32], predicates: &'a [bool], b: Bundle) -> AluEff
 }
 
 // What both slots of a bundle do.
-pub fn effects(
+fn effects(
     registers: &[u32],
     predicates: [bool; 8],
     specials: Specials,
@@ -263,4 +264,24 @@ pub fn effects(
             Effects::Slots { one, two }
         }
     }
+}
+
+// What both slots of the bundle do that two words encode.
+pub fn read(
+    registers: &[u32],
+    predicates: [bool; 8],
+    specials: Specials,
+    fetch: u32,
+    first: u32,
+    second: u32,
+) -> Effects
+    ensures { λ x. ⌜ x ≡ effectsOf (start (now (registers .entry)) predicates specials fetch) (decode first second) ⌝ }
+{
+    effects(
+        registers,
+        predicates,
+        specials,
+        fetch,
+        decoder::decode(first, second),
+    )
 }

@@ -101,9 +101,9 @@ impl Core {
             return Fetched::Refused(2);
         }
         let following = end as u32;
-        let b = decoder::decode(first, read_word(code, fetch + 4));
+        let second = read_word(code, fetch + 4);
         let specials = self.specials;
-        match effects::slot::effects(registers, *predicates, specials, fetch, b) {
+        match effects::slot::read(registers, *predicates, specials, fetch, first, second) {
             Effects::Undecodable => Fetched::Refused(3),
             Effects::Slots { one, two } => Fetched::Slots {
                 one,

@@ -3,6 +3,7 @@ ghost use Prim.Native.Nat.{_≤_};
 
 mod workload;
 
+use case_file::field::same;
 use case_file::number::Number;
 use case_file::number::decimal;
 use libc::STDERR_FILENO;
@@ -157,17 +158,38 @@ fn argument(i: usize) -> u32 {
     }
 }
 
+// Whether a workload is asked for, by its name or with all.
+fn wanted(asked: &[u8], name: &[u8]) -> bool {
+    same(asked, b"all") | same(asked, name)
+}
+
+// The workloads that are asked for.
+fn measure_wanted(asked: &[u8], s: Setting) {
+    if wanted(asked, b"loop") {
+        measure(b"loop", &workload::LOOP, s);
+    }
+    if wanted(asked, b"calls") {
+        measure(b"calls", &workload::CALLS, s);
+    }
+    if wanted(asked, b"memory") {
+        measure(b"memory", &workload::MEMORY, s);
+    }
+}
+
 fn main() {
-    if os::arg_count() != 4 {
-        io::write_all(STDERR_FILENO, b"usage: speed BUDGET MAINLEN W\n");
+    if os::arg_count() != 5 {
+        io::write_all(
+            STDERR_FILENO,
+            b"usage: speed loop|calls|memory|all BUDGET MAINLEN W\n",
+        );
         return;
     }
     let s = Setting {
-        budget: argument(1),
-        main: argument(2),
-        words: argument(3),
+        budget: argument(2),
+        main: argument(3),
+        words: argument(4),
     };
-    measure(b"loop", &workload::LOOP, s);
-    measure(b"calls", &workload::CALLS, s);
-    measure(b"memory", &workload::MEMORY, s);
+    let mut asked = io::buffer();
+    let n = os::arg(1, &mut asked);
+    measure_wanted(&asked[..n], s);
 }

@@ -8,12 +8,12 @@ returns : tie.Need-returns
 unfolding slotTwo
 returns c = rw (c .if1 .taken)
 
-read-alu-requires : tie.Need-read-alu-requires
-read-alu-requires c κs = search needs
+read-second-requires : tie.Need-read-second-requires
+read-second-requires c κs = search needs
 
 returns-2 : tie.Need-returns-2
 unfolding slotTwo
-returns-2 c = rw (ne-eqb _ _ (c .before .if1 .left)) (c .read-alu .ensures)
+returns-2 c = rw (ne-eqb _ _ (c .before .if1 .left)) (c .read-second .ensures)
 
 pub slot-two-spec : {M : Type 1} → statement M
-slot-two-spec = tie.close (tie.spec returns read-alu-requires returns-2)
+slot-two-spec = tie.close (tie.spec returns read-second-requires returns-2)

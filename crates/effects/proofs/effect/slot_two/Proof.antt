@@ -7,16 +7,16 @@ use Rattle.effects.proofs.effect.slot_two.Tie as tie
 operand-requires : tie.Need-operand-requires
 operand-requires c κs = search needs
 
-alu-effect-requires : tie.Need-alu-effect-requires
-alu-effect-requires c κs = search needs
+second-effect-requires : tie.Need-second-effect-requires
+second-effect-requires c κs = search needs
 
 returns : tie.Need-returns
 unfolding slotTwoEffect
-returns c = rw (sym (c .before .before .operand .ensures) ∙ c .before .if1 .taken) (c .alu-effect .ensures)
+returns c = rw (sym (c .before .before .operand .ensures) ∙ c .before .if1 .taken) (c .second-effect .ensures)
 
 returns-2 : tie.Need-returns-2
 unfolding slotTwoEffect
 returns-2 c = rw (sym (c .before .operand .ensures) ∙ c .if1 .left)
 
 pub slot-two-spec : {M : Type 1} → statement M
-slot-two-spec = tie.close (tie.spec operand-requires alu-effect-requires returns returns-2)
+slot-two-spec = tie.close (tie.spec operand-requires second-effect-requires returns returns-2)

@@ -40,11 +40,8 @@ add-read-word c = search needs
 read-word-requires-2 : tie.Need-read-word-requires-2
 read-word-requires-2 c κs = search needs
 
-decode-requires : tie.Need-decode-requires
-decode-requires c κs = search needs
-
-effects-requires : tie.Need-effects-requires
-effects-requires c κs = search needs
+read-requires : tie.Need-read-requires
+read-requires c κs = search needs
 
 enum-told : tie.Need-enum-told
 enum-told c = search needs
@@ -54,11 +51,11 @@ enum-known-one c = search needs
 
 returns-3 : tie.Need-returns-3
 unfolding outsideCode
-returns-3 c = sym (fetched-read (c .before .before .before .before .before .before .before .before .before .before .before .before .before .args .code .now) (joined (c .before .before .before .before .before .before .before .before .before .before .before .before .before .args .registers .now) (c .before .before .before .before .before .before .before .before .before .before .before .before .before .args .predicates .now) (c .before .before .before .before .before .before .before .before .before .before .before .before .before .args .self)) _ (rw (c .before .before .before .before .before .before .before .before .before .before .before .if1 .left, ← c .before .before .before .before .before .before .before .before .before .before .read-word .ensures, ← c .before .before .before .before .before .before .before .before .before .words-of .ensures .0, le-ltb _ _ (c .before .before .before .before .before .before .before .before .if2 .left))) (sym (rw (c .before .before .before .before .before .before .decode .ensures, c .before .before .before .before .before .before .before .before .before .before .read-word .ensures, c .before .before .before .before .before .before .before .read-word2 .ensures) at (c .before .before .effects .ensures)) ∙ c .enum-told .given .1))
+returns-3 c = sym (fetched-read (c .before .before .before .before .before .before .before .before .before .before .before .before .args .code .now) (joined (c .before .before .before .before .before .before .before .before .before .before .before .before .args .registers .now) (c .before .before .before .before .before .before .before .before .before .before .before .before .args .predicates .now) (c .before .before .before .before .before .before .before .before .before .before .before .before .args .self)) _ (rw (c .before .before .before .before .before .before .before .before .before .before .if1 .left, ← c .before .before .before .before .before .before .before .before .before .read-word .ensures, ← c .before .before .before .before .before .before .before .before .words-of .ensures .0, le-ltb _ _ (c .before .before .before .before .before .before .before .if2 .left))) (sym (rw (c .before .before .before .before .before .before .before .before .before .read-word .ensures, c .before .before .before .before .before .before .read-word2 .ensures) at (c .before .before .read .ensures)) ∙ c .enum-told .given .1))
 
 returns-4 : tie.Need-returns-4
 unfolding outsideCode
-returns-4 c = rw (fetched-read (c .before .before .before .before .before .before .before .before .before .before .before .before .before .before .args .code .now) (joined (c .before .before .before .before .before .before .before .before .before .before .before .before .before .before .args .registers .now) (c .before .before .before .before .before .before .before .before .before .before .before .before .before .before .args .predicates .now) (c .before .before .before .before .before .before .before .before .before .before .before .before .before .before .args .self)) _ (rw (c .before .before .before .before .before .before .before .before .before .before .before .before .if1 .left, ← c .before .before .before .before .before .before .before .before .before .before .before .read-word .ensures, ← c .before .before .before .before .before .before .before .before .before .before .words-of .ensures .0, le-ltb _ _ (c .before .before .before .before .before .before .before .before .before .if2 .left))) (sym (rw (c .before .before .before .before .before .before .before .decode .ensures, c .before .before .before .before .before .before .before .before .before .before .before .read-word .ensures, c .before .before .before .before .before .before .before .before .read-word2 .ensures) at (c .before .before .before .effects .ensures)) ∙ c .before .one .given .1), ← c .before .before .before .before .before .before .before .before .before .before .before .read-word .ensures, ← c .before .before .before .before .before .before .before .before .before .before .words-of .ensures .0)
+returns-4 c = rw (fetched-read (c .before .before .before .before .before .before .before .before .before .before .before .before .before .args .code .now) (joined (c .before .before .before .before .before .before .before .before .before .before .before .before .before .args .registers .now) (c .before .before .before .before .before .before .before .before .before .before .before .before .before .args .predicates .now) (c .before .before .before .before .before .before .before .before .before .before .before .before .before .args .self)) _ (rw (c .before .before .before .before .before .before .before .before .before .before .before .if1 .left, ← c .before .before .before .before .before .before .before .before .before .before .read-word .ensures, ← c .before .before .before .before .before .before .before .before .before .words-of .ensures .0, le-ltb _ _ (c .before .before .before .before .before .before .before .before .if2 .left))) (sym (rw (c .before .before .before .before .before .before .before .before .before .before .read-word .ensures, c .before .before .before .before .before .before .before .read-word2 .ensures) at (c .before .before .before .read .ensures)) ∙ c .before .one .given .1), ← c .before .before .before .before .before .before .before .before .before .before .read-word .ensures, ← c .before .before .before .before .before .before .before .before .before .words-of .ensures .0)
 
 pub fetch-bundle-spec : {M : Type 1} → statement M
 fetch-bundle-spec =
@@ -74,8 +71,7 @@ fetch-bundle-spec =
     cast-following
     add-read-word
     read-word-requires-2
-    decode-requires
-    effects-requires
+    read-requires
     enum-told
     enum-known-one
     returns-3

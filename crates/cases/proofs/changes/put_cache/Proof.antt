@@ -1,0 +1,51 @@
+use borrow.Author.Needs.{needs}
+use Prim.Native.Nat.{_≤_, _-_}
+use mathlib.Core.Path.{_≡_, refl}
+use lib.ListN.{length}
+use Rattle.cases.proofs.changes.put_cache.Statement.{statement}
+use Rattle.cases.proofs.changes.put_cache.Tie as tie
+
+abbrev Inv-loop : tie.InvT-loop
+Inv-loop out₀ used now copy₀ n at₀ i₀ out copy at i = (length out ≡ length out₀) × (length copy ≡ length copy₀)
+
+abbrev μ-loop : tie.MeasureT-loop
+μ-loop out₀ used now copy₀ n at₀ i₀ out copy at i = n - i
+
+loop-holds : tie.Need-loop-holds Inv-loop μ-loop
+loop-holds c = search needs
+
+put-if-changed-requires : tie.Need-put-if-changed-requires Inv-loop μ-loop
+put-if-changed-requires c κs = search needs
+
+add-i : tie.Need-add-i Inv-loop μ-loop
+add-i c = search needs
+
+loop-less : tie.Need-loop-less Inv-loop μ-loop
+loop-less c = search needs
+
+loop-again : tie.Need-loop-again Inv-loop μ-loop
+loop-again c = search needs
+
+same-length : tie.Need-same-length Inv-loop μ-loop
+same-length c = search needs
+
+same-length-2 : tie.Need-same-length-2 Inv-loop μ-loop
+same-length-2 c = search needs
+
+returns : tie.Need-returns Inv-loop μ-loop
+returns c = search needs
+
+pub put-cache-spec : {M : Type 1} → statement M
+put-cache-spec =
+    tie.close
+    (tie.spec
+    Inv-loop
+    μ-loop
+    loop-holds
+    put-if-changed-requires
+    add-i
+    loop-less
+    loop-again
+    same-length
+    same-length-2
+    returns)

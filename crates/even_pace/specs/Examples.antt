@@ -1,0 +1,125 @@
+-- Small programs for the evidence: their machine, their marking, and what two runs of them try.
+use Prim.Native.Nat.{ℕ, zero, suc, _/_, _%_}
+use mathlib.Core.Bool.{Bool, true, false, false≢true}
+use mathlib.Core.List.{List, [], _∷_, map}
+use mathlib.Core.Path.{_≡_, refl, sym}
+use lib.ListN.{getD, replicate}
+use Rattle.word.specs.Word.{signed, lessSigned, lessEqualSigned, shiftRightSigned, copyBit, productSigned, signExtend}
+use Rattle.word.specs.Bytes.{numberAt, putNumber}
+use Rattle.alu.specs.Alu.{arithmetic, multiply, compare, combine}
+use Rattle.decoder.specs.Format.{reading, row}
+use Rattle.decoder.specs.Decode as decoder
+use Rattle.decoder.specs.Decode.{bundleWords, guardOf, slotTwo, decode}
+use Rattle.stack_cache.specs.Stack.{isCacheSize, cacheWord, putCacheWord, partOf, putPart, cacheNumber, putCacheNumber, below, spillWhile, fillWhile}
+use Rattle.stack_cache.specs.Stack.{topAfter, spills, fills, spillAfter, badWindow, badAmount, every, movedOutside, spilled, filled}
+use Rattle.memory.specs.Answer.{Returned}
+use Rattle.memory.specs.Settings.{admits}
+use Rattle.memory.specs.Access.{Buffers, buffers, loadScale, storeScale, readNumber, extended, loadedValue, stored, mainOpen, accessOpen, verdict}
+use Rattle.effects.specs.Effect.{predicatesWord, special, op2Value, aluEffect, accessAddress, amountWords, amountAligned, stackEffect, transferOf, effectOf, slotOneEffect, slotTwoEffect}
+use Rattle.machine.specs.declared.state.State.{State}
+use Rattle.machine.specs.declared.state.WaitingTransfer.the-variants as transfer
+use Rattle.machine.specs.declared.state.WaitingLoad.{WaitingLoad}
+use Rattle.machine.specs.declared.state.WaitingLoad.the-variants as load
+use Rattle.machine.specs.State.{state, specials, withRegister, withPredicate, predicatesOf, withSpecial, landed, transferred, wellFormed, ended as hasEnded}
+use Rattle.machine.specs.Refusal.{outsideCode}
+use Rattle.machine.specs.Bundle.{stackMoved, buffersAfter, writeAlu, writeOne, delaySlots, written, bundleAt, noCounts, bundle, readiness, step}
+use Rattle.machine_laws.specs.KeptLaws.{Shaped}
+use Rattle.run.specs.Run.{run, Tried, tries}
+use Rattle.single_path.specs.declared.Marking.{Marking}
+use Rattle.single_path.specs.declared.Rule.the-variants.{A, B, C, D, E}
+use Rattle.single_path.specs.Marking.{privateStore, some as someOf, markingOk}
+use Rattle.single_path.specs.Rules.{breaksA, breaksB, breaksC, breaksD, breaksE, operationBreaks, breaks, keeps}
+use Rattle.single_path.specs.Check.{CheckAnswer, walkFrom, checked}
+use Rattle.even_pace.specs.Terms.{Agree, hasPrivateAccess}
+use Rattle.even_pace.specs.StateLaws.{state-refl, with-registers, with-predicates}
+use Rattle.even_pace.specs.BufferLaws.{buffers-refl}
+
+-- The bytes of code words.
+abbrev pub bytesOf : List ℕ → List ℕ
+bytesOf [] = []
+bytesOf (w ∷ ws) = w / 16777216 ∷ w / 65536 % 256 ∷ w / 256 % 256 ∷ w % 256 ∷ bytesOf ws
+
+-- Main memory of 32 bytes with the stack area from 16 on, 4 bytes of local memory and a cache of 4 words, all zero.
+abbrev pub lo : ℕ
+lo = 16
+
+abbrev pub hi : ℕ
+hi = 32
+
+abbrev pub lent : Buffers
+lent = buffers (replicate 32 0) (replicate 4 0) (replicate 4 0)
+
+-- r1 and p1 are private, and nothing else is.
+abbrev pub marking : Marking
+marking =
+    record {
+      registers = false ∷ true ∷ replicate 30 false;
+      predicates = false ∷ true ∷ replicate 6 false;
+      sl = false;
+      sh = false;
+      main = false;
+      local = false;
+      stack = false;
+    }
+
+-- A state at address 0 with a value in r1, one in p1, and a load that waits or none.
+abbrev pub begin : ℕ → Bool → WaitingLoad → State
+begin v p waiting = state (0 ∷ v ∷ replicate 30 0) (true ∷ p ∷ replicate 6 false) (specials 0 0 hi hi 0 4 0 0) 0 0 transfer.Nothing waiting
+
+-- What the check answers, which rules the bundle at 0 breaks, what a run tries, and what it answers. (The first line of each names
+-- the definitions by which it is computed.)
+unfoldable pub check : List ℕ → CheckAnswer
+unfolding checked walkFrom admits isCacheSize markingOk outsideCode numberAt bundleWords decode guardOf decoder.slotOne slotTwo reading row signed
+    keeps breaks operationBreaks breaksA breaksB breaksC breaksD breaksE privateStore someOf
+check code = checked code 32 4 4 lo hi marking
+
+unfoldable pub broken : List ℕ → List Bool
+unfolding numberAt bundleWords decode guardOf decoder.slotOne slotTwo reading row signed breaks operationBreaks breaksA breaksB breaksC breaksD breaksE privateStore someOf
+broken code = map (breaks marking (bundleAt code 0)) (A ∷ B ∷ C ∷ D ∷ E ∷ [])
+
+unfoldable pub hasAccess : List ℕ → ℕ → Bool
+unfolding hasPrivateAccess numberAt bundleWords decode guardOf decoder.slotOne slotTwo reading row signed
+hasAccess code a = hasPrivateAccess marking (bundleAt code a)
+
+unfoldable pub tried : ℕ → List ℕ → State → List Tried
+unfolding tries step readiness admits isCacheSize wellFormed hasEnded bundle
+    outsideCode numberAt bundleWords decode guardOf decoder.slotOne slotTwo reading row signed
+    slotOneEffect slotTwoEffect effectOf aluEffect op2Value arithmetic multiply compare combine
+    lessSigned lessEqualSigned shiftRightSigned copyBit productSigned predicatesWord special
+    loadScale storeScale accessAddress stackEffect amountWords amountAligned transferOf
+    verdict mainOpen accessOpen badWindow badAmount movedOutside every spills spillWhile below fills fillWhile topAfter spillAfter
+    written landed writeOne writeAlu withRegister withPredicate withSpecial predicatesOf delaySlots transferred
+    loadedValue extended signExtend readNumber cacheNumber cacheWord partOf
+    buffersAfter stored putNumber putCacheNumber putCacheWord putPart stackMoved spilled filled
+tried k code s = tries code lo hi k s lent noCounts
+
+unfoldable pub answered : ℕ → List ℕ → State → Returned
+unfolding run tried tries
+answered k code s = run code lo hi k s lent .answer
+
+-- Such states have the right shape, and any two of them agree.
+pub begin-shaped : (v : ℕ) (p : Bool) (w : WaitingLoad) → Shaped (begin v p w)
+begin-shaped v p w = record { registers = refl; predicates = refl }
+
+pub begin-well : (v : ℕ) (p : Bool) → wellFormed (begin v p load.Nothing) ≡ true
+unfolding wellFormed
+begin-well v p = refl
+
+pub begin-agree : (v₁ v₂ : ℕ) (p₁ p₂ : Bool) → Agree marking lo hi (begin v₁ p₁ load.Nothing) lent (begin v₂ p₂ load.Nothing) lent
+begin-agree v₁ v₂ p₁ p₂ =
+    record {
+      state = with-predicates (with-registers (state-refl (begin v₁ p₁ load.Nothing)) (0 ∷ v₁ ∷ replicate 30 0) (0 ∷ v₂ ∷ replicate 30 0) (record { lengths = refl; places = registers }))
+          (true ∷ p₁ ∷ replicate 6 false) (true ∷ p₂ ∷ replicate 6 false) (record { lengths = refl; places = predicates });
+      buffers = buffers-refl lent;
+    }
+  where
+    registers : (i : ℕ) → getD (marking .registers) i false ≡ false → getD (0 ∷ v₁ ∷ replicate 30 0) i 0 ≡ getD (0 ∷ v₂ ∷ replicate 30 0) i 0
+    registers zero e = refl
+    registers (suc zero) e = absurd (false≢true (sym e))
+    registers (suc (suc i)) e = refl
+
+    predicates : (i : ℕ) → getD (marking .predicates) i false ≡ false
+        → getD (true ∷ p₁ ∷ replicate 6 false) i false ≡ getD (true ∷ p₂ ∷ replicate 6 false) i false
+    predicates zero e = refl
+    predicates (suc zero) e = absurd (false≢true (sym e))
+    predicates (suc (suc i)) e = refl

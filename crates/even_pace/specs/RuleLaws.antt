@@ -1,0 +1,205 @@
+-- What the marking rules are for: an operation that keeps them has the same effect in both runs under a public guard, and writes
+-- private places alone under a private one.
+use Prim.Native.Nat.{ℕ, _/_, _%_, _^_}
+use mathlib.Core.Bool.{Bool, true, false, not, _&&_, _||_, Bool·beq, false≢true, or-true}
+use mathlib.Core.List.{List}
+use mathlib.Core.Path.{_≡_, refl, sym, ap, subst}
+use native.Mathlib.Omega.{arith}
+use borrow.Author.Tests.{not-false}
+use lib.Dec.{eqb}
+use lib.ListN.{length, getD}
+use lib.Seq.{ext-getD}
+use mir.Syntax.{w32}
+use mir.Val.{ofZ}
+use Rattle.word.specs.Word.{add, shiftLeft, copyBit}
+use Rattle.alu.specs.Alu.{arithmetic, multiply, compare, combine}
+use Rattle.decoder.specs.declared.instruction.PredicateOperand.{PredicateOperand}
+use Rattle.decoder.specs.declared.instruction.MultiplyFunction.{MultiplyFunction}
+use Rattle.decoder.specs.declared.instruction.Op2.{Op2}
+use Rattle.decoder.specs.declared.instruction.Op2.the-variants as op2
+use Rattle.decoder.specs.declared.instruction.AluOperation.{AluOperation}
+use Rattle.decoder.specs.declared.instruction.AluOperation.the-variants.{Arithmetic, Compare, Predicate, BitCopy}
+use Rattle.decoder.specs.declared.instruction.Special.{Special}
+use Rattle.decoder.specs.declared.instruction.Special.the-variants.{S0, Sl, Sh, Ss, St, Srb, Sro, Sxb, Sxo}
+use Rattle.decoder.specs.declared.instruction.AccessKind.{AccessKind}
+use Rattle.decoder.specs.declared.instruction.StackAmount.{StackAmount}
+use Rattle.decoder.specs.declared.instruction.StackAmount.the-variants.{Words, Register}
+use Rattle.decoder.specs.declared.instruction.StackOperation.{StackOperation}
+use Rattle.decoder.specs.declared.instruction.StackOperation.the-variants.{Sres, Sens, Sfree, Sspill}
+use Rattle.decoder.specs.declared.instruction.Target.{Target}
+use Rattle.decoder.specs.declared.instruction.Target.the-variants.{Call, CallRegister, Br, BrRegister, Brcf, BrcfRegister, Ret}
+use Rattle.decoder.specs.declared.instruction.Operation.{Operation}
+use Rattle.decoder.specs.declared.instruction.Operation.the-variants.{Alu, Multiply, Mts, Mfs, Load, Store, StackControl, Transfer, Trap, Xret}
+use Rattle.stack_cache.specs.RangeLaws.{or-left, or-right}
+use Rattle.stack_cache.specs.declared.StackControl.the-variants as control
+use Rattle.memory.specs.Access.{loadScale, storeScale}
+use Rattle.effects.specs.declared.effect.Effect.{Effect}
+use Rattle.effects.specs.declared.effect.Effect.the-variants as effect
+use Rattle.effects.specs.declared.effect.Transfer as declared
+use Rattle.effects.specs.declared.effect.Transfer.the-variants as transfer
+use Rattle.effects.specs.Effect.{holds, op2Value, predicatesWord, special as specialValue, aluEffect, address, accessAddress, amountWords, amountAligned, stackEffect, transferOf, effectOf, bytesOf}
+use Rattle.machine.specs.declared.state.State.{State}
+use Rattle.machine.specs.State.{startOf}
+use Rattle.single_path.specs.declared.Marking.{Marking}
+use Rattle.single_path.specs.Marking.{privateRegister, privatePredicate, privateOperand, privateSpecial}
+use Rattle.single_path.specs.Rules.{breaksA, breaksB, breaksC, breaksD, breaksE, privateOp2, privateAmount, privateStack, privateTarget}
+use Rattle.even_pace.specs.Terms.{SameState}
+use Rattle.even_pace.specs.StateLaws.{some-none}
+use Rattle.even_pace.specs.Alike as alike
+use Rattle.even_pace.specs.Alike.{SameAlu, SameEffect, QuietAlu, QuietEffect}
+
+-- Rule B read backwards: into a public destination flows nothing private, and under a private guard no destination is public.
+public-source : (t f : Bool) → t && f ≡ false → t ≡ true → f ≡ false
+public-source true f e p = e
+public-source false f e p = absurd (false≢true p)
+
+private-destination : (t : Bool) → t && true ≡ false → t ≡ false
+private-destination true e = e
+private-destination false e = refl
+
+-- An operation that breaks no rule, g being its guard's privacy.
+pub record Keeps (m : Marking) (g : Bool) (o : Operation) : Type 0 where
+  pub a : breaksA g o ≡ false
+  pub b : breaksB m g o ≡ false
+  pub c : breaksC m o ≡ false
+  pub d : breaksD m g o ≡ false
+  pub e : breaksE m o ≡ false
+
+-- Under a private guard.
+pub alu-quiet : (m : Marking) (rs : List ℕ) (ps : List Bool) (o : AluOperation) → breaksB m true (Alu o) ≡ false → QuietAlu m (aluEffect rs ps o)
+unfolding breaksB aluEffect
+alu-quiet m rs ps (Arithmetic f rd r o) h = alike.quiet-register (private-destination _ h)
+alu-quiet m rs ps (Compare f pd r o) h = alike.quiet-predicate (private-destination _ h)
+alu-quiet m rs ps (Predicate f pd p q) h = alike.quiet-predicate (private-destination _ h)
+alu-quiet m rs ps (BitCopy rd r bit p) h = alike.quiet-register (private-destination _ h)
+
+pub operation-quiet : (m : Marking) (s : State) (o : Operation) → Keeps m true o → QuietEffect m (effectOf (startOf s) o)
+unfolding breaksA breaksB breaksD effectOf
+operation-quiet m s (Alu o) k = alike.quiet-alu (alu-quiet m (s .registers) (s .predicates) o (k .b))
+operation-quiet m s (Multiply f x y) k =
+    let h = private-destination (not (m .sl) || not (m .sh)) (k .b) in
+    alike.quiet-product (not-false _ (or-left (not (m .sl)) (not (m .sh)) h)) (not-false _ (or-right (not (m .sl)) (not (m .sh)) h))
+operation-quiet m s (Mts d r) k = alike.quiet-special (private-destination _ (k .b))
+operation-quiet m s (Mfs r d) k = alike.quiet-alu (alike.quiet-register (private-destination _ (k .b)))
+operation-quiet m s (Load j w rd ra o) k = alike.quiet-load (private-destination _ (k .b))
+operation-quiet m s (Store j w ra rs o) k = alike.quiet-store (not-false _ (private-destination _ (k .d)))
+operation-quiet m s (StackControl o) k = absurd (false≢true (sym (k .a)))
+operation-quiet m s (Transfer d t) k = absurd (false≢true (sym (k .a)))
+operation-quiet m s (Trap n) k = absurd (false≢true (sym (k .a)))
+operation-quiet m s (Xret d) k = absurd (false≢true (sym (k .a)))
+
+-- Under a public guard, in states that agree.
+module _ {m : Marking} {s₁ s₂ : State} (a : SameState m s₁ s₂) (eight : length (s₁ .predicates) ≡ 8) where
+  register-same : (r : ℕ) → privateRegister m r ≡ false → getD (s₁ .registers) r 0 ≡ getD (s₂ .registers) r 0
+  register-same r p = a .registers .places r p
+
+  pub holds-same : (p : PredicateOperand) → privateOperand m p ≡ false → holds (s₁ .predicates) p ≡ holds (s₂ .predicates) p
+  holds-same p h = ap (λ (t : Bool). not (Bool·beq (p .negated) t)) (a .predicates .places (p .predicate) h)
+
+  op2-same : (o : Op2) → privateOp2 m o ≡ false → op2Value (s₁ .registers) o ≡ op2Value (s₂ .registers) o
+  unfolding op2Value
+  op2-same (op2.Register r) h = register-same r h
+  op2-same (op2.Immediate n) h = refl
+  op2-same (op2.Long n) h = refl
+
+  special-same : (d : Special) → privateSpecial m d ≡ false
+      → specialValue (s₁ .predicates) (s₁ .specials) d ≡ specialValue (s₂ .predicates) (s₂ .specials) d
+  unfolding specialValue
+  special-same S0 h =
+      ap predicatesWord
+      (ext-getD false (s₁ .predicates) (s₂ .predicates) (a .predicates .lengths) (λ i p. a .predicates .places i (some-none (privatePredicate m) 8 h i (omega (arith, p, eight)))))
+  special-same Sl h = a .specials .sl h
+  special-same Sh h = a .specials .sh h
+  special-same Ss h = a .specials .ss
+  special-same St h = a .specials .st
+  special-same Srb h = a .specials .srb
+  special-same Sro h = a .specials .sro
+  special-same Sxb h = a .specials .sxb
+  special-same Sxo h = a .specials .sxo
+
+  pub alu-same : (o : AluOperation) → breaksB m false (Alu o) ≡ false
+      → SameAlu m (aluEffect (s₁ .registers) (s₁ .predicates) o) (aluEffect (s₂ .registers) (s₂ .predicates) o)
+  unfolding breaksB aluEffect
+  alu-same (Arithmetic f rd r o) h =
+      alike.register (λ p.
+      let q = public-source _ (privateRegister m r || privateOp2 m o) h p in
+      λ i. arithmetic f (register-same r (or-left _ (privateOp2 m o) q) i) (op2-same o (or-right (privateRegister m r) _ q) i))
+  alu-same (Compare f pd r o) h =
+      alike.predicate (λ p.
+      let q = public-source _ (privateRegister m r || privateOp2 m o) h p in
+      λ i. compare f (register-same r (or-left _ (privateOp2 m o) q) i) (op2-same o (or-right (privateRegister m r) _ q) i))
+  alu-same (Predicate f pd x y) h =
+      alike.predicate (λ p.
+      let q = public-source _ (privateOperand m x || privateOperand m y) h p in
+      λ i. combine f (holds-same x (or-left _ (privateOperand m y) q) i) (holds-same y (or-right (privateOperand m x) _ q) i))
+  alu-same (BitCopy rd r bit x) h =
+      alike.register (λ p.
+      let q = public-source _ (privateRegister m r || privateOperand m x) h p in
+      λ i. copyBit (register-same r (or-left _ (privateOperand m x) q) i) bit (holds-same x (or-right (privateRegister m r) _ q) i))
+
+  address-same : (k : AccessKind) (scale ra o : ℕ) → privateRegister m ra ≡ false
+      → address (s₁ .registers) (s₁ .specials .st) k scale ra o ≡ address (s₂ .registers) (s₂ .specials .st) k scale ra o
+  address-same k scale ra o h = λ i. accessAddress k (a .specials .st i) (add (register-same ra h i) (shiftLeft o scale))
+
+  words-same : (x : StackAmount) → privateAmount m x ≡ false → amountWords (s₁ .registers) x ≡ amountWords (s₂ .registers) x
+  unfolding amountWords
+  words-same (Words n) h = refl
+  words-same (Register r) h = ap (λ (n : ℕ). n / 4) (register-same r h)
+
+  aligned-same : (x : StackAmount) → privateAmount m x ≡ false → amountAligned (s₁ .registers) x ≡ amountAligned (s₂ .registers) x
+  unfolding amountAligned
+  aligned-same (Words n) h = refl
+  aligned-same (Register r) h = ap (λ (n : ℕ). eqb (n % 4) 0) (register-same r h)
+
+  stack-same : (o : StackOperation) → privateStack m o ≡ false → SameEffect m (stackEffect (s₁ .registers) o) (stackEffect (s₂ .registers) o)
+  unfolding stackEffect
+  stack-same (Sres n) h = alike.stack
+  stack-same (Sens x) h =
+      subst (λ (e : Effect). SameEffect m (stackEffect (s₁ .registers) (Sens x)) e)
+      (λ i. effect.Stack control.Sens (words-same x h i) (aligned-same x h i)) alike.stack
+  stack-same (Sfree n) h = alike.stack
+  stack-same (Sspill x) h =
+      subst (λ (e : Effect). SameEffect m (stackEffect (s₁ .registers) (Sspill x)) e)
+      (λ i. effect.Stack control.Sspill (words-same x h i) (aligned-same x h i)) alike.stack
+
+  target-same : (t : Target) → privateTarget m t ≡ false → transferOf (startOf s₁) t ≡ transferOf (startOf s₂) t
+  unfolding transferOf
+  target-same (Call n) h = refl
+  target-same (CallRegister r) h = ap transfer.Call (register-same r h)
+  target-same (Br z) h = λ i. transfer.Br (add (a .fetch i) (bytesOf (ofZ w32 z)))
+  target-same (BrRegister r) h = ap transfer.Br (register-same r h)
+  target-same (Brcf n) h = refl
+  target-same (BrcfRegister b o) h =
+      let p = register-same b (or-left _ (privateRegister m o) h) in
+      let q = register-same o (or-right (privateRegister m b) _ h) in
+      λ i. transfer.Block (add (p i) (q i)) (p i)
+  target-same Ret h = λ i. transfer.Block (add (a .specials .srb i) (a .specials .sro i)) (a .specials .srb i)
+
+  multiply-same : (f : MultiplyFunction) (x y : ℕ) → breaksB m false (Multiply f x y) ≡ false → not (m .sl) || not (m .sh) ≡ true
+      → multiply f (getD (s₁ .registers) x 0) (getD (s₁ .registers) y 0) ≡ multiply f (getD (s₂ .registers) x 0) (getD (s₂ .registers) y 0)
+  unfolding breaksB
+  multiply-same f x y h p =
+      let q = public-source _ (privateRegister m x || privateRegister m y) h p in
+      λ i. multiply f (register-same x (or-left _ (privateRegister m y) q) i) (register-same y (or-right (privateRegister m x) _ q) i)
+
+  pub operation-same : (o : Operation) → Keeps m false o → SameEffect m (effectOf (startOf s₁) o) (effectOf (startOf s₂) o)
+  unfolding breaksB breaksC breaksD breaksE effectOf
+  operation-same (Alu o) k = alike.of-alu (alu-same o (k .b))
+  operation-same (Multiply f x y) k =
+      alike.product (λ p. ap (λ (n : ℕ). n % 2 ^ 32) (multiply-same f x y (k .b) (rw p)))
+      (λ p. ap (λ (n : ℕ). n / 2 ^ 32) (multiply-same f x y (k .b) (rw (p, or-true))))
+  operation-same (Mts d r) k = alike.special (λ p. register-same r (public-source _ _ (k .b) p))
+  operation-same (Mfs r d) k = alike.of-alu (alike.register (λ p. special-same d (public-source _ _ (k .b) p)))
+  operation-same (Load j w rd ra o) k =
+      subst (λ (x : ℕ). SameEffect m (effectOf (startOf s₁) (Load j w rd ra o)) (effect.Load j w rd x))
+      (address-same j (loadScale w) ra o (k .c)) (alike.load (public-source _ _ (k .b)))
+  operation-same (Store j w ra rs o) k =
+      subst (λ (x : ℕ). SameEffect m (effectOf (startOf s₁) (Store j w ra rs o)) (effect.Store j w x (getD (s₂ .registers) rs 0)))
+      (address-same j (storeScale w) ra o (k .c))
+      (alike.store (λ p. register-same rs (public-source _ _ (k .d) (ap not p))))
+  operation-same (StackControl o) k = stack-same o (k .e)
+  operation-same (Transfer d t) k =
+      subst (λ (x : declared.Transfer). SameEffect m (effect.Transfer d (transferOf (startOf s₁) t)) (effect.Transfer d x))
+      (target-same t (k .e)) alike.transfer
+  operation-same (Trap n) k = alike.exception
+  operation-same (Xret d) k = alike.exception

@@ -1,0 +1,23 @@
+-- Demand 3 as a statement, for every code, settings, marking and budget, and every two runs.
+use Prim.Native.Nat.{ℕ}
+use mathlib.Core.Bool.{true}
+use mathlib.Core.List.{List}
+use mathlib.Core.Path.{_≡_}
+use Rattle.memory.specs.Access.{Buffers}
+use Rattle.machine.specs.declared.state.State.{State}
+use Rattle.machine.specs.State.{wellFormed}
+use Rattle.machine.specs.Bundle.{noCounts}
+use Rattle.machine_laws.specs.KeptLaws.{Shaped}
+use Rattle.run.specs.Run.{run, tries}
+use Rattle.single_path.specs.declared.Marking.{Marking}
+use Rattle.even_pace.specs.Terms.{Accepted, Agree, EvenPace}
+
+-- "Two runs of the same accepted code, with the same settings, marking and budget, that start from well-formed states and agree on
+-- everything public keep even pace." A state's lists of registers and predicates have the lengths that its type gives them.
+abbrev pub Demand3 : Type 0
+Demand3 = (code : List ℕ) (lo hi budget : ℕ) (m : Marking) (s₁ s₂ : State) (b₁ b₂ : Buffers)
+    → Accepted code lo hi m b₁
+    → Shaped s₁ → Shaped s₂ → wellFormed s₁ ≡ true → wellFormed s₂ ≡ true
+    → Agree m lo hi s₁ b₁ s₂ b₂
+    → EvenPace m code lo hi (tries code lo hi budget s₁ b₁ noCounts) (tries code lo hi budget s₂ b₂ noCounts)
+    (run code lo hi budget s₁ b₁ .answer) (run code lo hi budget s₂ b₂ .answer)

@@ -1,0 +1,114 @@
+-- A stopping event at a walked address of accepted code is refused for its load or store: the number is 5, 7 or 6.
+use Prim.Native.Nat.{ℕ}
+use mathlib.Core.Bool.{Bool, true, false, cond, false≢true}
+use mathlib.Core.List.{List}
+use mathlib.Core.Logic.{_⊎_, inl, inr}
+use mathlib.Core.Path.{_≡_, refl, sym, ap, _∙_}
+use Rattle.decoder.specs.declared.instruction.Operation.{Operation}
+use Rattle.decoder.specs.declared.instruction.Operation.the-variants.{Alu, Multiply, Mts, Mfs, Load, Store, StackControl, Transfer, Trap, Xret}
+use Rattle.decoder.specs.declared.instruction.Instruction.{Instruction}
+use Rattle.decoder.specs.declared.instruction.Bundle.{Bundle}
+use Rattle.decoder.specs.declared.instruction.Bundle.the-variants.{Undecodable, One, Two, Long}
+use Rattle.stack_cache.specs.RangeLaws.{and-right}
+use Rattle.memory.specs.declared.settings.Settings.{Settings}
+use Rattle.memory.specs.declared.judge.Verdict.{Verdict}
+use Rattle.memory.specs.declared.judge.Verdict.the-variants.{Fine as Passing, Refused}
+use Rattle.memory.specs.Answer.{Returned, accepted, done, ended, spent, refused}
+use Rattle.memory.specs.Access.{Buffers, verdict as verdictOf}
+use Rattle.effects.specs.declared.effect.AluEffect.the-variants as alu
+use Rattle.effects.specs.declared.effect.Effect.the-variants as effect
+use Rattle.effects.specs.Effect.{holds, effectOf, slotOneEffect, slotOne}
+use Rattle.machine.specs.declared.state.State.{State}
+use Rattle.machine.specs.State.{startOf}
+use Rattle.machine.specs.Refusal.{effectTests, isMisaligned, isBadStack, isOutside}
+use Rattle.machine.specs.Bundle.{Outcome, bundleAt, followingAt, refusedOr, bundle}
+use Rattle.single_path.specs.declared.Marking.{Marking}
+use Rattle.single_path.specs.Marking.{privateGuard}
+use Rattle.single_path.specs.Rules.{onAccess}
+use Rattle.single_path.specs.CheckLaws.{Fine}
+use Rattle.even_pace.specs.Terms.{privateAccess, hasPrivateAccess}
+use Rattle.even_pace.specs.BundleLaws.{doneOf, bundle-outcome}
+
+-- The numbers of an access.
+abbrev pub OfAccess : ℕ → Type 0
+OfAccess n = (n ≡ 5) ⊎ ((n ≡ 7) ⊎ (n ≡ 6))
+
+abbrev numberOf : ℕ → Verdict → ℕ
+numberOf n Passing = n
+numberOf n (Refused k) = k
+
+abbrev isRefusal : Verdict → Bool
+isRefusal Passing = false
+isRefusal (Refused n) = true
+
+module _ (g : Settings) (s : State) (n : ℕ) where
+  -- The three tests of an access.
+  three : (x y z : Bool) → cond x (Refused 5) (cond y (Refused 7) (cond z (Refused 6) Passing)) ≡ Refused n → OfAccess n
+  three true y z e = inl (sym (ap (numberOf n) e))
+  three false true z e = inr (inl (sym (ap (numberOf n) e)))
+  three false false true e = inr (inr (sym (ap (numberOf n) e)))
+  three false false false e = absurd (false≢true (ap isRefusal e))
+
+  access-number : (o : Operation) → onAccess false (λ ra. true) (λ k ra rs. true) o ≡ true
+      → verdictOf (effectTests g s (effectOf (startOf s) o)) ≡ Refused n → OfAccess n
+  unfolding effectOf verdictOf
+  access-number (Alu o) h e = absurd (false≢true h)
+  access-number (Multiply f x y) h e = absurd (false≢true h)
+  access-number (Mts d r) h e = absurd (false≢true h)
+  access-number (Mfs r d) h e = absurd (false≢true h)
+  access-number (Load k w rd ra o) h e =
+      let x = effectOf (startOf s) (Load k w rd ra o) in
+      three (isMisaligned x) (isBadStack g s x) (isOutside g s x) e
+  access-number (Store k w ra rs o) h e =
+      let x = effectOf (startOf s) (Store k w ra rs o) in
+      three (isMisaligned x) (isBadStack g s x) (isOutside g s x) e
+  access-number (StackControl o) h e = absurd (false≢true h)
+  access-number (Transfer d t) h e = absurd (false≢true h)
+  access-number (Trap k) h e = absurd (false≢true h)
+  access-number (Xret d) h e = absurd (false≢true h)
+
+  slot-number : (m : Marking) (i : Instruction) → privateAccess m i ≡ true → verdictOf (effectTests g s (slotOneEffect (startOf s) i)) ≡ Refused n
+      → OfAccess n
+  unfolding slotOneEffect verdictOf
+  slot-number m i h = go (holds (s .predicates) (i .guard))
+    where
+      go : (t : Bool) → verdictOf (effectTests g s (cond t (effectOf (startOf s) (i .operation)) (effect.Alu alu.Nothing))) ≡ Refused n → OfAccess n
+      go true e = access-number (i .operation) (and-right (privateGuard m (i .guard)) _ h) e
+      go false e = absurd (false≢true (ap isRefusal e))
+
+  bundle-number : (m : Marking) (i : Bundle) → hasPrivateAccess m i ≡ true → verdictOf (effectTests g s (slotOne (startOf s) i)) ≡ Refused n
+      → OfAccess n
+  unfolding hasPrivateAccess
+  bundle-number m Undecodable h e = absurd (false≢true h)
+  bundle-number m (One i) h e = slot-number m i h e
+  bundle-number m (Two i j) h e = slot-number m i h e
+  bundle-number m (Long i) h e = slot-number m i h e
+
+abbrev answerNumber : ℕ → Returned → ℕ
+answerNumber n accepted = n
+answerNumber n done = n
+answerNumber n ended = n
+answerNumber n spent = n
+answerNumber n (refused k) = k
+
+abbrev pub isRefused : Returned → Bool
+isRefused accepted = false
+isRefused done = false
+isRefused ended = false
+isRefused spent = false
+isRefused (refused n) = true
+
+-- At an address whose bundle can be read, a refusal of a bundle with a load or store under a private guard is the access's.
+pub refused-for-access : {m : Marking} (g : Settings) (code : List ℕ) (s : State) (b : Buffers) (n : ℕ) → Fine m code (s .fetch)
+    → hasPrivateAccess m (bundleAt code (s .fetch)) ≡ true
+    → bundle g code s b .answer ≡ refused n → OfAccess n
+refused-for-access {m} g code s b n f h e =
+    go (verdictOf (effectTests g s (slotOne (startOf s) i))) refl (sym (ap (λ (o : Outcome). o .answer) (bundle-outcome g code s b f)) ∙ e)
+  where
+    i : Bundle
+    i = bundleAt code (s .fetch)
+
+    go : (v : Verdict) → verdictOf (effectTests g s (slotOne (startOf s) i)) ≡ v
+        → refusedOr v s b (doneOf g i (followingAt code (s .fetch)) s b) .answer ≡ refused n → OfAccess n
+    go Passing p q = absurd (false≢true (ap isRefused q))
+    go (Refused k) p q = bundle-number g s n m i h (p ∙ ap Refused (ap (answerNumber n) q))

@@ -1,0 +1,82 @@
+-- A bundle of any code keeps a state well formed: the register of a load is one of 32 by its field alone.
+use Prim.Native.Nat.{ℕ, _+_}
+use mathlib.Core.Bool.{Bool, true, false, cond}
+use mathlib.Core.List.{List}
+use mathlib.Core.Option.{Option, none, some}
+use mathlib.Core.Path.{_≡_, refl}
+use native.Mathlib.Omega.{arith}
+use borrow.Author.Tests.{le-leb}
+use Rattle.word.specs.Bytes.{wordAt}
+use Rattle.decoder.specs.declared.instruction.PredicateOperand.{PredicateOperand}
+use Rattle.decoder.specs.declared.instruction.AluOperation.{AluOperation}
+use Rattle.decoder.specs.declared.instruction.StackOperation.the-variants.{Sres, Sens, Sfree, Sspill}
+use Rattle.decoder.specs.declared.instruction.Operation.{Operation}
+use Rattle.decoder.specs.declared.instruction.Operation.the-variants.{Alu, Multiply, Mts, Mfs, Load, Store, StackControl, Transfer, Trap, Xret}
+use Rattle.decoder.specs.Decode.{isTwoWords, guardOf, slotOne as firstSlot, slotTwo as secondSlot, one, two, long, applied, decode}
+use Rattle.decoder.specs.Formats.{longFormats}
+use Rattle.decoder.specs.Format.{reading}
+use Rattle.decoder.specs.Ranges.{OperationInRange}
+use Rattle.decoder.specs.RangeLaws.{IfSome, slot-one-in-range}
+use Rattle.memory.specs.declared.settings.Settings.{Settings}
+use Rattle.memory.specs.Access.{Buffers}
+use Rattle.effects.specs.declared.effect.AluEffect.the-variants as alu
+use Rattle.effects.specs.declared.effect.Effect.the-variants as effect
+use Rattle.effects.specs.Effect.{Start, holds, effectOf, stackEffect, slotOneEffect, slotOne}
+use Rattle.machine.specs.declared.state.State.{State}
+use Rattle.machine.specs.State.{startOf, loadOk, wellFormed}
+use Rattle.machine.specs.Bundle.{bundle}
+use Rattle.machine_laws.specs.StepCases.{effectAt, bundle-cases}
+use Rattle.machine_laws.specs.KeptLaws.{loadBegun, well-formed-parts, well-formed-whole, written-well-formed}
+
+module _ (b : Buffers) (s : Start) where
+  operation-ok : (o : Operation) → OperationInRange o → loadOk (loadBegun b (effectOf s o)) ≡ true
+  unfolding effectOf stackEffect
+  operation-ok (Alu o) p = refl
+  operation-ok (Multiply f x y) p = refl
+  operation-ok (Mts d r) p = refl
+  operation-ok (Mfs r d) p = refl
+  operation-ok (Load k w rd ra o) p = le-leb rd 31 (omega (arith, p .0))
+  operation-ok (Store k w ra rs o) p = refl
+  operation-ok (StackControl (Sres n)) p = refl
+  operation-ok (StackControl (Sens a)) p = refl
+  operation-ok (StackControl (Sfree n)) p = refl
+  operation-ok (StackControl (Sspill a)) p = refl
+  operation-ok (Transfer d t) p = refl
+  operation-ok (Trap n) p = refl
+  operation-ok (Xret d) p = refl
+
+  instruction-ok : (g : PredicateOperand) (o : Operation) → OperationInRange o
+      → loadOk (loadBegun b (slotOneEffect s (record { guard = g; operation = o }))) ≡ true
+  unfolding slotOneEffect
+  instruction-ok g o p = go (holds (s .predicates) g)
+    where
+      go : (t : Bool) → loadOk (loadBegun b (cond t (effectOf s o) (effect.Alu alu.Nothing))) ≡ true
+      go true = operation-ok o p
+      go false = refl
+
+  long-ok : (g : PredicateOperand) (o : AluOperation) → loadOk (loadBegun b (slotOneEffect s (record { guard = g; operation = Alu o }))) ≡ true
+  unfolding slotOneEffect effectOf
+  long-ok g o = go (holds (s .predicates) g)
+    where
+      go : (t : Bool) → loadOk (loadBegun b (cond t (effectOf s (Alu o)) (effect.Alu alu.Nothing))) ≡ true
+      go true = refl
+      go false = refl
+
+  decoded-ok : (first second : ℕ) → loadOk (loadBegun b (slotOne s (decode first second))) ≡ true
+  unfolding decode
+  decoded-ok first second = go (isTwoWords first) (applied (reading longFormats first) second) (firstSlot first) (secondSlot second) (slot-one-in-range first)
+    where
+      go : (t : Bool) (l : Option AluOperation) (o : Option Operation) (a : Option AluOperation) → IfSome OperationInRange o
+          → loadOk (loadBegun b (slotOne s (cond t (long (guardOf first) l (two (guardOf first) o (guardOf second) a)) (one (guardOf first) o)))) ≡ true
+      go true (some l) o a p = long-ok (guardOf first) l
+      go true none (some o) (some a) p = instruction-ok (guardOf first) o p
+      go true none (some o) none p = refl
+      go true none none a p = refl
+      go false l (some o) a p = instruction-ok (guardOf first) o p
+      go false l none a p = refl
+
+-- A bundle, whatever it answers, keeps a state well formed.
+pub bundle-well : (g : Settings) (code : List ℕ) (s : State) (b : Buffers) → wellFormed s ≡ true → wellFormed (bundle g code s b .state) ≡ true
+bundle-well g code s b h =
+    bundle-cases g code s b (λ o. wellFormed (o .state) ≡ true) (λ n j. h) (λ j.
+    well-formed-whole _ (written-well-formed g b s (effectAt code s) _ _ (decoded-ok b (startOf s) (wordAt code (s .fetch)) (wordAt code (s .fetch + 4))) (well-formed-parts s h)))

@@ -1,0 +1,17 @@
+use Rattle.single_path.specs.Marking.{markingOk}
+use borrow.Author.Needs.{needs}
+use Rattle.single_path.proofs.Marking.is_ok.Statement.{statement}
+use Rattle.single_path.proofs.Marking.is_ok.Tie as tie
+
+private-register-requires : tie.Need-private-register-requires
+private-register-requires c κs = search needs
+
+private-predicate-requires : tie.Need-private-predicate-requires
+private-predicate-requires c κs = search needs
+
+returns : tie.Need-returns
+unfolding markingOk
+returns c = rw (c .private-predicate .ensures, c .before .private-register .ensures)
+
+pub is-ok-spec : {M : Type 1} → statement M
+is-ok-spec = tie.close (tie.spec private-register-requires private-predicate-requires returns)

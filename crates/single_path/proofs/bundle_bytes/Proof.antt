@@ -1,0 +1,20 @@
+use Prim.Native.Nat.{_*_}
+use native.Mathlib.Omega.{arith}
+use Rattle.decoder.specs.Decode.{bundleWords}
+use Rattle.decoder.specs.DecodeLaws.{words-two}
+use borrow.Author.Needs.{needs}
+use Rattle.single_path.proofs.bundle_bytes.Statement.{statement}
+use Rattle.single_path.proofs.bundle_bytes.Tie as tie
+
+bundle-words-requires : tie.Need-bundle-words-requires
+bundle-words-requires c κs = search needs
+
+returns : tie.Need-returns
+returns c = search needs
+
+returns-2 : tie.Need-returns-2
+unfolding bundleWords
+returns-2 c = (rw (words-two (c .before .before .args .first) (rw (c .before .bundle-words .ensures) at (c .if1 .left))), omega arith)
+
+pub bundle-bytes-spec : {M : Type 1} → statement M
+bundle-bytes-spec = tie.close (tie.spec bundle-words-requires returns returns-2)

@@ -1,0 +1,149 @@
+use Rattle.single_path.specs.Rules.{keeps}
+use Rattle.single_path.specs.LoopLaws.{inside-end, walk-none, walk-end, walk-outside, walk-undecodable, walk-broken, walk-next}
+use Rattle.single_path.specs.Found.{right, found-keeps, found-breaks}
+use Prim.Native.Nat.{_≤_, _/_, _+_, _-_}
+use mathlib.Core.Bool.{true, false}
+use mathlib.Core.Path.{_≡_, refl, sym, _∙_}
+use native.Mathlib.Omega.{arith}
+use borrow.Author.Needs.{needs}
+use lib.ListN.{length}
+use Rattle.effects.specs.Effect.{isUndecodable}
+use Rattle.machine.specs.Refusal.{outsideCode}
+use Rattle.machine.specs.Bundle.{bundleAt}
+use Rattle.single_path.specs.Check.{walkFrom}
+use Rattle.single_path.proofs.walk.Statement.{statement}
+use Rattle.single_path.proofs.walk.Tie as tie
+
+abbrev Inv-loop : tie.InvT-loop
+Inv-loop code marking address₀ left₀ address left =
+    (left ≤ length code / 4 + 1) × (address ≤ length code) × (walkFrom marking code left address ≡ walkFrom marking code (length code / 4 + 1) 0)
+
+abbrev μ-loop : tie.MeasureT-loop
+μ-loop code marking address₀ left₀ address left = left
+
+add-left : tie.Need-add-left Inv-loop μ-loop
+add-left c = omega (arith, c .before .pre)
+
+loop-holds : tie.Need-loop-holds Inv-loop μ-loop
+loop-holds c = (omega arith, omega arith, refl)
+
+cast-if1 : tie.Need-cast-if1 Inv-loop μ-loop
+cast-if1 c = search needs
+
+returns : tie.Need-returns Inv-loop μ-loop
+returns c = let l = c .before .before .loop in
+    let k = c .before .before .before .before .args .code .now in
+    let m = c .before .before .before .before .args .marking in
+    (sym (walk-end m k (l .left) (l .address) (c .if1 .taken)) ∙ l .inv .2, refl)
+
+read-word-requires : tie.Need-read-word-requires Inv-loop μ-loop
+read-word-requires c κs = search needs
+
+bundle-bytes-requires : tie.Need-bundle-bytes-requires Inv-loop μ-loop
+bundle-bytes-requires c κs = search needs
+
+add-following : tie.Need-add-following Inv-loop μ-loop
+add-following c = omega (arith, c .before .before .before .before .loop .inv .1, c .before .before .before .before .before .before .pre, c .bundle-bytes .ensures .1)
+
+cast-if2 : tie.Need-cast-if2 Inv-loop μ-loop
+cast-if2 c = search needs
+
+returns-2 : tie.Need-returns-2 Inv-loop μ-loop
+unfolding outsideCode right
+returns-2 c = let l = c .before .before .before .before .before .loop in
+    let k = c .before .before .before .before .before .before .before .args .code .now in
+    let m = c .before .before .before .before .before .before .before .args .marking in
+    let o : outsideCode k (l .address) ≡ true = rw (← c .before .before .read-word .ensures, ← c .before .bundle-bytes .ensures .0) (c .if2 .taken) in
+    (sym (walk-outside m k (l .left) (l .address) (c .before .before .before .before .loop-test .taken) (c .before .before .before .if1 .left) o) ∙ l .inv .2, refl)
+
+add-read-word : tie.Need-add-read-word Inv-loop μ-loop
+add-read-word c = omega (arith, c .before .before .before .before .before .loop .inv .1, c .before .before .before .before .before .before .before .pre)
+
+read-word-requires-2 : tie.Need-read-word-requires-2 Inv-loop μ-loop
+read-word-requires-2 c κs = search needs
+
+decode-requires : tie.Need-decode-requires Inv-loop μ-loop
+decode-requires c κs = search needs
+
+is-undecodable-requires : tie.Need-is-undecodable-requires Inv-loop μ-loop
+is-undecodable-requires c κs = search needs
+
+returns-3 : tie.Need-returns-3 Inv-loop μ-loop
+unfolding outsideCode right
+returns-3 c = let l = c .before .before .before .before .before .before .before .before .before .loop in
+    let k = c .before .before .before .before .before .before .before .before .before .before .before .args .code .now in
+    let m = c .before .before .before .before .before .before .before .before .before .before .before .args .marking in
+    let o : outsideCode k (l .address) ≡ false = rw (← c .before .before .before .before .before .before .read-word .ensures, ← c .before .before .before .before .before .bundle-bytes .ensures .0) (c .before .before .before .before .if2 .left) in
+    let u : isUndecodable (bundleAt k (l .address)) ≡ true = rw (← c .before .before .before .before .before .before .read-word .ensures, ← c .before .before .before .read-word2 .ensures, ← c .before .before .decode .ensures, ← c .before .is-undecodable .ensures) (c .if3 .taken) in
+    (sym (walk-undecodable m k (l .left) (l .address) (c .before .before .before .before .before .before .before .before .loop-test .taken) (c .before .before .before .before .before .before .before .if1 .left) o u) ∙ l .inv .2, refl)
+
+broken-rule-requires : tie.Need-broken-rule-requires Inv-loop μ-loop
+broken-rule-requires c κs = search needs
+
+enum-known-rule : tie.Need-enum-known-rule Inv-loop μ-loop
+enum-known-rule c = search needs
+
+returns-4 : tie.Need-returns-4 Inv-loop μ-loop
+unfolding outsideCode right
+returns-4 c = let l = c .before .before .before .before .before .before .before .before .before .before .before .before .before .loop in
+    let k = c .before .before .before .before .before .before .before .before .before .before .before .before .before .before .before .args .code .now in
+    let m = c .before .before .before .before .before .before .before .before .before .before .before .before .before .before .before .args .marking in
+    let o : outsideCode k (l .address) ≡ false = rw (← c .before .before .before .before .before .before .before .before .before .before .read-word .ensures, ← c .before .before .before .before .before .before .before .before .before .bundle-bytes .ensures .0) (c .before .before .before .before .before .before .before .before .if2 .left) in
+    let u : isUndecodable (bundleAt k (l .address)) ≡ false = rw (← c .before .before .before .before .before .before .before .before .before .before .read-word .ensures, ← c .before .before .before .before .before .before .before .read-word2 .ensures, ← c .before .before .before .before .before .before .decode .ensures, ← c .before .before .before .before .before .is-undecodable .ensures) (c .before .before .before .before .if3 .left) in
+    let r = rw (c .before .rule .given .1, c .before .before .before .before .before .before .decode .ensures, c .before .before .before .before .before .before .before .read-word2 .ensures, c .before .before .before .before .before .before .before .before .before .before .read-word .ensures) at (c .before .before .before .broken-rule .ensures) in
+    (sym (walk-broken m k (l .left) (l .address) (c .before .before .before .before .before .before .before .before .before .before .before .before .loop-test .taken) (c .before .before .before .before .before .before .before .before .before .before .before .if1 .left) o u (found-breaks m (bundleAt k (l .address)) _ r)) ∙ l .inv .2, r)
+
+enum-told : tie.Need-enum-told Inv-loop μ-loop
+enum-told c = search needs
+
+sub-left : tie.Need-sub-left Inv-loop μ-loop
+sub-left c = omega (arith, c .before .before .before .before .before .before .before .before .before .before .before .loop-test .taken)
+
+loop-less : tie.Need-loop-less Inv-loop μ-loop
+loop-less c = omega (arith, c .before .before .before .before .before .before .before .before .before .before .before .loop-test .taken)
+
+loop-again : tie.Need-loop-again Inv-loop μ-loop
+unfolding outsideCode right
+loop-again c = let l = c .before .before .before .before .before .before .before .before .before .before .before .before .loop in
+    let k = c .before .before .before .before .before .before .before .before .before .before .before .before .before .before .args .code .now in
+    let m = c .before .before .before .before .before .before .before .before .before .before .before .before .before .before .args .marking in
+    let o : outsideCode k (l .address) ≡ false = rw (← c .before .before .before .before .before .before .before .before .before .read-word .ensures, ← c .before .before .before .before .before .before .before .before .bundle-bytes .ensures .0) (c .before .before .before .before .before .before .before .if2 .left) in
+    let u : isUndecodable (bundleAt k (l .address)) ≡ false = rw (← c .before .before .before .before .before .before .before .before .before .read-word .ensures, ← c .before .before .before .before .before .before .read-word2 .ensures, ← c .before .before .before .before .before .decode .ensures, ← c .before .before .before .before .is-undecodable .ensures) (c .before .before .before .if3 .left) in
+    let r : keeps m (bundleAt k (l .address)) ≡ true = found-keeps m (bundleAt k (l .address)) (rw (← c .before .before .before .before .before .before .before .before .before .read-word .ensures, ← c .before .before .before .before .before .before .read-word2 .ensures, ← c .before .before .before .before .before .decode .ensures) (rw (c .enum-told .given .1) at (c .before .before .broken-rule .ensures))) in
+    let n = walk-next m k (l .left) (l .address) (c .before .before .before .before .before .before .before .before .before .before .before .loop-test .taken) (c .before .before .before .before .before .before .before .before .before .before .if1 .left) o u r in
+    (omega (arith, l .inv .0), rw (c .before .before .before .before .before .before .before .before .bundle-bytes .ensures .0, c .before .before .before .before .before .before .before .before .before .read-word .ensures) (inside-end k (l .address) o), rw (c .before .before .before .before .before .before .before .before .bundle-bytes .ensures .0, c .before .before .before .before .before .before .before .before .before .read-word .ensures) (sym n) ∙ l .inv .2)
+
+returns-5 : tie.Need-returns-5 Inv-loop μ-loop
+returns-5 c = let l = c .before .loop in
+    let k = c .before .before .before .args .code .now in
+    let m = c .before .before .before .args .marking in
+    (sym (walk-none m k (l .left) (l .address) (c .loop-test .left)) ∙ l .inv .2, refl)
+
+pub walk-spec : {M : Type 1} → statement M
+walk-spec =
+    tie.close
+    (tie.spec
+    Inv-loop
+    μ-loop
+    add-left
+    loop-holds
+    cast-if1
+    returns
+    read-word-requires
+    bundle-bytes-requires
+    add-following
+    cast-if2
+    returns-2
+    add-read-word
+    read-word-requires-2
+    decode-requires
+    is-undecodable-requires
+    returns-3
+    broken-rule-requires
+    enum-known-rule
+    returns-4
+    enum-told
+    sub-left
+    loop-less
+    loop-again
+    returns-5)

@@ -1,0 +1,62 @@
+-- The check: the bundles from 0 to the code's end, one after the other, against the marking rules.
+use Prim.Native.Nat.{ℕ, zero, suc, _+_, _/_, _<_}
+use mathlib.Core.Bool.{Bool, true, cond, _&&_}
+use mathlib.Core.List.{List}
+use mathlib.Core.Path.{_≡_}
+use lib.Dec.{leb}
+use lib.ListN.{length}
+use Rattle.memory.specs.declared.settings.Settings.{Settings}
+use Rattle.memory.specs.Settings.{admits}
+use Rattle.effects.specs.Effect.{isUndecodable}
+use Rattle.machine.specs.Refusal.{outsideCode}
+use Rattle.machine.specs.Bundle.{bundleAt, followingAt}
+use Rattle.single_path.specs.declared.Marking.{Marking}
+use Rattle.single_path.specs.declared.Checked.{Checked}
+use Rattle.single_path.specs.declared.Checked.the-variants as enum
+use Rattle.single_path.specs.Marking.{markingOk}
+use Rattle.single_path.specs.Rules.{breaks, keeps}
+
+-- "An address is walked if it is below the code length and either is 0 or follows a bundle at a walked address."
+pub data Walked (code : List ℕ) : ℕ → Type 0 where
+  first : 0 < length code → Walked code 0
+  later : {a b : ℕ} → Walked code a → b ≡ followingAt code a → b < length code → Walked code b
+
+-- What the check answers: accepted; a refusal's number and the bundle's address; or, as refusal 9, the address of a bundle that
+-- breaks a rule. The letter is left free.
+pub data CheckAnswer : Type 0 where
+  accepted : CheckAnswer
+  refused : ℕ → ℕ → CheckAnswer
+  broken : ℕ → CheckAnswer
+
+-- What the function's answer says but for its letter, and that a letter is one that the bundle breaks.
+abbrev pub withoutLetter : Checked → CheckAnswer
+withoutLetter enum.Accepted = accepted
+withoutLetter (enum.Refused n a) = refused n a
+withoutLetter (enum.Broken a r) = broken a
+
+abbrev pub letterBroken : Marking → List ℕ → Checked → Bool
+letterBroken m code enum.Accepted = true
+letterBroken m code (enum.Refused n a) = true
+letterBroken m code (enum.Broken a r) = breaks m (bundleAt code a) r
+
+-- The bundles from address a on, `most` at most: the first that fails gives 2, 3 or 9, in that order.
+unfoldable pub walkFrom : Marking → List ℕ → ℕ → ℕ → CheckAnswer
+walkFrom m code zero a = accepted
+walkFrom m code (suc most) a =
+    let rest = walkFrom m code most (followingAt code a) in
+    cond (leb (length code) a) accepted
+    (cond (outsideCode code a) (refused 2 a)
+    (cond (isUndecodable (bundleAt code a)) (refused 3 a)
+    (cond (keeps m (bundleAt code a)) rest (broken a))))
+
+-- "Settings are the lengths of code and memories, W, lo and hi"; and whether refusal 1 lets them and the marking pass.
+abbrev pub settings : List ℕ → ℕ → ℕ → ℕ → ℕ → ℕ → Settings
+settings code main local words lo hi = record { code = length code; main = main; local = local; words = words; lo = lo; hi = hi }
+
+abbrev pub passes : List ℕ → ℕ → ℕ → ℕ → ℕ → ℕ → Marking → Bool
+passes code main local words lo hi m = admits (settings code main local words lo hi) && markingOk m
+
+-- The check's answer: 1 first. Code of n words has at most n bundles.
+unfoldable pub checked : List ℕ → ℕ → ℕ → ℕ → ℕ → ℕ → Marking → CheckAnswer
+checked code main local words lo hi m =
+    cond (passes code main local words lo hi m) (walkFrom m code (length code / 4 + 1) 0) (refused 1 0)
