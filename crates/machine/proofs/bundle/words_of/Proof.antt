@@ -7,7 +7,7 @@ use Rattle.machine.proofs.bundle.words_of.Statement.{statement}
 use Rattle.machine.proofs.bundle.words_of.Tie as tie
 
 bundle-words-requires : tie.Need-bundle-words-requires
-bundle-words-requires c κs = search needs
+bundle-words-requires c κs = tt
 
 returns : tie.Need-returns
 returns c = search needs

@@ -16,7 +16,7 @@ part-spill-end : tie.Need-part-spill-end
 part-spill-end c = search needs
 
 spill-requires : tie.Need-spill-requires
-spill-requires c κs = search needs
+spill-requires c κs = tt
 
 same-length : tie.Need-same-length
 same-length c = search needs
@@ -38,7 +38,7 @@ part-fill-end : tie.Need-part-fill-end
 part-fill-end c = search needs
 
 fill-requires : tie.Need-fill-requires
-fill-requires c κs = search needs
+fill-requires c κs = tt
 
 same-length-3 : tie.Need-same-length-3
 same-length-3 c = search needs

@@ -3,7 +3,7 @@ use Rattle.machine.proofs.open.refused.Statement.{statement}
 use Rattle.machine.proofs.open.refused.Tie as tie
 
 initial-requires : tie.Need-initial-requires
-initial-requires c κs = search needs
+initial-requires c κs = tt
 
 returns : tie.Need-returns
 returns c = rw (c .initial .ensures)

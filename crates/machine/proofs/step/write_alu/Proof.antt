@@ -16,13 +16,13 @@ enum-known-e : tie.Need-enum-known-e
 enum-known-e c = search needs
 
 write-register-requires : tie.Need-write-register-requires
-write-register-requires c κs = search needs
+write-register-requires c κs = tt
 
 enum-known-e-2 : tie.Need-enum-known-e-2
 enum-known-e-2 c = search needs
 
 write-predicate-requires : tie.Need-write-predicate-requires
-write-predicate-requires c κs = search needs
+write-predicate-requires c κs = tt
 
 returns : tie.Need-returns
 unfolding writeAlu withRegister withPredicate

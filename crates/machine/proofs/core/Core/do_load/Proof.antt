@@ -15,13 +15,13 @@ use Rattle.machine.proofs.core.Core.do_load.Statement.{statement}
 use Rattle.machine.proofs.core.Core.do_load.Tie as tie
 
 judge-load-requires : tie.Need-judge-load-requires
-judge-load-requires c κs = search needs
+judge-load-requires c κs = tt
 
 enum-known-number : tie.Need-enum-known-number
 enum-known-number c = search needs
 
 refused-requires : tie.Need-refused-requires
-refused-requires c κs = search needs
+refused-requires c κs = tt
 
 returns : tie.Need-returns
 unfolding executed written writeOne buffersAfter
@@ -31,16 +31,16 @@ enum-told : tie.Need-enum-told
 enum-told c = search needs
 
 load-requires : tie.Need-load-requires
-load-requires c κs = search needs
+load-requires c κs = tt
 
 land-load-requires : tie.Need-land-load-requires
-land-load-requires c κs = search needs
+land-load-requires c κs = tt
 
 with-load-requires : tie.Need-with-load-requires
-with-load-requires c κs = search needs
+with-load-requires c κs = tt
 
 finish-requires : tie.Need-finish-requires
-finish-requires c κs = search needs
+finish-requires c κs = tt
 
 returns-2 : tie.Need-returns-2
 unfolding executed written writeOne buffersAfter

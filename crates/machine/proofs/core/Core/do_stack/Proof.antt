@@ -20,7 +20,7 @@ use Rattle.machine.proofs.core.Core.do_stack.Statement.{statement}
 use Rattle.machine.proofs.core.Core.do_stack.Tie as tie
 
 refused-requires : tie.Need-refused-requires
-refused-requires c κs = search needs
+refused-requires c κs = tt
 
 returns : tie.Need-returns
 unfolding executed written writeOne buffersAfter stackMoved
@@ -30,13 +30,13 @@ cast-size : tie.Need-cast-size
 cast-size c = let a = c .before .before .before .before in omega (arith, words-small (a .args .g) (a .pre .0))
 
 plan-requires : tie.Need-plan-requires
-plan-requires c κs = search needs
+plan-requires c κs = tt
 
 enum-known-number : tie.Need-enum-known-number
 enum-known-number c = search needs
 
 refused-requires-2 : tie.Need-refused-requires-2
-refused-requires-2 c κs = search needs
+refused-requires-2 c κs = tt
 
 enum-known-st : tie.Need-enum-known-st
 enum-known-st c = search needs
@@ -45,25 +45,25 @@ move-words-requires : tie.Need-move-words-requires
 move-words-requires c κs = let a = c .before .before .before .before .before .before .before .before .before .before in let t = planned-told _ _ _ _ _ _ _ _ _ _ _ (sym (c .before .before .before .before .before .plan .ensures) ∙ c .before .before .before .st .given .1) in (area-ordered (a .args .g) (a .pre .0), rw (← a .pre .1) (area-inside (a .args .g) (a .pre .0)), λ r. one-way _ _ _ _ _ _ _ (t .spilled) (t .filled) r)
 
 land-load-requires : tie.Need-land-load-requires
-land-load-requires c κs = search needs
+land-load-requires c κs = tt
 
 write-stack-requires : tie.Need-write-stack-requires
-write-stack-requires c κs = search needs
+write-stack-requires c κs = tt
 
 write-alu-requires : tie.Need-write-alu-requires
-write-alu-requires c κs = search needs
+write-alu-requires c κs = tt
 
 nearer-requires : tie.Need-nearer-requires
-nearer-requires c κs = search needs
+nearer-requires c κs = tt
 
 wide-requires : tie.Need-wide-requires
-wide-requires c κs = search needs
+wide-requires c κs = tt
 
 wide-requires-2 : tie.Need-wide-requires-2
-wide-requires-2 c κs = search needs
+wide-requires-2 c κs = tt
 
 done-requires : tie.Need-done-requires
-done-requires c κs = search needs
+done-requires c κs = tt
 
 returns-2 : tie.Need-returns-2
 unfolding executed written writeOne buffersAfter stackMoved

@@ -15,13 +15,13 @@ use Rattle.machine.proofs.core.Core.do_store.Statement.{statement}
 use Rattle.machine.proofs.core.Core.do_store.Tie as tie
 
 judge-store-requires : tie.Need-judge-store-requires
-judge-store-requires c κs = search needs
+judge-store-requires c κs = tt
 
 enum-known-number : tie.Need-enum-known-number
 enum-known-number c = search needs
 
 refused-requires : tie.Need-refused-requires
-refused-requires c κs = search needs
+refused-requires c κs = tt
 
 returns : tie.Need-returns
 unfolding executed written writeOne buffersAfter
@@ -31,13 +31,13 @@ enum-told : tie.Need-enum-told
 enum-told c = search needs
 
 store-requires : tie.Need-store-requires
-store-requires c κs = search needs
+store-requires c κs = tt
 
 land-load-requires : tie.Need-land-load-requires
-land-load-requires c κs = search needs
+land-load-requires c κs = tt
 
 finish-requires : tie.Need-finish-requires
-finish-requires c κs = search needs
+finish-requires c κs = tt
 
 same-length : tie.Need-same-length
 same-length c = search needs

@@ -19,7 +19,7 @@ enum-told : tie.Need-enum-told
 enum-told c = search needs
 
 refused-requires : tie.Need-refused-requires
-refused-requires c κs = search needs
+refused-requires c κs = tt
 
 returns : tie.Need-returns
 unfolding executed written writeOne buffersAfter
@@ -29,19 +29,19 @@ enum-told-2 : tie.Need-enum-told-2
 enum-told-2 c = search needs
 
 transfer-cycles-requires : tie.Need-transfer-cycles-requires
-transfer-cycles-requires c κs = search needs
+transfer-cycles-requires c κs = tt
 
 land-load-requires : tie.Need-land-load-requires
-land-load-requires c κs = search needs
+land-load-requires c κs = tt
 
 write-alu-requires : tie.Need-write-alu-requires
-write-alu-requires c κs = search needs
+write-alu-requires c κs = tt
 
 begin-requires : tie.Need-begin-requires
-begin-requires c κs = search needs
+begin-requires c κs = tt
 
 done-requires : tie.Need-done-requires
-done-requires c κs = search needs
+done-requires c κs = tt
 
 returns-2 : tie.Need-returns-2
 unfolding executed written writeOne buffersAfter

@@ -18,49 +18,49 @@ enum-known-one : tie.Need-enum-known-one
 enum-known-one c = search needs
 
 land-load-requires : tie.Need-land-load-requires
-land-load-requires c κs = search needs
+land-load-requires c κs = tt
 
 write-alu-requires : tie.Need-write-alu-requires
-write-alu-requires c κs = search needs
+write-alu-requires c κs = tt
 
 finish-requires : tie.Need-finish-requires
-finish-requires c κs = search needs
+finish-requires c κs = tt
 
 enum-known-one-2 : tie.Need-enum-known-one-2
 enum-known-one-2 c = search needs
 
 land-load-requires-2 : tie.Need-land-load-requires-2
-land-load-requires-2 c κs = search needs
+land-load-requires-2 c κs = tt
 
 write-special-requires : tie.Need-write-special-requires
-write-special-requires c κs = search needs
+write-special-requires c κs = tt
 
 finish-requires-2 : tie.Need-finish-requires-2
-finish-requires-2 c κs = search needs
+finish-requires-2 c κs = tt
 
 enum-known-one-3 : tie.Need-enum-known-one-3
 enum-known-one-3 c = search needs
 
 land-load-requires-3 : tie.Need-land-load-requires-3
-land-load-requires-3 c κs = search needs
+land-load-requires-3 c κs = tt
 
 write-product-requires : tie.Need-write-product-requires
-write-product-requires c κs = search needs
+write-product-requires c κs = tt
 
 finish-requires-3 : tie.Need-finish-requires-3
-finish-requires-3 c κs = search needs
+finish-requires-3 c κs = tt
 
 enum-known-one-4 : tie.Need-enum-known-one-4
 enum-known-one-4 c = search needs
 
 do-load-requires : tie.Need-do-load-requires
-do-load-requires c κs = search needs
+do-load-requires c κs = tt
 
 enum-known-one-5 : tie.Need-enum-known-one-5
 enum-known-one-5 c = search needs
 
 do-store-requires : tie.Need-do-store-requires
-do-store-requires c κs = search needs
+do-store-requires c κs = tt
 
 enum-known-one-6 : tie.Need-enum-known-one-6
 enum-known-one-6 c = search needs
@@ -72,13 +72,13 @@ enum-known-one-7 : tie.Need-enum-known-one-7
 enum-known-one-7 c = search needs
 
 do-transfer-requires : tie.Need-do-transfer-requires
-do-transfer-requires c κs = search needs
+do-transfer-requires c κs = tt
 
 enum-told : tie.Need-enum-told
 enum-told c = search needs
 
 refused-requires : tie.Need-refused-requires
-refused-requires c κs = search needs
+refused-requires c κs = tt
 
 returns : tie.Need-returns
 unfolding executed verdict written writeOne buffersAfter

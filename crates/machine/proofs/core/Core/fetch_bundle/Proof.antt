@@ -13,13 +13,13 @@ unfolding fetched outsideCode
 returns c = rw (ne-eqb _ _ (c .if1 .taken))
 
 read-word-requires : tie.Need-read-word-requires
-read-word-requires c κs = search needs
+read-word-requires c κs = tt
 
 cast-end : tie.Need-cast-end
 cast-end c = search needs
 
 words-of-requires : tie.Need-words-of-requires
-words-of-requires c κs = search needs
+words-of-requires c κs = tt
 
 mul-end : tie.Need-mul-end
 mul-end c = search needs
@@ -38,10 +38,10 @@ add-read-word : tie.Need-add-read-word
 add-read-word c = search needs
 
 read-word-requires-2 : tie.Need-read-word-requires-2
-read-word-requires-2 c κs = search needs
+read-word-requires-2 c κs = tt
 
 read-requires : tie.Need-read-requires
-read-requires c κs = search needs
+read-requires c κs = tt
 
 enum-told : tie.Need-enum-told
 enum-told c = search needs

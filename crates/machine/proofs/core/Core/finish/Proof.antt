@@ -10,13 +10,13 @@ use Rattle.machine.proofs.core.Core.finish.Statement.{statement}
 use Rattle.machine.proofs.core.Core.finish.Tie as tie
 
 write-alu-requires : tie.Need-write-alu-requires
-write-alu-requires c κs = search needs
+write-alu-requires c κs = tt
 
 nearer-requires : tie.Need-nearer-requires
-nearer-requires c κs = search needs
+nearer-requires c κs = tt
 
 done-requires : tie.Need-done-requires
-done-requires c κs = search needs
+done-requires c κs = tt
 
 returns : tie.Need-returns
 returns c = let a = c .before .before .before .before .before .args in c .done .ensures _ _ ∙ ap (λ (s : State). doneWith s 1 0 0) (c .before .nearer .ensures _ _ ∙ ap (λ (s : State). nearer (a .waiting) (a .following) s) (c .before .before .write-alu .ensures _))

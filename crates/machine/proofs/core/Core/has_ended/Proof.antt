@@ -7,7 +7,7 @@ cast-result : tie.Need-cast-result
 cast-result c = search needs
 
 none-waits-requires : tie.Need-none-waits-requires
-none-waits-requires c κs = search needs
+none-waits-requires c κs = tt
 
 returns : tie.Need-returns
 unfolding ended

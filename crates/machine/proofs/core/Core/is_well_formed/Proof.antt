@@ -10,10 +10,10 @@ element-copy-out-result-2 : tie.Need-element-copy-out-result-2
 element-copy-out-result-2 c = search needs
 
 load-ok-requires : tie.Need-load-ok-requires
-load-ok-requires c κs = search needs
+load-ok-requires c κs = tt
 
 wait-ok-requires : tie.Need-wait-ok-requires
-wait-ok-requires c κs = search needs
+wait-ok-requires c κs = tt
 
 returns : tie.Need-returns
 unfolding wellFormed

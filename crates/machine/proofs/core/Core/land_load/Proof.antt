@@ -17,10 +17,10 @@ enum-known-load : tie.Need-enum-known-load
 enum-known-load c = search needs
 
 write-register-requires : tie.Need-write-register-requires
-write-register-requires c κs = search needs
+write-register-requires c κs = tt
 
 with-load-requires : tie.Need-with-load-requires
-with-load-requires c κs = search needs
+with-load-requires c κs = tt
 
 returns : tie.Need-returns
 unfolding landed withRegister

@@ -7,13 +7,13 @@ enum-told : tie.Need-enum-told
 enum-told c = search needs
 
 go-on-requires : tie.Need-go-on-requires
-go-on-requires c κs = search needs
+go-on-requires c κs = tt
 
 enum-known-waiting : tie.Need-enum-known-waiting
 enum-known-waiting c = search needs
 
 transfer-requires : tie.Need-transfer-requires
-transfer-requires c κs = search needs
+transfer-requires c κs = tt
 
 returns : tie.Need-returns
 returns c = λ rs ps. rw (c .before .before .before .waiting .given .1, le-leb _ _ (c .before .if1 .taken), ← c .transfer .ensures rs ps)
@@ -22,7 +22,7 @@ sub-left : tie.Need-sub-left
 sub-left c = search needs
 
 go-on-requires-2 : tie.Need-go-on-requires-2
-go-on-requires-2 c κs = search needs
+go-on-requires-2 c κs = tt
 
 returns-2 : tie.Need-returns-2
 returns-2 c = λ rs ps. rw (c .before .enum-told .given .1, ← c .go-on .ensures rs ps)

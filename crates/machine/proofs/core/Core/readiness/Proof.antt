@@ -4,21 +4,21 @@ use Rattle.machine.proofs.core.Core.readiness.Statement.{statement}
 use Rattle.machine.proofs.core.Core.readiness.Tie as tie
 
 admits-requires : tie.Need-admits-requires
-admits-requires c κs = search needs
+admits-requires c κs = tt
 
 returns : tie.Need-returns
 unfolding readiness
 returns c = rw (← c .before .admits .ensures, c .if1 .taken)
 
 is-well-formed-requires : tie.Need-is-well-formed-requires
-is-well-formed-requires c κs = search needs
+is-well-formed-requires c κs = tt
 
 returns-2 : tie.Need-returns-2
 unfolding readiness
 returns-2 c = rw (← c .before .before .before .admits .ensures, c .before .before .if1 .left, ← c .before .is-well-formed .ensures, c .if2 .taken)
 
 has-ended-requires : tie.Need-has-ended-requires
-has-ended-requires c κs = search needs
+has-ended-requires c κs = tt
 
 returns-3 : tie.Need-returns-3
 unfolding readiness

@@ -10,19 +10,19 @@ use Rattle.machine.proofs.core.Core.step.Statement.{statement}
 use Rattle.machine.proofs.core.Core.step.Tie as tie
 
 readiness-requires : tie.Need-readiness-requires
-readiness-requires c κs = search needs
+readiness-requires c κs = tt
 
 enum-known-n : tie.Need-enum-known-n
 enum-known-n c = search needs
 
 refused-requires : tie.Need-refused-requires
-refused-requires c κs = search needs
+refused-requires c κs = tt
 
 enum-told : tie.Need-enum-told
 enum-told c = search needs
 
 ended-requires : tie.Need-ended-requires
-ended-requires c κs = search needs
+ended-requires c κs = tt
 
 enum-told-2 : tie.Need-enum-told-2
 enum-told-2 c = search needs

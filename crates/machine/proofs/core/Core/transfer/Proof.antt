@@ -7,22 +7,22 @@ enum-known-transfer : tie.Need-enum-known-transfer
 enum-known-transfer c = search needs
 
 go-on-requires : tie.Need-go-on-requires
-go-on-requires c κs = search needs
+go-on-requires c κs = tt
 
 enum-known-transfer-2 : tie.Need-enum-known-transfer-2
 enum-known-transfer-2 c = search needs
 
 sub-requires : tie.Need-sub-requires
-sub-requires c κs = search needs
+sub-requires c κs = tt
 
 go-on-requires-2 : tie.Need-go-on-requires-2
-go-on-requires-2 c κs = search needs
+go-on-requires-2 c κs = tt
 
 enum-known-transfer-3 : tie.Need-enum-known-transfer-3
 enum-known-transfer-3 c = search needs
 
 go-on-requires-3 : tie.Need-go-on-requires-3
-go-on-requires-3 c κs = search needs
+go-on-requires-3 c κs = tt
 
 returns : tie.Need-returns
 unfolding transferred

@@ -8,38 +8,38 @@ use Rattle.machine.proofs.state.State.fresh.Statement.{statement}
 use Rattle.machine.proofs.state.State.fresh.Tie as tie
 
 admits-requires : tie.Need-admits-requires
-admits-requires c κs = search needs
+admits-requires c κs = tt
 
 refused-requires : tie.Need-refused-requires
-refused-requires c κs = search needs
+refused-requires c κs = tt
 
 returns : tie.Need-returns
 unfolding opening
 returns c = rw (← c .before .before .admits .ensures, c .before .if1 .taken, c .refused .ensures)
 
 refused-requires-2 : tie.Need-refused-requires-2
-refused-requires-2 c κs = search needs
+refused-requires-2 c κs = tt
 
 returns-2 : tie.Need-returns-2
 unfolding opening
 returns-2 c = rw (← c .before .before .before .admits .ensures, c .before .before .if1 .left, ne-eqb _ _ (c .before .if2 .taken), c .refused2 .ensures)
 
 refused-requires-3 : tie.Need-refused-requires-3
-refused-requires-3 c κs = search needs
+refused-requires-3 c κs = tt
 
 returns-3 : tie.Need-returns-3
 unfolding opening
 returns-3 c = rw (← c .before .before .before .before .admits .ensures, c .before .before .before .if1 .left, c .before .before .if2 .left, le-leb _ _ (c .before .if3 .taken), c .refused3 .ensures)
 
 clear-requires : tie.Need-clear-requires
-clear-requires c κs = search needs
+clear-requires c κs = tt
 
 cast-initial : tie.Need-cast-initial
 unfolding opening
 cast-initial c = omega (arith, code-small _ (sym (c .before .before .before .before .before .before .before .admits .ensures) ∙ not-false _ (c .before .before .before .before .before .before .if1 .left)))
 
 initial-requires : tie.Need-initial-requires
-initial-requires c κs = search needs
+initial-requires c κs = tt
 
 same-length : tie.Need-same-length
 same-length c = search needs

@@ -5,13 +5,13 @@ use Rattle.machine.proofs.state.State.land_load.Statement.{statement}
 use Rattle.machine.proofs.state.State.land_load.Tie as tie
 
 core-requires : tie.Need-core-requires
-core-requires c κs = search needs
+core-requires c κs = tt
 
 land-load-requires : tie.Need-land-load-requires
-land-load-requires c κs = search needs
+land-load-requires c κs = tt
 
 join-requires : tie.Need-join-requires
-join-requires c κs = search needs
+join-requires c κs = tt
 
 returns : tie.Need-returns
 returns c = c .join .ensures ∙ c .before .land-load .ensures _ ∙ ap landed (c .before .before .before .core .ensures)

@@ -12,13 +12,13 @@ use Rattle.machine.proofs.state.State.step.Statement.{statement}
 use Rattle.machine.proofs.state.State.step.Tie as tie
 
 core-requires : tie.Need-core-requires
-core-requires c κs = search needs
+core-requires c κs = tt
 
 step-requires : tie.Need-step-requires
-step-requires c κs = search needs
+step-requires c κs = tt
 
 join-requires : tie.Need-join-requires
-join-requires c κs = search needs
+join-requires c κs = tt
 
 same-length : tie.Need-same-length
 same-length c = search needs

@@ -9,13 +9,13 @@ use Rattle.machine.proofs.state.State.transfer.Statement.{statement}
 use Rattle.machine.proofs.state.State.transfer.Tie as tie
 
 core-requires : tie.Need-core-requires
-core-requires c κs = search needs
+core-requires c κs = tt
 
 transfer-requires : tie.Need-transfer-requires
-transfer-requires c κs = search needs
+transfer-requires c κs = tt
 
 join-requires : tie.Need-join-requires
-join-requires c κs = search needs
+join-requires c κs = tt
 
 returns : tie.Need-returns
 returns c = let a = c .before .before .before .before .before .args in c .join .ensures ∙ c .before .transfer .ensures _ _ ∙ ap (λ (s : State). transferred s (a .transfer) (a .following)) (c .before .before .core .ensures)

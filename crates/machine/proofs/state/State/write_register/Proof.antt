@@ -13,13 +13,13 @@ slice-aggregate-write-register : tie.Need-slice-aggregate-write-register
 slice-aggregate-write-register c = search needs
 
 write-register-requires : tie.Need-write-register-requires
-write-register-requires c κs = search needs
+write-register-requires c κs = tt
 
 core-requires : tie.Need-core-requires
-core-requires c κs = search needs
+core-requires c κs = tt
 
 join-requires : tie.Need-join-requires
-join-requires c κs = search needs
+join-requires c κs = tt
 
 returns : tie.Need-returns
 unfolding withRegister
