@@ -7,7 +7,7 @@ use Rattle.single_path.proofs.bundle_bytes.Statement.{statement}
 use Rattle.single_path.proofs.bundle_bytes.Tie as tie
 
 bundle-words-requires : tie.Need-bundle-words-requires
-bundle-words-requires c κs = search needs
+bundle-words-requires c κs = tt
 
 returns : tie.Need-returns
 returns c = search needs

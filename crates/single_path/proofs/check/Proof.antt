@@ -7,10 +7,10 @@ use Rattle.single_path.proofs.check.Statement.{statement}
 use Rattle.single_path.proofs.check.Tie as tie
 
 admits-requires : tie.Need-admits-requires
-admits-requires c κs = search needs
+admits-requires c κs = tt
 
 is-ok-requires : tie.Need-is-ok-requires
-is-ok-requires c κs = search needs
+is-ok-requires c κs = tt
 
 walk-requires : tie.Need-walk-requires
 walk-requires c κs = let x = c .before .before .before .before .args in

@@ -37,10 +37,10 @@ returns c = let l = c .before .before .loop in
     (sym (walk-end m k (l .left) (l .address) (c .if1 .taken)) ∙ l .inv .2, refl)
 
 read-word-requires : tie.Need-read-word-requires Inv-loop μ-loop
-read-word-requires c κs = search needs
+read-word-requires c κs = tt
 
 bundle-bytes-requires : tie.Need-bundle-bytes-requires Inv-loop μ-loop
-bundle-bytes-requires c κs = search needs
+bundle-bytes-requires c κs = tt
 
 add-following : tie.Need-add-following Inv-loop μ-loop
 add-following c = omega (arith, c .before .before .before .before .loop .inv .1, c .before .before .before .before .before .before .pre, c .bundle-bytes .ensures .1)
@@ -60,13 +60,13 @@ add-read-word : tie.Need-add-read-word Inv-loop μ-loop
 add-read-word c = omega (arith, c .before .before .before .before .before .loop .inv .1, c .before .before .before .before .before .before .before .pre)
 
 read-word-requires-2 : tie.Need-read-word-requires-2 Inv-loop μ-loop
-read-word-requires-2 c κs = search needs
+read-word-requires-2 c κs = tt
 
 decode-requires : tie.Need-decode-requires Inv-loop μ-loop
-decode-requires c κs = search needs
+decode-requires c κs = tt
 
 is-undecodable-requires : tie.Need-is-undecodable-requires Inv-loop μ-loop
-is-undecodable-requires c κs = search needs
+is-undecodable-requires c κs = tt
 
 returns-3 : tie.Need-returns-3 Inv-loop μ-loop
 unfolding outsideCode right
@@ -78,7 +78,7 @@ returns-3 c = let l = c .before .before .before .before .before .before .before 
     (sym (walk-undecodable m k (l .left) (l .address) (c .before .before .before .before .before .before .before .before .loop-test .taken) (c .before .before .before .before .before .before .before .if1 .left) o u) ∙ l .inv .2, refl)
 
 broken-rule-requires : tie.Need-broken-rule-requires Inv-loop μ-loop
-broken-rule-requires c κs = search needs
+broken-rule-requires c κs = tt
 
 enum-known-rule : tie.Need-enum-known-rule Inv-loop μ-loop
 enum-known-rule c = search needs

@@ -7,7 +7,7 @@ enum-known-o : tie.Need-enum-known-o
 enum-known-o c = search needs
 
 register-requires : tie.Need-register-requires
-register-requires c κs = search needs
+register-requires c κs = tt
 
 enum-known-o-2 : tie.Need-enum-known-o-2
 enum-known-o-2 c = search needs

@@ -7,49 +7,49 @@ enum-known-o : tie.Need-enum-known-o
 enum-known-o c = search needs
 
 register-requires : tie.Need-register-requires
-register-requires c κs = search needs
+register-requires c κs = tt
 
 op2-value-requires : tie.Need-op2-value-requires
-op2-value-requires c κs = search needs
+op2-value-requires c κs = tt
 
 arithmetic-requires : tie.Need-arithmetic-requires
-arithmetic-requires c κs = search needs
+arithmetic-requires c κs = tt
 
 enum-known-o-2 : tie.Need-enum-known-o-2
 enum-known-o-2 c = search needs
 
 register-requires-2 : tie.Need-register-requires-2
-register-requires-2 c κs = search needs
+register-requires-2 c κs = tt
 
 op2-value-requires-2 : tie.Need-op2-value-requires-2
-op2-value-requires-2 c κs = search needs
+op2-value-requires-2 c κs = tt
 
 compare-requires : tie.Need-compare-requires
-compare-requires c κs = search needs
+compare-requires c κs = tt
 
 enum-known-o-3 : tie.Need-enum-known-o-3
 enum-known-o-3 c = search needs
 
 operand-requires : tie.Need-operand-requires
-operand-requires c κs = search needs
+operand-requires c κs = tt
 
 operand-requires-2 : tie.Need-operand-requires-2
-operand-requires-2 c κs = search needs
+operand-requires-2 c κs = tt
 
 combine-requires : tie.Need-combine-requires
-combine-requires c κs = search needs
+combine-requires c κs = tt
 
 enum-known-o-4 : tie.Need-enum-known-o-4
 enum-known-o-4 c = search needs
 
 register-requires-3 : tie.Need-register-requires-3
-register-requires-3 c κs = search needs
+register-requires-3 c κs = tt
 
 operand-requires-3 : tie.Need-operand-requires-3
-operand-requires-3 c κs = search needs
+operand-requires-3 c κs = tt
 
 copy-bit-requires : tie.Need-copy-bit-requires
-copy-bit-requires c κs = search needs
+copy-bit-requires c κs = tt
 
 returns : tie.Need-returns
 unfolding aluEffect

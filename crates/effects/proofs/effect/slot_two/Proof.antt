@@ -5,10 +5,10 @@ use Rattle.effects.proofs.effect.slot_two.Statement.{statement}
 use Rattle.effects.proofs.effect.slot_two.Tie as tie
 
 operand-requires : tie.Need-operand-requires
-operand-requires c κs = search needs
+operand-requires c κs = tt
 
 second-effect-requires : tie.Need-second-effect-requires
-second-effect-requires c κs = search needs
+second-effect-requires c κs = tt
 
 returns : tie.Need-returns
 unfolding slotTwoEffect

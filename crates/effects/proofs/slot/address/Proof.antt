@@ -3,16 +3,16 @@ use Rattle.effects.proofs.slot.address.Statement.{statement}
 use Rattle.effects.proofs.slot.address.Tie as tie
 
 register-requires : tie.Need-register-requires
-register-requires c κs = search needs
+register-requires c κs = tt
 
 shift-left-requires : tie.Need-shift-left-requires
-shift-left-requires c κs = search needs
+shift-left-requires c κs = tt
 
 add-requires : tie.Need-add-requires
-add-requires c κs = search needs
+add-requires c κs = tt
 
 access-address-requires : tie.Need-access-address-requires
-access-address-requires c κs = search needs
+access-address-requires c κs = tt
 
 returns : tie.Need-returns
 returns c = rw (← c .before .before .before .register .ensures, ← c .before .before .shift-left .ensures, ← c .before .add .ensures, ← c .access-address .ensures)

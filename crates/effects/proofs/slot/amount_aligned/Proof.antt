@@ -10,7 +10,7 @@ enum-known-a : tie.Need-enum-known-a
 enum-known-a c = search needs
 
 register-requires : tie.Need-register-requires
-register-requires c κs = search needs
+register-requires c κs = tt
 
 returns : tie.Need-returns
 unfolding amountAligned

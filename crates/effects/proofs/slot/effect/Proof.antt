@@ -10,19 +10,19 @@ slice-aggregate-alu-effect : tie.Need-slice-aggregate-alu-effect
 slice-aggregate-alu-effect c = search needs
 
 alu-effect-requires : tie.Need-alu-effect-requires
-alu-effect-requires c κs = search needs
+alu-effect-requires c κs = tt
 
 enum-known-o-2 : tie.Need-enum-known-o-2
 enum-known-o-2 c = search needs
 
 register-requires : tie.Need-register-requires
-register-requires c κs = search needs
+register-requires c κs = tt
 
 register-requires-2 : tie.Need-register-requires-2
-register-requires-2 c κs = search needs
+register-requires-2 c κs = tt
 
 multiply-requires : tie.Need-multiply-requires
-multiply-requires c κs = search needs
+multiply-requires c κs = tt
 
 cast-t33 : tie.Need-cast-t33
 cast-t33 c = search needs
@@ -34,46 +34,46 @@ enum-known-o-3 : tie.Need-enum-known-o-3
 enum-known-o-3 c = search needs
 
 register-requires-3 : tie.Need-register-requires-3
-register-requires-3 c κs = search needs
+register-requires-3 c κs = tt
 
 enum-known-o-4 : tie.Need-enum-known-o-4
 enum-known-o-4 c = search needs
 
 read-special-requires : tie.Need-read-special-requires
-read-special-requires c κs = search needs
+read-special-requires c κs = tt
 
 enum-known-o-5 : tie.Need-enum-known-o-5
 enum-known-o-5 c = search needs
 
 load-scale-requires : tie.Need-load-scale-requires
-load-scale-requires c κs = search needs
+load-scale-requires c κs = tt
 
 address-requires : tie.Need-address-requires
-address-requires c κs = search needs
+address-requires c κs = tt
 
 enum-known-o-6 : tie.Need-enum-known-o-6
 enum-known-o-6 c = search needs
 
 store-scale-requires : tie.Need-store-scale-requires
-store-scale-requires c κs = search needs
+store-scale-requires c κs = tt
 
 address-requires-2 : tie.Need-address-requires-2
-address-requires-2 c κs = search needs
+address-requires-2 c κs = tt
 
 register-requires-4 : tie.Need-register-requires-4
-register-requires-4 c κs = search needs
+register-requires-4 c κs = tt
 
 enum-known-o-7 : tie.Need-enum-known-o-7
 enum-known-o-7 c = search needs
 
 stack-effect-requires : tie.Need-stack-effect-requires
-stack-effect-requires c κs = search needs
+stack-effect-requires c κs = tt
 
 enum-known-o-8 : tie.Need-enum-known-o-8
 enum-known-o-8 c = search needs
 
 transfer-of-requires : tie.Need-transfer-of-requires
-transfer-of-requires c κs = search needs
+transfer-of-requires c κs = tt
 
 enum-told : tie.Need-enum-told
 enum-told c = search needs

@@ -6,7 +6,7 @@ use Rattle.effects.proofs.slot.effects.Statement.{statement}
 use Rattle.effects.proofs.slot.effects.Tie as tie
 
 first-slot-requires : tie.Need-first-slot-requires
-first-slot-requires c κs = search needs
+first-slot-requires c κs = tt
 
 enum-told : tie.Need-enum-told
 enum-told c = search needs
@@ -15,13 +15,13 @@ enum-known-i : tie.Need-enum-known-i
 enum-known-i c = search needs
 
 slot-one-requires : tie.Need-slot-one-requires
-slot-one-requires c κs = search needs
+slot-one-requires c κs = tt
 
 slice-aggregate-second : tie.Need-slice-aggregate-second
 slice-aggregate-second c = search needs
 
 second-requires : tie.Need-second-requires
-second-requires c κs = search needs
+second-requires c κs = tt
 
 returns : tie.Need-returns
 returns c = sym (effects-undecodable (start (c .before .before .before .before .args .registers .now) (c .before .before .before .before .args .t2) (c .before .before .before .before .args .specials) (c .before .before .before .before .args .fetch)) (c .before .before .before .before .args .b) (sym (c .before .before .first-slot .ensures) ∙ c .enum-told .given .1))

@@ -12,7 +12,7 @@ enum-known-b : tie.Need-enum-known-b
 enum-known-b c = search needs
 
 slot-two-requires : tie.Need-slot-two-requires
-slot-two-requires c κs = search needs
+slot-two-requires c κs = tt
 
 enum-told-3 : tie.Need-enum-told-3
 enum-told-3 c = search needs

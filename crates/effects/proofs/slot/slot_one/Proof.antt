@@ -7,10 +7,10 @@ slice-aggregate-operand : tie.Need-slice-aggregate-operand
 slice-aggregate-operand c = search needs
 
 operand-requires : tie.Need-operand-requires
-operand-requires c κs = search needs
+operand-requires c κs = tt
 
 effect-requires : tie.Need-effect-requires
-effect-requires c κs = search needs
+effect-requires c κs = tt
 
 returns : tie.Need-returns
 unfolding slotOneEffect

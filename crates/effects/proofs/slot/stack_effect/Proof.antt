@@ -10,10 +10,10 @@ enum-known-o-2 : tie.Need-enum-known-o-2
 enum-known-o-2 c = search needs
 
 amount-words-requires : tie.Need-amount-words-requires
-amount-words-requires c κs = search needs
+amount-words-requires c κs = tt
 
 amount-aligned-requires : tie.Need-amount-aligned-requires
-amount-aligned-requires c κs = search needs
+amount-aligned-requires c κs = tt
 
 enum-known-o-3 : tie.Need-enum-known-o-3
 enum-known-o-3 c = search needs
@@ -22,10 +22,10 @@ enum-known-o-4 : tie.Need-enum-known-o-4
 enum-known-o-4 c = search needs
 
 amount-words-requires-2 : tie.Need-amount-words-requires-2
-amount-words-requires-2 c κs = search needs
+amount-words-requires-2 c κs = tt
 
 amount-aligned-requires-2 : tie.Need-amount-aligned-requires-2
-amount-aligned-requires-2 c κs = search needs
+amount-aligned-requires-2 c κs = tt
 
 returns : tie.Need-returns
 unfolding stackEffect

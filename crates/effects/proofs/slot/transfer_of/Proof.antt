@@ -9,55 +9,55 @@ enum-known-t : tie.Need-enum-known-t
 enum-known-t c = search needs
 
 shift-left-requires : tie.Need-shift-left-requires
-shift-left-requires c κs = search needs
+shift-left-requires c κs = tt
 
 enum-known-t-2 : tie.Need-enum-known-t-2
 enum-known-t-2 c = search needs
 
 register-requires : tie.Need-register-requires
-register-requires c κs = search needs
+register-requires c κs = tt
 
 enum-known-t-3 : tie.Need-enum-known-t-3
 enum-known-t-3 c = search needs
 
 unsigned-requires : tie.Need-unsigned-requires
-unsigned-requires c κs = search needs
+unsigned-requires c κs = tt
 
 shift-left-requires-2 : tie.Need-shift-left-requires-2
-shift-left-requires-2 c κs = search needs
+shift-left-requires-2 c κs = tt
 
 add-requires : tie.Need-add-requires
-add-requires c κs = search needs
+add-requires c κs = tt
 
 enum-known-t-4 : tie.Need-enum-known-t-4
 enum-known-t-4 c = search needs
 
 register-requires-2 : tie.Need-register-requires-2
-register-requires-2 c κs = search needs
+register-requires-2 c κs = tt
 
 enum-known-t-5 : tie.Need-enum-known-t-5
 enum-known-t-5 c = search needs
 
 shift-left-requires-3 : tie.Need-shift-left-requires-3
-shift-left-requires-3 c κs = search needs
+shift-left-requires-3 c κs = tt
 
 enum-known-t-6 : tie.Need-enum-known-t-6
 enum-known-t-6 c = search needs
 
 register-requires-3 : tie.Need-register-requires-3
-register-requires-3 c κs = search needs
+register-requires-3 c κs = tt
 
 register-requires-4 : tie.Need-register-requires-4
-register-requires-4 c κs = search needs
+register-requires-4 c κs = tt
 
 add-requires-2 : tie.Need-add-requires-2
-add-requires-2 c κs = search needs
+add-requires-2 c κs = tt
 
 enum-told : tie.Need-enum-told
 enum-told c = search needs
 
 add-requires-3 : tie.Need-add-requires-3
-add-requires-3 c κs = search needs
+add-requires-3 c κs = tt
 
 returns : tie.Need-returns
 unfolding transferOf

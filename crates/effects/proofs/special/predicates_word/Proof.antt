@@ -9,25 +9,25 @@ array-read-bit : tie.Need-array-read-bit
 array-read-bit c = search needs
 
 bit-requires : tie.Need-bit-requires
-bit-requires c κs = search needs
+bit-requires c κs = tt
 
 array-read-bit-2 : tie.Need-array-read-bit-2
 array-read-bit-2 c = search needs
 
 bit-requires-2 : tie.Need-bit-requires-2
-bit-requires-2 c κs = search needs
+bit-requires-2 c κs = tt
 
 array-read-bit-3 : tie.Need-array-read-bit-3
 array-read-bit-3 c = search needs
 
 bit-requires-3 : tie.Need-bit-requires-3
-bit-requires-3 c κs = search needs
+bit-requires-3 c κs = tt
 
 array-read-bit-4 : tie.Need-array-read-bit-4
 array-read-bit-4 c = search needs
 
 bit-requires-4 : tie.Need-bit-requires-4
-bit-requires-4 c κs = search needs
+bit-requires-4 c κs = tt
 
 mul-upper : tie.Need-mul-upper
 mul-upper c = search needs
@@ -51,25 +51,25 @@ array-read-bit-5 : tie.Need-array-read-bit-5
 array-read-bit-5 c = search needs
 
 bit-requires-5 : tie.Need-bit-requires-5
-bit-requires-5 c κs = search needs
+bit-requires-5 c κs = tt
 
 array-read-bit-6 : tie.Need-array-read-bit-6
 array-read-bit-6 c = search needs
 
 bit-requires-6 : tie.Need-bit-requires-6
-bit-requires-6 c κs = search needs
+bit-requires-6 c κs = tt
 
 array-read-bit-7 : tie.Need-array-read-bit-7
 array-read-bit-7 c = search needs
 
 bit-requires-7 : tie.Need-bit-requires-7
-bit-requires-7 c κs = search needs
+bit-requires-7 c κs = tt
 
 array-read-bit-8 : tie.Need-array-read-bit-8
 array-read-bit-8 c = search needs
 
 bit-requires-8 : tie.Need-bit-requires-8
-bit-requires-8 c κs = search needs
+bit-requires-8 c κs = tt
 
 mul-result : tie.Need-mul-result
 mul-result c = search needs

@@ -7,7 +7,7 @@ enum-told : tie.Need-enum-told
 enum-told c = search needs
 
 predicates-word-requires : tie.Need-predicates-word-requires
-predicates-word-requires c κs = search needs
+predicates-word-requires c κs = tt
 
 enum-told-2 : tie.Need-enum-told-2
 enum-told-2 c = search needs

@@ -4,10 +4,10 @@ use Rattle.single_path.proofs.Marking.is_ok.Statement.{statement}
 use Rattle.single_path.proofs.Marking.is_ok.Tie as tie
 
 private-register-requires : tie.Need-private-register-requires
-private-register-requires c κs = search needs
+private-register-requires c κs = tt
 
 private-predicate-requires : tie.Need-private-predicate-requires
-private-predicate-requires c κs = search needs
+private-predicate-requires c κs = tt
 
 returns : tie.Need-returns
 unfolding markingOk

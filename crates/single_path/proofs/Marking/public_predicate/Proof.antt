@@ -3,7 +3,7 @@ use Rattle.single_path.proofs.Marking.public_predicate.Statement.{state
 use Rattle.single_path.proofs.Marking.public_predicate.Tie as tie
 
 private-predicate-requires : tie.Need-private-predicate-requires
-private-predicate-requires c κs = search needs
+private-predicate-requires c κs = tt
 
 returns : tie.Need-returns
 returns c = rw (c .private-predicate .ensures)

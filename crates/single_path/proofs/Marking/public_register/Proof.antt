@@ -3,7 +3,7 @@ use Rattle.single_path.proofs.Marking.public_register.Statement.{statem
 use Rattle.single_path.proofs.Marking.public_register.Tie as tie
 
 private-register-requires : tie.Need-private-register-requires
-private-register-requires c κs = search needs
+private-register-requires c κs = tt
 
 returns : tie.Need-returns
 returns c = rw (c .private-register .ensures)

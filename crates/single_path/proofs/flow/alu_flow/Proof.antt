@@ -6,61 +6,61 @@ enum-known-o : tie.Need-enum-known-o
 enum-known-o c = search needs
 
 public-register-requires : tie.Need-public-register-requires
-public-register-requires c κs = search needs
+public-register-requires c κs = tt
 
 private-register-requires : tie.Need-private-register-requires
-private-register-requires c κs = search needs
+private-register-requires c κs = tt
 
 private-op2-requires : tie.Need-private-op2-requires
-private-op2-requires c κs = search needs
+private-op2-requires c κs = tt
 
 new-requires : tie.Need-new-requires
-new-requires c κs = search needs
+new-requires c κs = tt
 
 enum-known-o-2 : tie.Need-enum-known-o-2
 enum-known-o-2 c = search needs
 
 public-predicate-requires : tie.Need-public-predicate-requires
-public-predicate-requires c κs = search needs
+public-predicate-requires c κs = tt
 
 private-register-requires-2 : tie.Need-private-register-requires-2
-private-register-requires-2 c κs = search needs
+private-register-requires-2 c κs = tt
 
 private-op2-requires-2 : tie.Need-private-op2-requires-2
-private-op2-requires-2 c κs = search needs
+private-op2-requires-2 c κs = tt
 
 new-requires-2 : tie.Need-new-requires-2
-new-requires-2 c κs = search needs
+new-requires-2 c κs = tt
 
 enum-known-o-3 : tie.Need-enum-known-o-3
 enum-known-o-3 c = search needs
 
 public-predicate-requires-2 : tie.Need-public-predicate-requires-2
-public-predicate-requires-2 c κs = search needs
+public-predicate-requires-2 c κs = tt
 
 private-operand-requires : tie.Need-private-operand-requires
-private-operand-requires c κs = search needs
+private-operand-requires c κs = tt
 
 private-operand-requires-2 : tie.Need-private-operand-requires-2
-private-operand-requires-2 c κs = search needs
+private-operand-requires-2 c κs = tt
 
 new-requires-3 : tie.Need-new-requires-3
-new-requires-3 c κs = search needs
+new-requires-3 c κs = tt
 
 enum-known-o-4 : tie.Need-enum-known-o-4
 enum-known-o-4 c = search needs
 
 public-register-requires-2 : tie.Need-public-register-requires-2
-public-register-requires-2 c κs = search needs
+public-register-requires-2 c κs = tt
 
 private-register-requires-3 : tie.Need-private-register-requires-3
-private-register-requires-3 c κs = search needs
+private-register-requires-3 c κs = tt
 
 private-operand-requires-3 : tie.Need-private-operand-requires-3
-private-operand-requires-3 c κs = search needs
+private-operand-requires-3 c κs = tt
 
 new-requires-4 : tie.Need-new-requires-4
-new-requires-4 c κs = search needs
+new-requires-4 c κs = tt
 
 returns : tie.Need-returns
 returns c = rw (c .before .before .before .before .before .o .given .1, ← c .before .before .before .public-register .ensures, ← c .before .before .private-register .ensures, ← c .before .private-op2 .ensures, ← c .new .ensures)

@@ -6,85 +6,85 @@ enum-known-o : tie.Need-enum-known-o
 enum-known-o c = search needs
 
 alu-flow-requires : tie.Need-alu-flow-requires
-alu-flow-requires c κs = search needs
+alu-flow-requires c κs = tt
 
 enum-known-o-2 : tie.Need-enum-known-o-2
 enum-known-o-2 c = search needs
 
 private-register-requires : tie.Need-private-register-requires
-private-register-requires c κs = search needs
+private-register-requires c κs = tt
 
 private-register-requires-2 : tie.Need-private-register-requires-2
-private-register-requires-2 c κs = search needs
+private-register-requires-2 c κs = tt
 
 new-requires : tie.Need-new-requires
-new-requires c κs = search needs
+new-requires c κs = tt
 
 enum-known-o-3 : tie.Need-enum-known-o-3
 enum-known-o-3 c = search needs
 
 public-special-requires : tie.Need-public-special-requires
-public-special-requires c κs = search needs
+public-special-requires c κs = tt
 
 private-register-requires-3 : tie.Need-private-register-requires-3
-private-register-requires-3 c κs = search needs
+private-register-requires-3 c κs = tt
 
 new-requires-2 : tie.Need-new-requires-2
-new-requires-2 c κs = search needs
+new-requires-2 c κs = tt
 
 enum-known-o-4 : tie.Need-enum-known-o-4
 enum-known-o-4 c = search needs
 
 public-register-requires : tie.Need-public-register-requires
-public-register-requires c κs = search needs
+public-register-requires c κs = tt
 
 private-special-requires : tie.Need-private-special-requires
-private-special-requires c κs = search needs
+private-special-requires c κs = tt
 
 new-requires-3 : tie.Need-new-requires-3
-new-requires-3 c κs = search needs
+new-requires-3 c κs = tt
 
 enum-known-o-5 : tie.Need-enum-known-o-5
 enum-known-o-5 c = search needs
 
 public-register-requires-2 : tie.Need-public-register-requires-2
-public-register-requires-2 c κs = search needs
+public-register-requires-2 c κs = tt
 
 private-store-requires : tie.Need-private-store-requires
-private-store-requires c κs = search needs
+private-store-requires c κs = tt
 
 new-requires-4 : tie.Need-new-requires-4
-new-requires-4 c κs = search needs
+new-requires-4 c κs = tt
 
 enum-told : tie.Need-enum-told
 enum-told c = search needs
 
 new-requires-5 : tie.Need-new-requires-5
-new-requires-5 c κs = search needs
+new-requires-5 c κs = tt
 
 enum-told-2 : tie.Need-enum-told-2
 enum-told-2 c = search needs
 
 new-requires-6 : tie.Need-new-requires-6
-new-requires-6 c κs = search needs
+new-requires-6 c κs = tt
 
 enum-told-3 : tie.Need-enum-told-3
 enum-told-3 c = search needs
 
 new-requires-7 : tie.Need-new-requires-7
-new-requires-7 c κs = search needs
+new-requires-7 c κs = tt
 
 enum-told-4 : tie.Need-enum-told-4
 enum-told-4 c = search needs
 
 new-requires-8 : tie.Need-new-requires-8
-new-requires-8 c κs = search needs
+new-requires-8 c κs = tt
 
 enum-told-5 : tie.Need-enum-told-5
 enum-told-5 c = search needs
 
 new-requires-9 : tie.Need-new-requires-9
-new-requires-9 c κs = search needs
+new-requires-9 c κs = tt
 
 returns : tie.Need-returns
 returns c = rw (c .before .before .o .given .1, ← c .alu-flow .ensures)

@@ -6,7 +6,7 @@ enum-known-o : tie.Need-enum-known-o
 enum-known-o c = search needs
 
 private-register-requires : tie.Need-private-register-requires
-private-register-requires c κs = search needs
+private-register-requires c κs = tt
 
 enum-told : tie.Need-enum-told
 enum-told c = search needs

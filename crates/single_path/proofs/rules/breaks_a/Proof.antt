@@ -4,7 +4,7 @@ use Rattle.single_path.proofs.rules.breaks_a.Statement.{statement}
 use Rattle.single_path.proofs.rules.breaks_a.Tie as tie
 
 is-guarded-publicly-requires : tie.Need-is-guarded-publicly-requires
-is-guarded-publicly-requires c κs = search needs
+is-guarded-publicly-requires c κs = tt
 
 returns : tie.Need-returns
 unfolding breaksA

@@ -4,7 +4,7 @@ use Rattle.single_path.proofs.rules.breaks_b.Statement.{statement}
 use Rattle.single_path.proofs.rules.breaks_b.Tie as tie
 
 flow-of-requires : tie.Need-flow-of-requires
-flow-of-requires c κs = search needs
+flow-of-requires c κs = tt
 
 returns : tie.Need-returns
 unfolding breaksB

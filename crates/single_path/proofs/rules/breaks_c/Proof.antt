@@ -19,13 +19,13 @@ enum-known-o : tie.Need-enum-known-o
 enum-known-o c = search needs
 
 private-register-requires : tie.Need-private-register-requires
-private-register-requires c κs = search needs
+private-register-requires c κs = tt
 
 enum-known-o-2 : tie.Need-enum-known-o-2
 enum-known-o-2 c = search needs
 
 private-register-requires-2 : tie.Need-private-register-requires-2
-private-register-requires-2 c κs = search needs
+private-register-requires-2 c κs = tt
 
 enum-told-5 : tie.Need-enum-told-5
 enum-told-5 c = search needs

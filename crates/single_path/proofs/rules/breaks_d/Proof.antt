@@ -22,10 +22,10 @@ enum-known-o : tie.Need-enum-known-o
 enum-known-o c = search needs
 
 private-store-requires : tie.Need-private-store-requires
-private-store-requires c κs = search needs
+private-store-requires c κs = tt
 
 private-register-requires : tie.Need-private-register-requires
-private-register-requires c κs = search needs
+private-register-requires c κs = tt
 
 enum-told-6 : tie.Need-enum-told-6
 enum-told-6 c = search needs

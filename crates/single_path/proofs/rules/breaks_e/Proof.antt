@@ -25,13 +25,13 @@ enum-known-o : tie.Need-enum-known-o
 enum-known-o c = search needs
 
 private-stack-requires : tie.Need-private-stack-requires
-private-stack-requires c κs = search needs
+private-stack-requires c κs = tt
 
 enum-known-o-2 : tie.Need-enum-known-o-2
 enum-known-o-2 c = search needs
 
 private-target-requires : tie.Need-private-target-requires
-private-target-requires c κs = search needs
+private-target-requires c κs = tt
 
 enum-told-7 : tie.Need-enum-told-7
 enum-told-7 c = search needs

@@ -11,19 +11,19 @@ enum-known-b : tie.Need-enum-known-b
 enum-known-b c = search needs
 
 instruction-rule-requires : tie.Need-instruction-rule-requires
-instruction-rule-requires c κs = search needs
+instruction-rule-requires c κs = tt
 
 enum-known-b-2 : tie.Need-enum-known-b-2
 enum-known-b-2 c = search needs
 
 pair-rule-requires : tie.Need-pair-rule-requires
-pair-rule-requires c κs = search needs
+pair-rule-requires c κs = tt
 
 enum-known-b-3 : tie.Need-enum-known-b-3
 enum-known-b-3 c = search needs
 
 instruction-rule-requires-2 : tie.Need-instruction-rule-requires-2
-instruction-rule-requires-2 c κs = search needs
+instruction-rule-requires-2 c κs = tt
 
 returns : tie.Need-returns
 unfolding breaks right

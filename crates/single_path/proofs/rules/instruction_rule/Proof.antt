@@ -3,10 +3,10 @@ use Rattle.single_path.proofs.rules.instruction_rule.Statement.{stateme
 use Rattle.single_path.proofs.rules.instruction_rule.Tie as tie
 
 private-operand-requires : tie.Need-private-operand-requires
-private-operand-requires c κs = search needs
+private-operand-requires c κs = tt
 
 operation-rule-requires : tie.Need-operation-rule-requires
-operation-rule-requires c κs = search needs
+operation-rule-requires c κs = tt
 
 returns : tie.Need-returns
 returns c = rw (← c .before .private-operand .ensures) (c .operation-rule .ensures)

@@ -12,7 +12,7 @@ enum-known-o : tie.Need-enum-known-o
 enum-known-o c = search needs
 
 is-control-requires : tie.Need-is-control-requires
-is-control-requires c κs = search needs
+is-control-requires c κs = tt
 
 enum-told-3 : tie.Need-enum-told-3
 enum-told-3 c = search needs

@@ -5,35 +5,35 @@ use Rattle.single_path.proofs.rules.operation_rule.Statement.{statement
 use Rattle.single_path.proofs.rules.operation_rule.Tie as tie
 
 breaks-a-requires : tie.Need-breaks-a-requires
-breaks-a-requires c κs = search needs
+breaks-a-requires c κs = tt
 
 returns : tie.Need-returns
 unfolding operationBreaks right
 returns c = rw (← c .before .breaks-a .ensures, c .if1 .taken)
 
 breaks-b-requires : tie.Need-breaks-b-requires
-breaks-b-requires c κs = search needs
+breaks-b-requires c κs = tt
 
 returns-2 : tie.Need-returns-2
 unfolding operationBreaks right
 returns-2 c = rw (← c .before .breaks-b .ensures, c .if2 .taken)
 
 breaks-c-requires : tie.Need-breaks-c-requires
-breaks-c-requires c κs = search needs
+breaks-c-requires c κs = tt
 
 returns-3 : tie.Need-returns-3
 unfolding operationBreaks right
 returns-3 c = rw (← c .before .breaks-c .ensures, c .if3 .taken)
 
 breaks-d-requires : tie.Need-breaks-d-requires
-breaks-d-requires c κs = search needs
+breaks-d-requires c κs = tt
 
 returns-4 : tie.Need-returns-4
 unfolding operationBreaks right
 returns-4 c = rw (← c .before .breaks-d .ensures, c .if4 .taken)
 
 breaks-e-requires : tie.Need-breaks-e-requires
-breaks-e-requires c κs = search needs
+breaks-e-requires c κs = tt
 
 returns-5 : tie.Need-returns-5
 unfolding operationBreaks right

@@ -9,7 +9,7 @@ enum-known-a : tie.Need-enum-known-a
 enum-known-a c = search needs
 
 private-register-requires : tie.Need-private-register-requires
-private-register-requires c κs = search needs
+private-register-requires c κs = tt
 
 returns : tie.Need-returns
 returns c = rw (c .enum-told .given .1)

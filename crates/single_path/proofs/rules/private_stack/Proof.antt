@@ -9,7 +9,7 @@ enum-known-o : tie.Need-enum-known-o
 enum-known-o c = search needs
 
 private-amount-requires : tie.Need-private-amount-requires
-private-amount-requires c κs = search needs
+private-amount-requires c κs = tt
 
 enum-told-2 : tie.Need-enum-told-2
 enum-told-2 c = search needs
@@ -18,7 +18,7 @@ enum-known-o-2 : tie.Need-enum-known-o-2
 enum-known-o-2 c = search needs
 
 private-amount-requires-2 : tie.Need-private-amount-requires-2
-private-amount-requires-2 c κs = search needs
+private-amount-requires-2 c κs = tt
 
 returns : tie.Need-returns
 returns c = rw (c .enum-told .given .1)

@@ -9,7 +9,7 @@ enum-known-t : tie.Need-enum-known-t
 enum-known-t c = search needs
 
 private-register-requires : tie.Need-private-register-requires
-private-register-requires c κs = search needs
+private-register-requires c κs = tt
 
 enum-told-2 : tie.Need-enum-told-2
 enum-told-2 c = search needs
@@ -18,7 +18,7 @@ enum-known-t-2 : tie.Need-enum-known-t-2
 enum-known-t-2 c = search needs
 
 private-register-requires-2 : tie.Need-private-register-requires-2
-private-register-requires-2 c κs = search needs
+private-register-requires-2 c κs = tt
 
 enum-told-3 : tie.Need-enum-told-3
 enum-told-3 c = search needs
@@ -27,10 +27,10 @@ enum-known-t-3 : tie.Need-enum-known-t-3
 enum-known-t-3 c = search needs
 
 private-register-requires-3 : tie.Need-private-register-requires-3
-private-register-requires-3 c κs = search needs
+private-register-requires-3 c κs = tt
 
 private-register-requires-4 : tie.Need-private-register-requires-4
-private-register-requires-4 c κs = search needs
+private-register-requires-4 c κs = tt
 
 enum-told-4 : tie.Need-enum-told-4
 enum-told-4 c = search needs
