@@ -28,12 +28,12 @@ pub enum PrivateEntry {
 }
 
 // Whether no field is left.
-pub fn ended(line: &[u8], at: usize) -> bool {
+pub(crate) fn ended(line: &[u8], at: usize) -> bool {
     let f = next_field(line, at);
     f.start == f.end
 }
 
-pub fn number_at(line: &[u8], at: usize) -> Argument {
+pub(crate) fn number_at(line: &[u8], at: usize) -> Argument {
     let f = next_field(line, at);
     let start = f.start;
     let end = f.end;
@@ -46,7 +46,7 @@ pub fn number_at(line: &[u8], at: usize) -> Argument {
     }
 }
 
-pub fn word_at(line: &[u8], at: usize) -> Argument {
+pub(crate) fn word_at(line: &[u8], at: usize) -> Argument {
     let f = next_field(line, at);
     let start = f.start;
     let end = f.end;

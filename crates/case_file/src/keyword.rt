@@ -136,7 +136,7 @@ fn place_keyword(s: &[u8]) -> Keyword {
     Keyword::Unknown
 }
 
-pub fn first_word(s: &[u8]) -> Keyword {
+pub(crate) fn first_word(s: &[u8]) -> Keyword {
     let k = part_keyword(s);
     let Keyword::Unknown = k else {
         return k;
@@ -148,7 +148,7 @@ pub fn first_word(s: &[u8]) -> Keyword {
     place_keyword(s)
 }
 
-pub fn transfer_kind(s: &[u8]) -> TransferKind {
+pub(crate) fn transfer_kind(s: &[u8]) -> TransferKind {
     if same(s, b"br") {
         return TransferKind::Br;
     }
@@ -161,7 +161,7 @@ pub fn transfer_kind(s: &[u8]) -> TransferKind {
     TransferKind::Unknown
 }
 
-pub fn special_name(s: &[u8]) -> SpecialName {
+pub(crate) fn special_name(s: &[u8]) -> SpecialName {
     if same(s, b"sl") {
         return SpecialName::Sl;
     }
