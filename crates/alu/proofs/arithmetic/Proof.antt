@@ -7,13 +7,13 @@ enum-told : tie.Need-enum-told
 enum-told c = search needs
 
 add-requires : tie.Need-add-requires
-add-requires c κs = search needs
+add-requires c κs = tt
 
 enum-told-2 : tie.Need-enum-told-2
 enum-told-2 c = search needs
 
 sub-requires : tie.Need-sub-requires
-sub-requires c κs = search needs
+sub-requires c κs = tt
 
 enum-told-3 : tie.Need-enum-told-3
 enum-told-3 c = search needs
@@ -22,19 +22,19 @@ enum-told-4 : tie.Need-enum-told-4
 enum-told-4 c = search needs
 
 shift-left-requires : tie.Need-shift-left-requires
-shift-left-requires c κs = search needs
+shift-left-requires c κs = tt
 
 enum-told-5 : tie.Need-enum-told-5
 enum-told-5 c = search needs
 
 shift-right-requires : tie.Need-shift-right-requires
-shift-right-requires c κs = search needs
+shift-right-requires c κs = tt
 
 enum-told-6 : tie.Need-enum-told-6
 enum-told-6 c = search needs
 
 shift-right-signed-requires : tie.Need-shift-right-signed-requires
-shift-right-signed-requires c κs = search needs
+shift-right-signed-requires c κs = tt
 
 enum-told-7 : tie.Need-enum-told-7
 enum-told-7 c = search needs
@@ -46,25 +46,25 @@ enum-told-9 : tie.Need-enum-told-9
 enum-told-9 c = search needs
 
 nor-requires : tie.Need-nor-requires
-nor-requires c κs = search needs
+nor-requires c κs = tt
 
 enum-told-10 : tie.Need-enum-told-10
 enum-told-10 c = search needs
 
 shift-left-requires-2 : tie.Need-shift-left-requires-2
-shift-left-requires-2 c κs = search needs
+shift-left-requires-2 c κs = tt
 
 add-requires-2 : tie.Need-add-requires-2
-add-requires-2 c κs = search needs
+add-requires-2 c κs = tt
 
 enum-told-11 : tie.Need-enum-told-11
 enum-told-11 c = search needs
 
 shift-left-requires-3 : tie.Need-shift-left-requires-3
-shift-left-requires-3 c κs = search needs
+shift-left-requires-3 c κs = tt
 
 add-requires-3 : tie.Need-add-requires-3
-add-requires-3 c κs = search needs
+add-requires-3 c κs = tt
 
 returns : tie.Need-returns
 unfolding arithmetic

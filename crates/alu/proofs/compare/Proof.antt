@@ -13,13 +13,13 @@ enum-told-3 : tie.Need-enum-told-3
 enum-told-3 c = search needs
 
 less-signed-requires : tie.Need-less-signed-requires
-less-signed-requires c κs = search needs
+less-signed-requires c κs = tt
 
 enum-told-4 : tie.Need-enum-told-4
 enum-told-4 c = search needs
 
 less-equal-signed-requires : tie.Need-less-equal-signed-requires
-less-equal-signed-requires c κs = search needs
+less-equal-signed-requires c κs = tt
 
 enum-told-5 : tie.Need-enum-told-5
 enum-told-5 c = search needs
@@ -31,7 +31,7 @@ enum-told-7 : tie.Need-enum-told-7
 enum-told-7 c = search needs
 
 test-bit-requires : tie.Need-test-bit-requires
-test-bit-requires c κs = search needs
+test-bit-requires c κs = tt
 
 returns : tie.Need-returns
 unfolding compare

@@ -7,13 +7,13 @@ enum-told : tie.Need-enum-told
 enum-told c = search needs
 
 product-signed-requires : tie.Need-product-signed-requires
-product-signed-requires c κs = search needs
+product-signed-requires c κs = tt
 
 enum-told-2 : tie.Need-enum-told-2
 enum-told-2 c = search needs
 
 product-requires : tie.Need-product-requires
-product-requires c κs = search needs
+product-requires c κs = tt
 
 returns : tie.Need-returns
 unfolding multiply

@@ -6,13 +6,13 @@ use Rattle.decoder.proofs.decode.Statement.{statement}
 use Rattle.decoder.proofs.decode.Tie as tie
 
 long-requires : tie.Need-long-requires
-long-requires c κs = search needs
+long-requires c κs = tt
 
 enum-known-operation : tie.Need-enum-known-operation
 enum-known-operation c = search needs
 
 guard-of-requires : tie.Need-guard-of-requires
-guard-of-requires c κs = search needs
+guard-of-requires c κs = tt
 
 returns : tie.Need-returns
 returns c = rw (decode-by-long (c .before .before .before .before .before .args .first) (c .before .before .before .before .before .args .second) _ (sym (c .before .before .before .before .long .ensures)), c .before .before .operation .given .1, c .guard-of .ensures)
@@ -21,7 +21,7 @@ enum-told : tie.Need-enum-told
 enum-told c = search needs
 
 slot-one-requires : tie.Need-slot-one-requires
-slot-one-requires c κs = search needs
+slot-one-requires c κs = tt
 
 enum-known-operation-2 : tie.Need-enum-known-operation-2
 enum-known-operation-2 c = search needs
@@ -33,16 +33,16 @@ returns-2 : tie.Need-returns-2
 returns-2 c = rw (decode-by-long (c .before .before .before .before .before .before .args .first) (c .before .before .before .before .before .before .args .second) _ (sym (c .before .before .before .before .before .long .ensures)), c .before .before .before .enum-told .given .1, ← c .before .before .slot-one .ensures, c .enum-told2 .given .1) (sym (either-way (isTwoWords (c .before .before .before .before .before .before .args .first)) _))
 
 guard-of-requires-2 : tie.Need-guard-of-requires-2
-guard-of-requires-2 c κs = search needs
+guard-of-requires-2 c κs = tt
 
 bundle-words-requires : tie.Need-bundle-words-requires
-bundle-words-requires c κs = search needs
+bundle-words-requires c κs = tt
 
 returns-3 : tie.Need-returns-3
 returns-3 c = rw (decode-by-long (c .before .before .before .before .before .before .before .before .before .before .args .first) (c .before .before .before .before .before .before .before .before .before .before .args .second) _ (sym (c .before .before .before .before .before .before .before .before .before .long .ensures)), c .before .before .before .before .before .before .before .enum-told .given .1, ← c .before .before .before .before .before .before .slot-one .ensures, c .before .before .before .before .operation2 .given .1, words-one (c .before .before .before .before .before .before .before .before .before .before .args .first) (rw (c .before .bundle-words .ensures) at (c .if1 .taken)), c .before .before .guard-of2 .ensures)
 
 slot-two-requires : tie.Need-slot-two-requires
-slot-two-requires c κs = search needs
+slot-two-requires c κs = tt
 
 enum-known-other : tie.Need-enum-known-other
 enum-known-other c = search needs
@@ -54,7 +54,7 @@ returns-4 : tie.Need-returns-4
 returns-4 c = rw (decode-by-long (c .before .before .before .before .before .before .before .before .before .before .before .before .before .args .first) (c .before .before .before .before .before .before .before .before .before .before .before .before .before .args .second) _ (sym (c .before .before .before .before .before .before .before .before .before .before .before .before .long .ensures)), c .before .before .before .before .before .before .before .before .before .before .enum-told .given .1, ← c .before .before .before .before .before .before .before .before .before .slot-one .ensures, c .before .before .before .before .before .before .before .operation2 .given .1, words-two (c .before .before .before .before .before .before .before .before .before .before .before .before .before .args .first) (rw (c .before .before .before .before .bundle-words .ensures) at (c .before .before .before .if1 .left)), ← c .before .before .slot-two .ensures, c .enum-told3 .given .1)
 
 guard-of-requires-3 : tie.Need-guard-of-requires-3
-guard-of-requires-3 c κs = search needs
+guard-of-requires-3 c κs = tt
 
 returns-5 : tie.Need-returns-5
 returns-5 c = rw (decode-by-long (c .before .before .before .before .before .before .before .before .before .before .before .before .before .before .before .args .first) (c .before .before .before .before .before .before .before .before .before .before .before .before .before .before .before .args .second) _ (sym (c .before .before .before .before .before .before .before .before .before .before .before .before .before .before .long .ensures)), c .before .before .before .before .before .before .before .before .before .before .before .before .enum-told .given .1, ← c .before .before .before .before .before .before .before .before .before .before .before .slot-one .ensures, c .before .before .before .before .before .before .before .before .before .operation2 .given .1, words-two (c .before .before .before .before .before .before .before .before .before .before .before .before .before .before .before .args .first) (rw (c .before .before .before .before .before .before .bundle-words .ensures) at (c .before .before .before .before .before .if1 .left)), ← c .before .before .before .before .slot-two .ensures, c .before .before .other .given .1, c .guard-of3 .ensures, c .before .before .before .before .before .before .before .guard-of2 .ensures)

@@ -4,7 +4,7 @@ use Rattle.decoder.proofs.guard_of.Statement.{statement}
 use Rattle.decoder.proofs.guard_of.Tie as tie
 
 predicate-operand-requires : tie.Need-predicate-operand-requires
-predicate-operand-requires c κs = search needs
+predicate-operand-requires c κs = tt
 
 returns : tie.Need-returns
 unfolding guardOf

@@ -4,7 +4,7 @@ use Rattle.decoder.proofs.slot_one.Statement.{statement}
 use Rattle.decoder.proofs.slot_one.Tie as tie
 
 read-alu-requires : tie.Need-read-alu-requires
-read-alu-requires c κs = search needs
+read-alu-requires c κs = tt
 
 enum-known-operation : tie.Need-enum-known-operation
 enum-known-operation c = search needs
@@ -17,7 +17,7 @@ enum-told : tie.Need-enum-told
 enum-told c = search needs
 
 read-first-requires : tie.Need-read-first-requires
-read-first-requires c κs = search needs
+read-first-requires c κs = tt
 
 returns-2 : tie.Need-returns-2
 unfolding slotOne

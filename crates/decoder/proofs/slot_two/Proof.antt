@@ -9,7 +9,7 @@ unfolding slotTwo
 returns c = rw (c .if1 .taken)
 
 read-second-requires : tie.Need-read-second-requires
-read-second-requires c κs = search needs
+read-second-requires c κs = tt
 
 returns-2 : tie.Need-returns-2
 unfolding slotTwo

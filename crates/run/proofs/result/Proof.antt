@@ -7,7 +7,7 @@ use Rattle.run.proofs.result.Statement.{statement}
 use Rattle.run.proofs.result.Tie as tie
 
 join-requires : tie.Need-join-requires
-join-requires c κs = search needs
+join-requires c κs = tt
 
 returns : tie.Need-returns
 returns c = λ b. let a = c .before .args in ap (λ (s : State). outcome (returned (a .answer)) s (a .counts) b) (c .join .ensures)

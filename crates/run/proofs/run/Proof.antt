@@ -22,19 +22,19 @@ abbrev μ-loop : tie.MeasureT-loop
 μ-loop code main₀ local₀ cache₀ lo hi budget registers₀ predicates₀ core₀ counts₀ left₀ main local cache registers predicates core counts left = left
 
 core-requires : tie.Need-core-requires Inv-loop μ-loop
-core-requires c κs = search needs
+core-requires c κs = tt
 
 loop-holds : tie.Need-loop-holds Inv-loop μ-loop
 loop-holds c = (search needs, few-none _, refl, refl, refl, counted-none _)
 
 step-requires : tie.Need-step-requires Inv-loop μ-loop
-step-requires c κs = search needs
+step-requires c κs = tt
 
 enum-known-answer : tie.Need-enum-known-answer Inv-loop μ-loop
 enum-known-answer c = search needs
 
 result-requires : tie.Need-result-requires Inv-loop μ-loop
-result-requires c κs = search needs
+result-requires c κs = tt
 
 same-length : tie.Need-same-length Inv-loop μ-loop
 same-length c = c .before .before .before .before .before .before .before .before .before .before .before .before .step .kept .1 .1 .1 .1 .0 ∙ c .before .before .before .before .before .before .before .before .before .before .before .before .before .before .before .before .before .before .before .loop .inv .2
@@ -54,7 +54,7 @@ enum-told : tie.Need-enum-told Inv-loop μ-loop
 enum-told c = search needs
 
 result-requires-2 : tie.Need-result-requires-2 Inv-loop μ-loop
-result-requires-2 c κs = search needs
+result-requires-2 c κs = tt
 
 same-length-4 : tie.Need-same-length-4 Inv-loop μ-loop
 same-length-4 c = c .before .before .before .before .before .before .before .before .before .before .before .step .kept .1 .1 .1 .1 .0 ∙ c .before .before .before .before .before .before .before .before .before .before .before .before .before .before .before .before .before .before .loop .inv .2
@@ -94,13 +94,13 @@ loop-again c = let l = c .before .before .before .before .before .before .before
     )
 
 readiness-requires : tie.Need-readiness-requires Inv-loop μ-loop
-readiness-requires c κs = search needs
+readiness-requires c κs = tt
 
 standing-requires : tie.Need-standing-requires Inv-loop μ-loop
-standing-requires c κs = search needs
+standing-requires c κs = tt
 
 result-requires-3 : tie.Need-result-requires-3 Inv-loop μ-loop
-result-requires-3 c κs = search needs
+result-requires-3 c κs = tt
 
 same-length-7 : tie.Need-same-length-7 Inv-loop μ-loop
 same-length-7 c = c .before .before .before .before .before .before .loop .inv .2

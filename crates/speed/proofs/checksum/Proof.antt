@@ -13,13 +13,13 @@ loop-holds : tie.Need-loop-holds Inv-loop μ-loop
 loop-holds c = search needs
 
 shift-left-requires : tie.Need-shift-left-requires Inv-loop μ-loop
-shift-left-requires c κs = search needs
+shift-left-requires c κs = tt
 
 shift-right-requires : tie.Need-shift-right-requires Inv-loop μ-loop
-shift-right-requires c κs = search needs
+shift-right-requires c κs = tt
 
 or-requires : tie.Need-or-requires Inv-loop μ-loop
-or-requires c κs = search needs
+or-requires c κs = tt
 
 mul-xor : tie.Need-mul-xor Inv-loop μ-loop
 mul-xor c = search needs
@@ -28,7 +28,7 @@ array-read-xor : tie.Need-array-read-xor Inv-loop μ-loop
 array-read-xor c = search needs
 
 xor-requires : tie.Need-xor-requires Inv-loop μ-loop
-xor-requires c κs = search needs
+xor-requires c κs = tt
 
 add-i : tie.Need-add-i Inv-loop μ-loop
 add-i c = search needs

@@ -6,7 +6,7 @@ use Rattle.speed.proofs.cut.Statement.{statement}
 use Rattle.speed.proofs.cut.Tie as tie
 
 least-requires : tie.Need-least-requires
-least-requires c κs = search needs
+least-requires c κs = tt
 
 mul-n : tie.Need-mul-n
 mul-n c = search needs
@@ -15,13 +15,13 @@ cast-least : tie.Need-cast-least
 cast-least c = search needs
 
 least-requires-2 : tie.Need-least-requires-2
-least-requires-2 c κs = search needs
+least-requires-2 c κs = tt
 
 cast-least-2 : tie.Need-cast-least-2
 cast-least-2 c = search needs
 
 least-requires-3 : tie.Need-least-requires-3
-least-requires-3 c κs = search needs
+least-requires-3 c κs = tt
 
 slice-relend-prefix-run-workload : tie.Need-slice-relend-prefix-run-workload
 slice-relend-prefix-run-workload c = search needs
@@ -42,7 +42,7 @@ slice-aggregate-run-workload-3 : tie.Need-slice-aggregate-run-workload-3
 slice-aggregate-run-workload-3 c = sym (length-take-le _ (c .before .before .before .before .before .before .before .before .before .before .before .before .before .before .args .cache .now) (omega (arith, c .before .before .before .before .least3 .ensures)))
 
 run-workload-requires : tie.Need-run-workload-requires
-run-workload-requires c κs = search needs
+run-workload-requires c κs = tt
 
 same-length : tie.Need-same-length
 same-length c = search needs

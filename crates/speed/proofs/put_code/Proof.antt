@@ -21,10 +21,10 @@ shared-slice-read-write-word : tie.Need-shared-slice-read-write-word Inv-loop μ
 shared-slice-read-write-word c = search needs
 
 write-word-requires : tie.Need-write-word-requires Inv-loop μ-loop
-write-word-requires c κs = search needs
+write-word-requires c κs = tt
 
 wrapping-add-u32-requires : tie.Need-wrapping-add-u32-requires Inv-loop μ-loop
-wrapping-add-u32-requires c κs = search needs
+wrapping-add-u32-requires c κs = tt
 
 add-i : tie.Need-add-i Inv-loop μ-loop
 add-i c = search needs

@@ -22,7 +22,7 @@ shared-slice-read-is-name-byte : tie.Need-shared-slice-read-is-name-byte Inv-loo
 shared-slice-read-is-name-byte c = omega arith
 
 is-name-byte-requires : tie.Need-is-name-byte-requires Inv-loop μ-loop
-is-name-byte-requires c κs = search needs
+is-name-byte-requires c κs = tt
 
 returns : tie.Need-returns Inv-loop μ-loop
 returns c = let l = c .before .before .before .before .loop in

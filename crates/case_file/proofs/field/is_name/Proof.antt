@@ -5,7 +5,7 @@ use Rattle.case_file.proofs.field.is_name.Statement.{statement}
 use Rattle.case_file.proofs.field.is_name.Tie as tie
 
 are-name-bytes-requires : tie.Need-are-name-bytes-requires
-are-name-bytes-requires c κs = search needs
+are-name-bytes-requires c κs = tt
 
 returns : tie.Need-returns
 unfolding isName

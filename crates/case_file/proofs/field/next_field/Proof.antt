@@ -6,7 +6,7 @@ use Rattle.case_file.proofs.field.next_field.Statement.{statement}
 use Rattle.case_file.proofs.field.next_field.Tie as tie
 
 least-requires : tie.Need-least-requires
-least-requires c κs = search needs
+least-requires c κs = tt
 
 after-spaces-requires : tie.Need-after-spaces-requires
 after-spaces-requires c κs = search needs

@@ -22,7 +22,7 @@ shared-slice-read-digit : tie.Need-shared-slice-read-digit Inv-loop μ-loop
 shared-slice-read-digit c = omega arith
 
 digit-requires : tie.Need-digit-requires Inv-loop μ-loop
-digit-requires c κs = search needs
+digit-requires c κs = tt
 
 returns : tie.Need-returns Inv-loop μ-loop
 returns c = let l = c .before .before .before .before .loop in number-not-digit _ (l .v) (l .i) _ (c .before .before .before .loop-test .taken) _ (c .before .digit .ensures .0) (c .if1 .taken) ∙ l .inv .2

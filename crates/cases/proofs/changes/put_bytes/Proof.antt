@@ -12,10 +12,10 @@ abbrev μ-loop : tie.MeasureT-loop
 μ-loop out₀ used now copy₀ start end stop at₀ i₀ out copy at i = stop - i
 
 least-requires : tie.Need-least-requires Inv-loop μ-loop
-least-requires c κs = search needs
+least-requires c κs = tt
 
 least-requires-2 : tie.Need-least-requires-2 Inv-loop μ-loop
-least-requires-2 c κs = search needs
+least-requires-2 c κs = tt
 
 loop-holds : tie.Need-loop-holds Inv-loop μ-loop
 loop-holds c = search needs
@@ -24,7 +24,7 @@ shared-slice-read-put-two-digits : tie.Need-shared-slice-read-put-two-digits Inv
 shared-slice-read-put-two-digits c = search needs
 
 put-two-digits-requires : tie.Need-put-two-digits-requires Inv-loop μ-loop
-put-two-digits-requires c κs = search needs
+put-two-digits-requires c κs = tt
 
 shared-slice-read-copy : tie.Need-shared-slice-read-copy Inv-loop μ-loop
 shared-slice-read-copy c = search needs

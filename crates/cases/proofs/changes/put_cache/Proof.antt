@@ -15,7 +15,7 @@ loop-holds : tie.Need-loop-holds Inv-loop μ-loop
 loop-holds c = search needs
 
 put-if-changed-requires : tie.Need-put-if-changed-requires Inv-loop μ-loop
-put-if-changed-requires c κs = search needs
+put-if-changed-requires c κs = tt
 
 add-i : tie.Need-add-i Inv-loop μ-loop
 add-i c = search needs

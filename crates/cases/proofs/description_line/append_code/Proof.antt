@@ -18,7 +18,7 @@ sub-left : tie.Need-sub-left Inv-loop μ-loop
 sub-left c = search needs
 
 code-entry-requires : tie.Need-code-entry-requires Inv-loop μ-loop
-code-entry-requires c κs = search needs
+code-entry-requires c κs = tt
 
 enum-told : tie.Need-enum-told Inv-loop μ-loop
 enum-told c = search needs
@@ -48,7 +48,7 @@ returns-3 : tie.Need-returns-3 Inv-loop μ-loop
 returns-3 c = search needs
 
 write-word-requires : tie.Need-write-word-requires Inv-loop μ-loop
-write-word-requires c κs = search needs
+write-word-requires c κs = tt
 
 add-n : tie.Need-add-n Inv-loop μ-loop
 add-n c = search needs

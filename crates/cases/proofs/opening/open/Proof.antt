@@ -4,13 +4,13 @@ use Rattle.cases.proofs.opening.open.Statement.{statement}
 use Rattle.cases.proofs.opening.open.Tie as tie
 
 fresh-requires : tie.Need-fresh-requires
-fresh-requires c κs = search needs
+fresh-requires c κs = tt
 
 enum-known-answer : tie.Need-enum-known-answer
 enum-known-answer c = search needs
 
 with-state-requires : tie.Need-with-state-requires
-with-state-requires c κs = search needs
+with-state-requires c κs = tt
 
 same-length : tie.Need-same-length
 same-length c = search needs
@@ -22,13 +22,13 @@ enum-told : tie.Need-enum-told
 enum-told c = search needs
 
 set-up-requires : tie.Need-set-up-requires
-set-up-requires c κs = search needs
+set-up-requires c κs = tt
 
 described-state-requires : tie.Need-described-state-requires
-described-state-requires c κs = search needs
+described-state-requires c κs = tt
 
 with-state-requires-2 : tie.Need-with-state-requires-2
-with-state-requires-2 c κs = search needs
+with-state-requires-2 c κs = tt
 
 same-length-2 : tie.Need-same-length-2
 same-length-2 c = c .before .before .before .before .before .before .before .before .set-up .kept .1 .1 .1 .0 ∙ c .before .before .before .before .before .before .before .before .before .before .before .before .before .before .before .before .before .fresh .kept .1 .1 .1 .1 .0

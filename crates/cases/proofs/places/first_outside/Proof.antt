@@ -10,7 +10,7 @@ abbrev μ-loop : tie.MeasureT-loop
 μ-loop notes count main local words most i₀ i = most - i
 
 least-requires : tie.Need-least-requires Inv-loop μ-loop
-least-requires c κs = search needs
+least-requires c κs = tt
 
 loop-holds : tie.Need-loop-holds Inv-loop μ-loop
 loop-holds c = search needs
@@ -19,7 +19,7 @@ mul-number-at : tie.Need-mul-number-at Inv-loop μ-loop
 mul-number-at c = search needs
 
 number-at-requires : tie.Need-number-at-requires Inv-loop μ-loop
-number-at-requires c κs = search needs
+number-at-requires c κs = tt
 
 mul-number-at-2 : tie.Need-mul-number-at-2 Inv-loop μ-loop
 mul-number-at-2 c = search needs
@@ -28,10 +28,10 @@ add-number-at : tie.Need-add-number-at Inv-loop μ-loop
 add-number-at c = search needs
 
 number-at-requires-2 : tie.Need-number-at-requires-2 Inv-loop μ-loop
-number-at-requires-2 c κs = search needs
+number-at-requires-2 c κs = tt
 
 size-requires : tie.Need-size-requires Inv-loop μ-loop
-size-requires c κs = search needs
+size-requires c κs = tt
 
 mul-number-at-3 : tie.Need-mul-number-at-3 Inv-loop μ-loop
 mul-number-at-3 c = search needs
@@ -40,7 +40,7 @@ add-number-at-2 : tie.Need-add-number-at-2 Inv-loop μ-loop
 add-number-at-2 c = search needs
 
 number-at-requires-3 : tie.Need-number-at-requires-3 Inv-loop μ-loop
-number-at-requires-3 c κs = search needs
+number-at-requires-3 c κs = tt
 
 returns : tie.Need-returns Inv-loop μ-loop
 returns c = search needs

@@ -4,7 +4,7 @@ use Rattle.decoder.proofs.alu_formats.arithmetic.Statement.{statement}
 use Rattle.decoder.proofs.alu_formats.arithmetic.Tie as tie
 
 alu-function-requires : tie.Need-alu-function-requires
-alu-function-requires c κs = search needs
+alu-function-requires c κs = tt
 
 enum-known-function : tie.Need-enum-known-function
 enum-known-function c = search needs

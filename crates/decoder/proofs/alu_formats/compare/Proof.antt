@@ -4,7 +4,7 @@ use Rattle.decoder.proofs.alu_formats.compare.Statement.{statement}
 use Rattle.decoder.proofs.alu_formats.compare.Tie as tie
 
 compare-function-requires : tie.Need-compare-function-requires
-compare-function-requires c κs = search needs
+compare-function-requires c κs = tt
 
 enum-known-function : tie.Need-enum-known-function
 enum-known-function c = search needs

@@ -4,7 +4,7 @@ use Rattle.decoder.proofs.alu_formats.predicate.Statement.{statement}
 use Rattle.decoder.proofs.alu_formats.predicate.Tie as tie
 
 predicate-function-requires : tie.Need-predicate-function-requires
-predicate-function-requires c κs = search needs
+predicate-function-requires c κs = tt
 
 enum-known-function : tie.Need-enum-known-function
 enum-known-function c = search needs

@@ -22,7 +22,7 @@ unfolding reading
 returns-3 c = simp (c .before .before .if1 .left, c .before .if2 .left, ne-eqb _ _ (c .if3 .taken))
 
 arithmetic-requires : tie.Need-arithmetic-requires
-arithmetic-requires c κs = search needs
+arithmetic-requires c κs = tt
 
 returns-4 : tie.Need-returns-4
 unfolding reading

@@ -6,7 +6,7 @@ use Rattle.decoder.proofs.alu_formats.read_second.Statement.{statement}
 use Rattle.decoder.proofs.alu_formats.read_second.Tie as tie
 
 arithmetic-requires : tie.Need-arithmetic-requires
-arithmetic-requires c κs = search needs
+arithmetic-requires c κs = tt
 
 returns : tie.Need-returns
 unfolding reading
@@ -17,25 +17,25 @@ unfolding reading
 returns-2 c = simp (ne-eqb _ _ (c .before .if1 .left), ne-eqb _ _ (c .if2 .taken))
 
 arithmetic-requires-2 : tie.Need-arithmetic-requires-2
-arithmetic-requires-2 c κs = search needs
+arithmetic-requires-2 c κs = tt
 
 compare-requires : tie.Need-compare-requires
-compare-requires c κs = search needs
+compare-requires c κs = tt
 
 predicate-operand-requires : tie.Need-predicate-operand-requires
-predicate-operand-requires c κs = search needs
+predicate-operand-requires c κs = tt
 
 predicate-operand-requires-2 : tie.Need-predicate-operand-requires-2
-predicate-operand-requires-2 c κs = search needs
+predicate-operand-requires-2 c κs = tt
 
 predicate-requires : tie.Need-predicate-requires
-predicate-requires c κs = search needs
+predicate-requires c κs = tt
 
 predicate-operand-requires-3 : tie.Need-predicate-operand-requires-3
-predicate-operand-requires-3 c κs = search needs
+predicate-operand-requires-3 c κs = tt
 
 compare-requires-2 : tie.Need-compare-requires-2
-compare-requires-2 c κs = search needs
+compare-requires-2 c κs = tt
 
 returns-3 : tie.Need-returns-3
 unfolding reading

@@ -8,28 +8,28 @@ use Rattle.decoder.proofs.first_formats.read_flow.Statement.{statement}
 use Rattle.decoder.proofs.first_formats.read_flow.Tie as tie
 
 transfer-requires : tie.Need-transfer-requires
-transfer-requires c κs = search needs
+transfer-requires c κs = tt
 
 transfer-requires-2 : tie.Need-transfer-requires-2
-transfer-requires-2 c κs = search needs
+transfer-requires-2 c κs = tt
 
 signed-field-22-requires : tie.Need-signed-field-22-requires
-signed-field-22-requires c κs = search needs
+signed-field-22-requires c κs = tt
 
 transfer-requires-3 : tie.Need-transfer-requires-3
-transfer-requires-3 c κs = search needs
+transfer-requires-3 c κs = tt
 
 signed-field-22-requires-2 : tie.Need-signed-field-22-requires-2
-signed-field-22-requires-2 c κs = search needs
+signed-field-22-requires-2 c κs = tt
 
 transfer-requires-4 : tie.Need-transfer-requires-4
-transfer-requires-4 c κs = search needs
+transfer-requires-4 c κs = tt
 
 transfer-requires-5 : tie.Need-transfer-requires-5
-transfer-requires-5 c κs = search needs
+transfer-requires-5 c κs = tt
 
 transfer-requires-6 : tie.Need-transfer-requires-6
-transfer-requires-6 c κs = search needs
+transfer-requires-6 c κs = tt
 
 returns : tie.Need-returns
 unfolding row

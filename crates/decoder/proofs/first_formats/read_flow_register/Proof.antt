@@ -6,7 +6,7 @@ use Rattle.decoder.proofs.first_formats.read_flow_register.Statement.{s
 use Rattle.decoder.proofs.first_formats.read_flow_register.Tie as tie
 
 transfer-requires : tie.Need-transfer-requires
-transfer-requires c κs = search needs
+transfer-requires c κs = tt
 
 returns : tie.Need-returns
 unfolding row
@@ -21,14 +21,14 @@ unfolding row
 returns-3 c = let n = c .match .rest in rw (register-first (c .before .before .args .w) (c .before .before .pre), c .before .if1 .taken) (simp (ne-eqb _ _ (n .1), ne-eqb _ _ (n .0 .1)))
 
 transfer-requires-2 : tie.Need-transfer-requires-2
-transfer-requires-2 c κs = search needs
+transfer-requires-2 c κs = tt
 
 returns-4 : tie.Need-returns-4
 unfolding row
 returns-4 c = rw (register-first (c .before .before .before .before .args .w) (c .before .before .before .before .pre), c .before .before .if2 .taken, c .before .match2 .keys1, c .transfer2 .ensures)
 
 transfer-requires-3 : tie.Need-transfer-requires-3
-transfer-requires-3 c κs = search needs
+transfer-requires-3 c κs = tt
 
 returns-5 : tie.Need-returns-5
 unfolding row
@@ -47,7 +47,7 @@ unfolding row
 returns-8 c = rw (register-first (c .before .before .before .before .args .w) (c .before .before .before .before .pre), c .before .if3 .left) (simp (ne-eqb _ _ (c .if4 .taken)))
 
 transfer-requires-4 : tie.Need-transfer-requires-4
-transfer-requires-4 c κs = search needs
+transfer-requires-4 c κs = tt
 
 returns-9 : tie.Need-returns-9
 unfolding row

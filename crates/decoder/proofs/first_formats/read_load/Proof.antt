@@ -10,7 +10,7 @@ use Rattle.decoder.proofs.first_formats.read_load.Statement.{statement}
 use Rattle.decoder.proofs.first_formats.read_load.Tie as tie
 
 load-width-requires : tie.Need-load-width-requires
-load-width-requires c κs = search needs
+load-width-requires c κs = tt
 
 enum-known-width : tie.Need-enum-known-width
 enum-known-width c = search needs

@@ -14,7 +14,7 @@ unfolding reading
 returns c = simp (upper-opcode, flow-opcode, c .before .pre, ne-eqb _ _ (c .if1 .taken))
 
 multiply-function-requires : tie.Need-multiply-function-requires
-multiply-function-requires c κs = search needs
+multiply-function-requires c κs = tt
 
 enum-known-function : tie.Need-enum-known-function
 enum-known-function c = search needs

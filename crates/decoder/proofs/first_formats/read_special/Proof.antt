@@ -10,7 +10,7 @@ use Rattle.decoder.proofs.first_formats.read_special.Statement.{stateme
 use Rattle.decoder.proofs.first_formats.read_special.Tie as tie
 
 special-requires : tie.Need-special-requires
-special-requires c κs = search needs
+special-requires c κs = tt
 
 enum-known-special : tie.Need-enum-known-special
 enum-known-special c = search needs
@@ -27,7 +27,7 @@ unfolding reading
 returns-2 c = rw (upper-opcode, flow-opcode, c .before .before .before .before .before .pre, c .before .before .before .before .if1 .taken, div-one, row-then, ← c .before .before .before .special .ensures, c .before .special2 .given .1)
 
 special-requires-2 : tie.Need-special-requires-2
-special-requires-2 c κs = search needs
+special-requires-2 c κs = tt
 
 enum-known-special-2 : tie.Need-enum-known-special-2
 enum-known-special-2 c = search needs

@@ -10,28 +10,28 @@ use Rattle.decoder.proofs.first_formats.read_stack_control.Statement.{s
 use Rattle.decoder.proofs.first_formats.read_stack_control.Tie as tie
 
 stack-control-requires : tie.Need-stack-control-requires
-stack-control-requires c κs = search needs
+stack-control-requires c κs = tt
 
 returns : tie.Need-returns
 unfolding reading row
 returns c = rw (upper-opcode, flow-opcode, c .before .before .before .pre, c .before .before .if1 .taken, c .before .match .keys1, div-one, c .stack-control .ensures)
 
 stack-control-requires-2 : tie.Need-stack-control-requires-2
-stack-control-requires-2 c κs = search needs
+stack-control-requires-2 c κs = tt
 
 returns-2 : tie.Need-returns-2
 unfolding reading row
 returns-2 c = rw (upper-opcode, flow-opcode, c .before .before .before .pre, c .before .before .if1 .taken, c .before .match .keys2, div-one, c .stack-control2 .ensures)
 
 stack-control-requires-3 : tie.Need-stack-control-requires-3
-stack-control-requires-3 c κs = search needs
+stack-control-requires-3 c κs = tt
 
 returns-3 : tie.Need-returns-3
 unfolding reading row
 returns-3 c = rw (upper-opcode, flow-opcode, c .before .before .before .pre, c .before .before .if1 .taken, c .before .match .keys3, div-one, c .stack-control3 .ensures)
 
 stack-control-requires-4 : tie.Need-stack-control-requires-4
-stack-control-requires-4 c κs = search needs
+stack-control-requires-4 c κs = tt
 
 returns-4 : tie.Need-returns-4
 unfolding reading row
@@ -42,10 +42,10 @@ unfolding reading row
 returns-5 c = simp (upper-opcode, flow-opcode, c .before .before .pre, ne-eqb _ _ (c .before .if1 .left), ne-eqb _ _ (c .if2 .taken))
 
 stack-control-requires-5 : tie.Need-stack-control-requires-5
-stack-control-requires-5 c κs = search needs
+stack-control-requires-5 c κs = tt
 
 stack-control-requires-6 : tie.Need-stack-control-requires-6
-stack-control-requires-6 c κs = search needs
+stack-control-requires-6 c κs = tt
 
 returns-6 : tie.Need-returns-6
 unfolding reading row

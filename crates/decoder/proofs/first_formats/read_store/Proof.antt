@@ -10,7 +10,7 @@ use Rattle.decoder.proofs.first_formats.read_store.Statement.{statement
 use Rattle.decoder.proofs.first_formats.read_store.Tie as tie
 
 store-width-requires : tie.Need-store-width-requires
-store-width-requires c κs = search needs
+store-width-requires c κs = tt
 
 enum-known-width : tie.Need-enum-known-width
 enum-known-width c = search needs

@@ -7,25 +7,25 @@ enum-told : tie.Need-enum-told
 enum-told c = search needs
 
 load-cache-requires : tie.Need-load-cache-requires
-load-cache-requires c κs = search needs
+load-cache-requires c κs = tt
 
 enum-told-2 : tie.Need-enum-told-2
 enum-told-2 c = search needs
 
 load-bytes-requires : tie.Need-load-bytes-requires
-load-bytes-requires c κs = search needs
+load-bytes-requires c κs = tt
 
 enum-told-3 : tie.Need-enum-told-3
 enum-told-3 c = search needs
 
 load-bytes-requires-2 : tie.Need-load-bytes-requires-2
-load-bytes-requires-2 c κs = search needs
+load-bytes-requires-2 c κs = tt
 
 enum-told-4 : tie.Need-enum-told-4
 enum-told-4 c = search needs
 
 load-bytes-requires-3 : tie.Need-load-bytes-requires-3
-load-bytes-requires-3 c κs = search needs
+load-bytes-requires-3 c κs = tt
 
 returns : tie.Need-returns
 unfolding loadedValue readNumber

@@ -8,37 +8,37 @@ enum-told : tie.Need-enum-told
 enum-told c = search needs
 
 read-word-requires : tie.Need-read-word-requires
-read-word-requires c κs = search needs
+read-word-requires c κs = tt
 
 enum-told-2 : tie.Need-enum-told-2
 enum-told-2 c = search needs
 
 read-half-requires : tie.Need-read-half-requires
-read-half-requires c κs = search needs
+read-half-requires c κs = tt
 
 sign-extend-16-requires : tie.Need-sign-extend-16-requires
-sign-extend-16-requires c κs = search needs
+sign-extend-16-requires c κs = tt
 
 enum-told-3 : tie.Need-enum-told-3
 enum-told-3 c = search needs
 
 read-byte-requires : tie.Need-read-byte-requires
-read-byte-requires c κs = search needs
+read-byte-requires c κs = tt
 
 sign-extend-8-requires : tie.Need-sign-extend-8-requires
-sign-extend-8-requires c κs = search needs
+sign-extend-8-requires c κs = tt
 
 enum-told-4 : tie.Need-enum-told-4
 enum-told-4 c = search needs
 
 read-half-requires-2 : tie.Need-read-half-requires-2
-read-half-requires-2 c κs = search needs
+read-half-requires-2 c κs = tt
 
 enum-told-5 : tie.Need-enum-told-5
 enum-told-5 c = search needs
 
 read-byte-requires-2 : tie.Need-read-byte-requires-2
-read-byte-requires-2 c κs = search needs
+read-byte-requires-2 c κs = tt
 
 returns : tie.Need-returns
 unfolding loadScale extended

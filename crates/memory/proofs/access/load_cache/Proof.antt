@@ -8,37 +8,37 @@ enum-told : tie.Need-enum-told
 enum-told c = search needs
 
 load-word-requires : tie.Need-load-word-requires
-load-word-requires c κs = search needs
+load-word-requires c κs = tt
 
 enum-told-2 : tie.Need-enum-told-2
 enum-told-2 c = search needs
 
 load-half-requires : tie.Need-load-half-requires
-load-half-requires c κs = search needs
+load-half-requires c κs = tt
 
 sign-extend-16-requires : tie.Need-sign-extend-16-requires
-sign-extend-16-requires c κs = search needs
+sign-extend-16-requires c κs = tt
 
 enum-told-3 : tie.Need-enum-told-3
 enum-told-3 c = search needs
 
 load-byte-requires : tie.Need-load-byte-requires
-load-byte-requires c κs = search needs
+load-byte-requires c κs = tt
 
 sign-extend-8-requires : tie.Need-sign-extend-8-requires
-sign-extend-8-requires c κs = search needs
+sign-extend-8-requires c κs = tt
 
 enum-told-4 : tie.Need-enum-told-4
 enum-told-4 c = search needs
 
 load-half-requires-2 : tie.Need-load-half-requires-2
-load-half-requires-2 c κs = search needs
+load-half-requires-2 c κs = tt
 
 enum-told-5 : tie.Need-enum-told-5
 enum-told-5 c = search needs
 
 load-byte-requires-2 : tie.Need-load-byte-requires-2
-load-byte-requires-2 c κs = search needs
+load-byte-requires-2 c κs = tt
 
 returns : tie.Need-returns
 unfolding loadScale extended

@@ -7,25 +7,25 @@ enum-told : tie.Need-enum-told
 enum-told c = search needs
 
 store-cache-requires : tie.Need-store-cache-requires
-store-cache-requires c κs = search needs
+store-cache-requires c κs = tt
 
 enum-told-2 : tie.Need-enum-told-2
 enum-told-2 c = search needs
 
 store-bytes-requires : tie.Need-store-bytes-requires
-store-bytes-requires c κs = search needs
+store-bytes-requires c κs = tt
 
 enum-told-3 : tie.Need-enum-told-3
 enum-told-3 c = search needs
 
 store-bytes-requires-2 : tie.Need-store-bytes-requires-2
-store-bytes-requires-2 c κs = search needs
+store-bytes-requires-2 c κs = tt
 
 enum-told-4 : tie.Need-enum-told-4
 enum-told-4 c = search needs
 
 store-bytes-requires-3 : tie.Need-store-bytes-requires-3
-store-bytes-requires-3 c κs = search needs
+store-bytes-requires-3 c κs = tt
 
 same-length : tie.Need-same-length
 same-length c = search needs

@@ -7,19 +7,19 @@ enum-told : tie.Need-enum-told
 enum-told c = search needs
 
 write-word-requires : tie.Need-write-word-requires
-write-word-requires c κs = search needs
+write-word-requires c κs = tt
 
 enum-told-2 : tie.Need-enum-told-2
 enum-told-2 c = search needs
 
 write-half-requires : tie.Need-write-half-requires
-write-half-requires c κs = search needs
+write-half-requires c κs = tt
 
 enum-told-3 : tie.Need-enum-told-3
 enum-told-3 c = search needs
 
 write-byte-requires : tie.Need-write-byte-requires
-write-byte-requires c κs = search needs
+write-byte-requires c κs = tt
 
 same-length : tie.Need-same-length
 same-length c = search needs

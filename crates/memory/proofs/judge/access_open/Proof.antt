@@ -16,13 +16,13 @@ enum-told-3 : tie.Need-enum-told-3
 enum-told-3 c = search needs
 
 main-open-requires : tie.Need-main-open-requires
-main-open-requires c κs = search needs
+main-open-requires c κs = tt
 
 enum-told-4 : tie.Need-enum-told-4
 enum-told-4 c = search needs
 
 main-open-requires-2 : tie.Need-main-open-requires-2
-main-open-requires-2 c κs = search needs
+main-open-requires-2 c κs = tt
 
 returns : tie.Need-returns
 unfolding accessOpen

@@ -12,17 +12,17 @@ unfolding accessVerdict verdict
 returns c = rw (ne-eqb _ _ (c .if1 .taken))
 
 bad-window-requires : tie.Need-bad-window-requires
-bad-window-requires c κs = search needs
+bad-window-requires c κs = tt
 
 is-stack-requires : tie.Need-is-stack-requires
-is-stack-requires c κs = search needs
+is-stack-requires c κs = tt
 
 returns-2 : tie.Need-returns-2
 unfolding accessVerdict verdict
 returns-2 c = rw (c .before .before .before .if1 .left, ← c .before .before .bad-window .ensures, ← c .before .is-stack .ensures, c .if2 .taken)
 
 access-open-requires : tie.Need-access-open-requires
-access-open-requires c κs = search needs
+access-open-requires c κs = tt
 
 returns-3 : tie.Need-returns-3
 unfolding accessVerdict verdict

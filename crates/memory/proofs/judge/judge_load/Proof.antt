@@ -3,7 +3,7 @@ use Rattle.memory.proofs.judge.judge_load.Statement.{statement}
 use Rattle.memory.proofs.judge.judge_load.Tie as tie
 
 load-size-requires : tie.Need-load-size-requires
-load-size-requires c κs = search needs
+load-size-requires c κs = tt
 
 judge-requires : tie.Need-judge-requires
 judge-requires c κs = search needs

@@ -3,7 +3,7 @@ use Rattle.memory.proofs.judge.judge_store.Statement.{statement}
 use Rattle.memory.proofs.judge.judge_store.Tie as tie
 
 store-size-requires : tie.Need-store-size-requires
-store-size-requires c κs = search needs
+store-size-requires c κs = tt
 
 judge-requires : tie.Need-judge-requires
 judge-requires c κs = search needs

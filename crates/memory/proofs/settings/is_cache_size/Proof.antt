@@ -5,7 +5,7 @@ use Rattle.memory.proofs.settings.is_cache_size.Statement.{statement}
 use Rattle.memory.proofs.settings.is_cache_size.Tie as tie
 
 new-requires : tie.Need-new-requires
-new-requires c κs = search needs
+new-requires c κs = tt
 
 enum-told : tie.Need-enum-told
 enum-told c = search needs

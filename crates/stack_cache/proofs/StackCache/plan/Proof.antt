@@ -9,7 +9,7 @@ cast-bad-window : tie.Need-cast-bad-window
 cast-bad-window c = search needs
 
 bad-window-requires : tie.Need-bad-window-requires
-bad-window-requires c κs = search needs
+bad-window-requires c κs = tt
 
 returns : tie.Need-returns
 unfolding planned

@@ -4,10 +4,10 @@ use Rattle.stack_cache.proofs.access.load_byte.Statement.{statement}
 use Rattle.stack_cache.proofs.access.load_byte.Tie as tie
 
 cache-word-requires : tie.Need-cache-word-requires
-cache-word-requires c κs = search needs
+cache-word-requires c κs = tt
 
 byte-shift-requires : tie.Need-byte-shift-requires
-byte-shift-requires c κs = search needs
+byte-shift-requires c κs = tt
 
 part-requires : tie.Need-part-requires
 part-requires c κs = search needs

@@ -4,10 +4,10 @@ use Rattle.stack_cache.proofs.access.load_half.Statement.{statement}
 use Rattle.stack_cache.proofs.access.load_half.Tie as tie
 
 cache-word-requires : tie.Need-cache-word-requires
-cache-word-requires c κs = search needs
+cache-word-requires c κs = tt
 
 half-shift-requires : tie.Need-half-shift-requires
-half-shift-requires c κs = search needs
+half-shift-requires c κs = tt
 
 part-requires : tie.Need-part-requires
 part-requires c κs = search needs

@@ -7,7 +7,7 @@ use Rattle.stack_cache.proofs.access.load_word.Statement.{statement}
 use Rattle.stack_cache.proofs.access.load_word.Tie as tie
 
 cache-word-requires : tie.Need-cache-word-requires
-cache-word-requires c κs = search needs
+cache-word-requires c κs = tt
 
 returns : tie.Need-returns
 unfolding cacheNumber

@@ -6,10 +6,10 @@ use Rattle.stack_cache.proofs.access.store_byte.Statement.{statement}
 use Rattle.stack_cache.proofs.access.store_byte.Tie as tie
 
 cache-word-requires : tie.Need-cache-word-requires
-cache-word-requires c κs = search needs
+cache-word-requires c κs = tt
 
 byte-shift-requires : tie.Need-byte-shift-requires
-byte-shift-requires c κs = search needs
+byte-shift-requires c κs = tt
 
 with-part-requires : tie.Need-with-part-requires
 unfolding partOf putPart
@@ -18,7 +18,7 @@ with-part-requires c κs = let a = c .before .before .before .before .args in
     (c .byte-shift .ensures .1, omega arith, rw (c .byte-shift .ensures .0) (putPart-word 1 (w .result) (a .address) (a .v) (omega arith) (omega (arith, w .ok))))
 
 put-cache-word-requires : tie.Need-put-cache-word-requires
-put-cache-word-requires c κs = search needs
+put-cache-word-requires c κs = tt
 
 same-length : tie.Need-same-length
 same-length c = search needs

@@ -6,10 +6,10 @@ use Rattle.stack_cache.proofs.access.store_half.Statement.{statement}
 use Rattle.stack_cache.proofs.access.store_half.Tie as tie
 
 cache-word-requires : tie.Need-cache-word-requires
-cache-word-requires c κs = search needs
+cache-word-requires c κs = tt
 
 half-shift-requires : tie.Need-half-shift-requires
-half-shift-requires c κs = search needs
+half-shift-requires c κs = tt
 
 with-part-requires : tie.Need-with-part-requires
 unfolding partOf putPart
@@ -18,7 +18,7 @@ with-part-requires c κs = let a = c .before .before .before .before .args in
     (c .half-shift .ensures .1, omega arith, rw (c .half-shift .ensures .0) (putPart-word 2 (w .result) (a .address) (a .v) (omega arith) (omega (arith, w .ok))))
 
 put-cache-word-requires : tie.Need-put-cache-word-requires
-put-cache-word-requires c κs = search needs
+put-cache-word-requires c κs = tt
 
 same-length : tie.Need-same-length
 same-length c = search needs

@@ -7,7 +7,7 @@ use Rattle.stack_cache.proofs.access.store_word.Statement.{statement}
 use Rattle.stack_cache.proofs.access.store_word.Tie as tie
 
 put-cache-word-requires : tie.Need-put-cache-word-requires
-put-cache-word-requires c κs = search needs
+put-cache-word-requires c κs = tt
 
 same-length : tie.Need-same-length
 same-length c = search needs

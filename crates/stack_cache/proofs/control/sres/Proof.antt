@@ -32,7 +32,7 @@ mul-saturating-sub : tie.Need-mul-saturating-sub
 mul-saturating-sub c = search needs
 
 saturating-sub-requires : tie.Need-saturating-sub-requires
-saturating-sub-requires c κs = search needs
+saturating-sub-requires c κs = tt
 
 mul-end : tie.Need-mul-end
 mul-end c = search needs
@@ -41,7 +41,7 @@ sub-end : tie.Need-sub-end
 sub-end c = search needs
 
 inside-requires : tie.Need-inside-requires
-inside-requires c κs = search needs
+inside-requires c κs = tt
 
 returns-3 : tie.Need-returns-3
 unfolding spillCount fillCount ssAfter topAfter

@@ -11,7 +11,7 @@ sub-min : tie.Need-sub-min
 sub-min c = search needs
 
 min-requires : tie.Need-min-requires
-min-requires c κs = search needs
+min-requires c κs = tt
 
 mul-end : tie.Need-mul-end
 mul-end c = search needs
@@ -20,7 +20,7 @@ sub-end : tie.Need-sub-end
 sub-end c = search needs
 
 inside-requires : tie.Need-inside-requires
-inside-requires c κs = search needs
+inside-requires c κs = tt
 
 returns : tie.Need-returns
 unfolding spillCount fillCount ssAfter topAfter

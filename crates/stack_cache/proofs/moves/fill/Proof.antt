@@ -17,16 +17,16 @@ loop-holds : tie.Need-loop-holds Inv-loop μ-loop
 loop-holds c = (refl, refl)
 
 sub-requires : tie.Need-sub-requires Inv-loop μ-loop
-sub-requires c κs = search needs
+sub-requires c κs = tt
 
 read-word-requires : tie.Need-read-word-requires Inv-loop μ-loop
-read-word-requires c κs = search needs
+read-word-requires c κs = tt
 
 put-cache-word-requires : tie.Need-put-cache-word-requires Inv-loop μ-loop
-put-cache-word-requires c κs = search needs
+put-cache-word-requires c κs = tt
 
 add-requires : tie.Need-add-requires Inv-loop μ-loop
-add-requires c κs = search needs
+add-requires c κs = tt
 
 sub-left : tie.Need-sub-left Inv-loop μ-loop
 sub-left c = omega arith

@@ -18,16 +18,16 @@ loop-holds : tie.Need-loop-holds Inv-loop μ-loop
 loop-holds c = (refl, refl)
 
 sub-requires : tie.Need-sub-requires Inv-loop μ-loop
-sub-requires c κs = search needs
+sub-requires c κs = tt
 
 sub-requires-2 : tie.Need-sub-requires-2 Inv-loop μ-loop
-sub-requires-2 c κs = search needs
+sub-requires-2 c κs = tt
 
 cache-word-requires : tie.Need-cache-word-requires Inv-loop μ-loop
-cache-word-requires c κs = search needs
+cache-word-requires c κs = tt
 
 write-word-requires : tie.Need-write-word-requires Inv-loop μ-loop
-write-word-requires c κs = search needs
+write-word-requires c κs = tt
 
 sub-left : tie.Need-sub-left Inv-loop μ-loop
 sub-left c = omega arith

@@ -8,13 +8,13 @@ use Rattle.word.proofs.arithmetic.product_signed.Statement.{statement}
 use Rattle.word.proofs.arithmetic.product_signed.Tie as tie
 
 signed-requires : tie.Need-signed-requires
-signed-requires c κs = search needs
+signed-requires c κs = tt
 
 cast-unsigned-64 : tie.Need-cast-unsigned-64
 cast-unsigned-64 c = wider (c .signed .result) (c .signed .ok)
 
 signed-requires-2 : tie.Need-signed-requires-2
-signed-requires-2 c κs = search needs
+signed-requires-2 c κs = tt
 
 cast-unsigned-64-2 : tie.Need-cast-unsigned-64-2
 cast-unsigned-64-2 c = wider (c .signed2 .result) (c .signed2 .ok)
@@ -25,7 +25,7 @@ mul-unsigned-64 c = let x = c .before .signed in
     rw (widened (x .result) (x .ok), widened (y .result) (y .ok)) (product-fits (x .result) (y .result) (x .ok) (y .ok))
 
 unsigned-64-requires : tie.Need-unsigned-64-requires
-unsigned-64-requires c κs = search needs
+unsigned-64-requires c κs = tt
 
 returns : tie.Need-returns
 unfolding productSigned

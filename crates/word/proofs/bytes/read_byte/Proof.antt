@@ -4,7 +4,7 @@ use Rattle.word.proofs.bytes.read_byte.Statement.{statement}
 use Rattle.word.proofs.bytes.read_byte.Tie as tie
 
 byte-requires : tie.Need-byte-requires
-byte-requires c κs = search needs
+byte-requires c κs = tt
 
 cast-result : tie.Need-cast-result
 cast-result c = search needs

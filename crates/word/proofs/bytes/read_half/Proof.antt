@@ -16,22 +16,22 @@ shared-slice-read-half-of-2 : tie.Need-shared-slice-read-half-of-2
 shared-slice-read-half-of-2 c = search needs
 
 half-of-requires : tie.Need-half-of-requires
-half-of-requires c κs = search needs
+half-of-requires c κs = tt
 
 returns : tie.Need-returns
 returns c = rw (c .half-of .ensures, number-2)
 
 byte-requires : tie.Need-byte-requires
-byte-requires c κs = search needs
+byte-requires c κs = tt
 
 add-byte : tie.Need-add-byte
 add-byte c = search needs
 
 byte-requires-2 : tie.Need-byte-requires-2
-byte-requires-2 c κs = search needs
+byte-requires-2 c κs = tt
 
 half-of-requires-2 : tie.Need-half-of-requires-2
-half-of-requires-2 c κs = search needs
+half-of-requires-2 c κs = tt
 
 returns-2 : tie.Need-returns-2
 returns-2 c = rw (number-2, ← c .before .before .byte .ensures, ← c .before .byte2 .ensures) (c .half-of2 .ensures)

@@ -4,7 +4,7 @@ use Rattle.word.proofs.bytes.write_byte.Statement.{statement}
 use Rattle.word.proofs.bytes.write_byte.Tie as tie
 
 put-requires : tie.Need-put-requires
-put-requires c κs = search needs
+put-requires c κs = tt
 
 same-length : tie.Need-same-length
 same-length c = search needs

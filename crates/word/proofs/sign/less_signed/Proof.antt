@@ -5,10 +5,10 @@ use Rattle.word.proofs.sign.less_signed.Statement.{statement}
 use Rattle.word.proofs.sign.less_signed.Tie as tie
 
 signed-requires : tie.Need-signed-requires
-signed-requires c κs = search needs
+signed-requires c κs = tt
 
 signed-requires-2 : tie.Need-signed-requires-2
-signed-requires-2 c κs = search needs
+signed-requires-2 c κs = tt
 
 returns : tie.Need-returns
 unfolding lessSigned

@@ -8,7 +8,7 @@ reading-requires : tie.Need-reading-requires
 reading-requires c κs = search needs
 
 unsigned-requires : tie.Need-unsigned-requires
-unsigned-requires c κs = search needs
+unsigned-requires c κs = tt
 
 returns : tie.Need-returns
 unfolding signed signExtend

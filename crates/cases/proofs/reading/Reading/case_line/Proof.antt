@@ -3,7 +3,7 @@ use Rattle.cases.proofs.reading.Reading.case_line.Statement.{statement}
 use Rattle.cases.proofs.reading.Reading.case_line.Tie as tie
 
 fail-requires : tie.Need-fail-requires
-fail-requires c κs = search needs
+fail-requires c κs = tt
 
 same-length : tie.Need-same-length
 same-length c = c .before .before .fail .kept .1 .0
@@ -12,10 +12,10 @@ returns : tie.Need-returns
 returns c = search needs
 
 is-operation-requires : tie.Need-is-operation-requires
-is-operation-requires c κs = search needs
+is-operation-requires c κs = tt
 
 operate-requires : tie.Need-operate-requires
-operate-requires c κs = search needs
+operate-requires c κs = tt
 
 same-length-2 : tie.Need-same-length-2
 same-length-2 c = search needs
@@ -48,7 +48,7 @@ returns-2 : tie.Need-returns-2
 returns-2 c = search needs
 
 describe-requires : tie.Need-describe-requires
-describe-requires c κs = search needs
+describe-requires c κs = tt
 
 same-length-11 : tie.Need-same-length-11
 same-length-11 c = c .before .before .before .before .before .before .before .before .before .before .before .before .describe .kept .1 .1 .1 .0

@@ -3,10 +3,10 @@ use Rattle.cases.proofs.reading.Reading.finish.Statement.{statement}
 use Rattle.cases.proofs.reading.Reading.finish.Tie as tie
 
 least-requires : tie.Need-least-requires
-least-requires c κs = search needs
+least-requires c κs = tt
 
 end-requires : tie.Need-end-requires
-end-requires c κs = search needs
+end-requires c κs = tt
 
 same-length : tie.Need-same-length
 same-length c = search needs
@@ -24,10 +24,10 @@ part-take-line-end : tie.Need-part-take-line-end
 part-take-line-end c = search needs
 
 take-line-requires : tie.Need-take-line-requires
-take-line-requires c κs = search needs
+take-line-requires c κs = tt
 
 end-requires-2 : tie.Need-end-requires-2
-end-requires-2 c κs = search needs
+end-requires-2 c κs = tt
 
 same-length-2 : tie.Need-same-length-2
 same-length-2 c = c .before .before .before .before .before .before .before .before .before .before .before .before .before .before .before .before .before .before .before .before .take-line .kept .1 .1 .0

@@ -4,7 +4,7 @@ use Rattle.cases.proofs.reading.Reading.operate.Statement.{statement}
 use Rattle.cases.proofs.reading.Reading.operate.Tie as tie
 
 ready-requires : tie.Need-ready-requires
-ready-requires c κs = search needs
+ready-requires c κs = tt
 
 same-length : tie.Need-same-length
 same-length c = search needs
@@ -31,7 +31,7 @@ returns : tie.Need-returns
 returns c = search needs
 
 perform-requires : tie.Need-perform-requires
-perform-requires c κs = search needs
+perform-requires c κs = tt
 
 same-length-8 : tie.Need-same-length-8
 same-length-8 c = c .before .before .before .before .before .before .before .before .before .before .before .before .before .before .perform .kept .1 .1 .1 .0

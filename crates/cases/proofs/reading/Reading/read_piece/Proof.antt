@@ -3,13 +3,13 @@ use Rattle.cases.proofs.reading.Reading.read_piece.Statement.{statement
 use Rattle.cases.proofs.reading.Reading.read_piece.Tie as tie
 
 read-requires : tie.Need-read-requires
-read-requires c κs = search needs
+read-requires c κs = tt
 
 fail-requires : tie.Need-fail-requires
-fail-requires c κs = search needs
+fail-requires c κs = tt
 
 end-requires : tie.Need-end-requires
-end-requires c κs = search needs
+end-requires c κs = tt
 
 same-length : tie.Need-same-length
 same-length c = search needs
@@ -21,13 +21,13 @@ returns : tie.Need-returns
 returns c = search needs
 
 count-requires : tie.Need-count-requires
-count-requires c κs = search needs
+count-requires c κs = tt
 
 least-requires : tie.Need-least-requires
-least-requires c κs = search needs
+least-requires c κs = tt
 
 finish-requires : tie.Need-finish-requires
-finish-requires c κs = search needs
+finish-requires c κs = tt
 
 same-length-3 : tie.Need-same-length-3
 same-length-3 c = c .before .before .before .before .before .before .before .before .before .before .before .before .before .before .before .before .before .before .before .before .before .before .before .before .before .before .before .before .before .before .before .before .before .before .before .before .read .kept .1 .0
@@ -75,7 +75,7 @@ part-take-piece-end : tie.Need-part-take-piece-end
 part-take-piece-end c = search needs
 
 take-piece-requires : tie.Need-take-piece-requires
-take-piece-requires c κs = search needs
+take-piece-requires c κs = tt
 
 same-length-14 : tie.Need-same-length-14
 same-length-14 c = c .before .before .before .before .before .before .before .before .before .before .before .before .before .before .before .before .before .before .before .before .before .before .before .before .before .before .before .before .before .before .before .before .before .before .before .before .before .before .before .before .read .kept .1 .0

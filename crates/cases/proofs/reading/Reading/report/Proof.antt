@@ -4,7 +4,7 @@ use Rattle.cases.proofs.reading.Reading.report.Statement.{statement}
 use Rattle.cases.proofs.reading.Reading.report.Tie as tie
 
 put-state-requires : tie.Need-put-state-requires
-put-state-requires c κs = search needs
+put-state-requires c κs = tt
 
 slice-aggregate-put-memory : tie.Need-slice-aggregate-put-memory
 slice-aggregate-put-memory c = search needs
@@ -13,7 +13,7 @@ cast-put-memory : tie.Need-cast-put-memory
 cast-put-memory c = search needs
 
 put-memory-requires : tie.Need-put-memory-requires
-put-memory-requires c κs = search needs
+put-memory-requires c κs = tt
 
 slice-aggregate-put-memory-2 : tie.Need-slice-aggregate-put-memory-2
 slice-aggregate-put-memory-2 c = search needs
@@ -22,13 +22,13 @@ cast-put-memory-2 : tie.Need-cast-put-memory-2
 cast-put-memory-2 c = search needs
 
 put-memory-requires-2 : tie.Need-put-memory-requires-2
-put-memory-requires-2 c κs = search needs
+put-memory-requires-2 c κs = tt
 
 cache-words-requires : tie.Need-cache-words-requires
-cache-words-requires c κs = search needs
+cache-words-requires c κs = tt
 
 put-cache-requires : tie.Need-put-cache-requires
-put-cache-requires c κs = search needs
+put-cache-requires c κs = tt
 
 same-length : tie.Need-same-length
 same-length c = search needs

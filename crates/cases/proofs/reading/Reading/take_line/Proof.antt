@@ -3,10 +3,10 @@ use Rattle.cases.proofs.reading.Reading.take_line.Statement.{statement}
 use Rattle.cases.proofs.reading.Reading.take_line.Tie as tie
 
 wrapping-add-u64-requires : tie.Need-wrapping-add-u64-requires
-wrapping-add-u64-requires c κs = search needs
+wrapping-add-u64-requires c κs = tt
 
 read-line-requires : tie.Need-read-line-requires
-read-line-requires c κs = search needs
+read-line-requires c κs = tt
 
 enum-told : tie.Need-enum-told
 enum-told c = search needs
@@ -15,16 +15,16 @@ enum-known-said : tie.Need-enum-known-said
 enum-known-said c = search needs
 
 fail-requires : tie.Need-fail-requires
-fail-requires c κs = search needs
+fail-requires c κs = tt
 
 enum-known-said-2 : tie.Need-enum-known-said-2
 enum-known-said-2 c = search needs
 
 start-case-requires : tie.Need-start-case-requires
-start-case-requires c κs = search needs
+start-case-requires c κs = tt
 
 case-line-requires : tie.Need-case-line-requires
-case-line-requires c κs = search needs
+case-line-requires c κs = tt
 
 returns : tie.Need-returns
 returns c = search needs

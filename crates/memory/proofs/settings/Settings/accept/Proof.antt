@@ -4,7 +4,7 @@ use Rattle.memory.proofs.settings.Settings.accept.Statement.{statement}
 use Rattle.memory.proofs.settings.Settings.accept.Tie as tie
 
 admits-requires : tie.Need-admits-requires
-admits-requires c κs = search needs
+admits-requires c κs = tt
 
 returns : tie.Need-returns
 unfolding acceptance

@@ -4,13 +4,13 @@ use Rattle.memory.proofs.settings.Settings.admits.Statement.{statement}
 use Rattle.memory.proofs.settings.Settings.admits.Tie as tie
 
 code-length-ok-requires : tie.Need-code-length-ok-requires
-code-length-ok-requires c κs = search needs
+code-length-ok-requires c κs = tt
 
 is-cache-size-requires : tie.Need-is-cache-size-requires
-is-cache-size-requires c κs = search needs
+is-cache-size-requires c κs = tt
 
 area-ok-requires : tie.Need-area-ok-requires
-area-ok-requires c κs = search needs
+area-ok-requires c κs = tt
 
 returns : tie.Need-returns
 unfolding admits
