@@ -1,10 +1,10 @@
 // What the ALU, compare, predicate and multiply functions give.
 ghost use mathlib.Core.Path.{_≡_};
 ghost use Rattle.alu.specs.Alu.{arithmetic, multiply, compare, combine};
-use decoder::instruction::AluFunction;
-use decoder::instruction::CompareFunction;
-use decoder::instruction::MultiplyFunction;
-use decoder::instruction::PredicateFunction;
+use decoder::AluFunction;
+use decoder::CompareFunction;
+use decoder::MultiplyFunction;
+use decoder::PredicateFunction;
 
 pub fn arithmetic(function: AluFunction, a: u32, b: u32) -> u32
     ensures { λ r. ⌜ r ≡ arithmetic function a b ⌝ }

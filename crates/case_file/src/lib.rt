@@ -1,8 +1,134 @@
-// Case files: what a line says, and how a number is written in a report. Nothing here does what a line asks.
-pub mod argument;
-pub mod field;
-pub mod keyword;
-pub mod line;
-pub mod number;
-pub mod reason;
-pub mod text;
+// Case files: what a line says. Nothing here does what a line asks.
+pub mod arguments;
+pub mod keywords;
+pub mod lines;
+
+// A number or word, and the place after its field.
+pub enum Argument {
+    Value { value: u32, next: usize },
+    Mistake(Reason),
+}
+
+// The next entry of a code line.
+pub enum CodeEntry {
+    Word { word: u32, next: usize },
+    Mistake(Reason),
+    End,
+}
+
+// The next entry of a private line.
+pub enum PrivateEntry {
+    Item { item: Item, next: usize },
+    Mistake(Reason),
+    End,
+}
+
+// The first word of a line.
+pub enum Keyword {
+    Case,
+    Code,
+    Main,
+    Local,
+    Stack,
+    Private,
+    Entry,
+    Fetch,
+    Base,
+    Reg,
+    Pred,
+    Special,
+    Transfer,
+    Load,
+    MainWord,
+    LocalWord,
+    CacheWord,
+    Run,
+    Step,
+    Check,
+    Unknown,
+}
+
+// The kinds of a waiting transfer.
+pub enum TransferKind {
+    Br,
+    Call,
+    Block,
+    Unknown,
+}
+
+// The special registers that a case can set.
+pub enum SpecialName {
+    Sl,
+    Sh,
+    Ss,
+    St,
+    Srb,
+    Sro,
+    Sxb,
+    Sxo,
+    Unknown,
+}
+
+// An item of a marking.
+pub enum Item {
+    Register(u32),
+    Predicate(u32),
+    Sl,
+    Sh,
+    Main,
+    Local,
+    Stack,
+    Unknown,
+}
+
+// A line by its keyword. Case holds the place of the name, Code and Private the place of their lists.
+pub enum Line {
+    Empty,
+    Mistake(Reason),
+    Case { name: usize },
+    Code { list: usize },
+    Private { list: usize },
+    Main(u32),
+    Local(u32),
+    Stack { words: u32, lo: u32, hi: u32 },
+    Entry(u32),
+    Fetch(u32),
+    Base(u32),
+    Reg { number: u32, word: u32 },
+    Pred { number: u32, value: bool },
+    Special { name: SpecialName, word: u32 },
+    Br { target: u32, wait: u32 },
+    Call { target: u32, wait: u32 },
+    Block { target: u32, base: u32, wait: u32 },
+    Load { number: u32, word: u32 },
+    MainWord { address: u32, word: u32 },
+    LocalWord { address: u32, word: u32 },
+    CacheWord { place: u32, word: u32 },
+    Run(u32),
+    Step,
+    Check,
+}
+
+// Why a line is a mistake.
+pub enum Reason {
+    UnknownWord,
+    FieldMissing,
+    FieldTooMany,
+    NotANumber,
+    NotAWord,
+    NotAName,
+    NotABit,
+    NoSuchRegister,
+    NoSuchPredicate,
+    NoSuchSpecial,
+    NoSuchTransfer,
+    NoSuchItem,
+    LineTooLong,
+    BeforeFirstCase,
+    AfterOperation,
+    Repeated,
+    TooMuchCode,
+    TooMuchMemory,
+    PlaceOutside,
+    NoCheck,
+}

@@ -1,24 +1,29 @@
-// What an operation changed: each word that differs is reported, and the copy is brought up to date.
+// What an operation changed: each word that differs from its copy is reported, and the copy is brought up to date.
+use crate::buffers::CACHE_COPY;
+use crate::buffers::COPY;
+use crate::buffers::Cache;
+use crate::buffers::Memory;
+use crate::extent::Extents;
+use crate::output::Text;
+use crate::output::flush;
 use crate::output::least;
 use crate::output::put;
-use crate::output::put_labelled;
-use crate::output::put_labelled_word;
+use crate::output::put_byte;
+use crate::output::put_number;
 use crate::output::put_two_digits;
+use crate::output::say;
 ghost use Prim.Native.Nat.{_≤_};
 
-// The first place from a on, below end, at which two slices differ, or end.
-fn first_difference(a: &[u8], b: &[u8], from: usize, end: usize) -> usize
+// The first place from a on, below end, at which a memory differs from its copy, or end.
+fn first_difference(memory: &Memory, from: usize, end: usize) -> usize
     ensures { λ r. ⌜ from ≤ r ⌝ }
 {
     let mut i = from;
     while i < end {
-        if a.len() <= i {
+        if COPY <= i {
             return i;
         }
-        if b.len() <= i {
-            return i;
-        }
-        if a[i] != b[i] {
+        if memory[i] != memory[COPY + i] {
             return i;
         }
         i += 1;
@@ -27,100 +32,69 @@ fn first_difference(a: &[u8], b: &[u8], from: usize, end: usize) -> usize
 }
 
 // The bytes from start to end, two digits each, copied on the way.
-fn put_bytes(
-    out: &mut [u8],
-    used: usize,
-    now: &[u8],
-    copy: &mut [u8],
-    start: usize,
-    end: usize,
-) -> usize {
-    let stop = least(least(end, now.len()), copy.len());
+fn put_bytes(text: &mut Text, used: usize, memory: &mut Memory, start: usize, end: usize) -> usize {
+    let stop = least(end, COPY);
     let mut at = used;
     let mut i = start;
     while i < stop {
-        at = put_two_digits(&mut *out, at, now[i]);
-        copy[i] = now[i];
+        at = put_two_digits(&mut *text, at, memory[i]);
+        memory[COPY + i] = memory[i];
         i += 1;
     }
     at
 }
 
-fn put_change(
-    out: &mut [u8],
-    used: usize,
-    label: &[u8],
-    now: &[u8],
-    copy: &mut [u8],
-    start: usize,
-    end: usize,
-) -> usize {
-    let a = put_labelled(&mut *out, used, label, start as u64);
-    let b = put(&mut *out, a, b" ");
-    let c = put_bytes(&mut *out, b, now, &mut *copy, start, end);
-    put(&mut *out, c, b"\n")
+fn put_change(label: &[u8], memory: &mut Memory, start: usize, end: usize) {
+    let mut text = [0u8; 512];
+    let a = put(&mut text, 0, label);
+    let b = put_number(&mut text, a, start as u64);
+    let c = put_byte(&mut text, b, b' ');
+    let d = put_bytes(&mut text, c, &mut *memory, start, end);
+    let e = put_byte(&mut text, d, b'\n');
+    flush(&text, e);
 }
 
 // The changed words of the first n bytes of a memory.
-pub fn put_memory(
-    out: &mut [u8],
-    used: usize,
-    label: &[u8],
-    now: &[u8],
-    copy: &mut [u8],
-    n: usize,
-) -> usize {
-    let end = least(least(n, now.len()), copy.len());
-    let mut at = used;
+fn put_memory(label: &[u8], memory: &mut Memory, n: usize) {
+    let end = least(n, COPY);
     let mut i = 0;
     while i < end {
-        let k = first_difference(now, &*copy, i, end);
+        let k = first_difference(&*memory, i, end);
         if end <= k {
-            return at;
+            return;
         }
         let start = k / 4 * 4;
-        at = put_change(
-            &mut *out,
-            at,
-            label,
-            now,
-            &mut *copy,
-            start,
-            least(start + 4, end),
-        );
+        put_change(label, &mut *memory, start, least(start + 4, end));
         i = start + 4;
     }
-    at
 }
 
-fn put_cache_word(out: &mut [u8], used: usize, place: usize, w: u32) -> usize {
-    let a = put_labelled(&mut *out, used, b"cache ", place as u64);
-    let b = put_labelled_word(&mut *out, a, b" ", w);
-    put(&mut *out, b, b"\n")
+fn put_cache_word(place: usize, w: u32) {
+    say(b"cache % #\n", &[place as u64, w as u64]);
 }
 
-fn put_if_changed(out: &mut [u8], used: usize, now: &[u32], copy: &mut [u32], i: usize) -> usize {
-    if now.len() <= i {
-        return used;
+fn put_if_changed(cache: &mut Cache, i: usize) {
+    if CACHE_COPY <= i {
+        return;
     }
-    if copy.len() <= i {
-        return used;
+    let w = cache[i];
+    if w != cache[CACHE_COPY + i] {
+        cache[CACHE_COPY + i] = w;
+        put_cache_word(i, w);
     }
-    let w = now[i];
-    if w == copy[i] {
-        return used;
-    }
-    copy[i] = w;
-    put_cache_word(&mut *out, used, i, w)
 }
 
 // The changed words of the first n stack cache words.
-pub fn put_cache(out: &mut [u8], used: usize, now: &[u32], copy: &mut [u32], n: usize) -> usize {
-    let mut at = used;
+fn put_cache(cache: &mut Cache, n: usize) {
     let mut i = 0;
     while i < n {
-        at = put_if_changed(&mut *out, at, now, &mut *copy, i);
+        put_if_changed(&mut *cache, i);
         i += 1;
     }
-    at
+}
+
+pub fn put_changes(main: &mut Memory, local: &mut Memory, cache: &mut Cache, e: Extents) {
+    put_memory(b"main ", &mut *main, e.main);
+    put_memory(b"local ", &mut *local, e.local);
+    put_cache(&mut *cache, e.words);
 }

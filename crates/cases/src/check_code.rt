@@ -1,54 +1,55 @@
 // The check of a case's code under its marking.
-use crate::description::Description;
-use crate::operation::cache_words;
+use crate::buffers::Bytes;
+use crate::extent::Extents;
+use crate::extent::extents_of;
+use crate::kept::Kept;
+use crate::marking::marking_of;
 use crate::output::least;
-use crate::output::put;
-use crate::output::put_labelled;
+use crate::output::say;
+use crate::output::tell;
 use single_path::Checked;
+use single_path::Marking;
 use single_path::Rule;
 
-fn put_rule(out: &mut [u8], used: usize, r: Rule) -> usize {
+fn letter(r: Rule) -> u8 {
     match r {
-        Rule::A => put(&mut *out, used, b" rule A\n"),
-        Rule::B => put(&mut *out, used, b" rule B\n"),
-        Rule::C => put(&mut *out, used, b" rule C\n"),
-        Rule::D => put(&mut *out, used, b" rule D\n"),
-        Rule::E => put(&mut *out, used, b" rule E\n"),
+        Rule::A => b'A',
+        Rule::B => b'B',
+        Rule::C => b'C',
+        Rule::D => b'D',
+        Rule::E => b'E',
     }
 }
 
 // Refusal 1 is one of the marking, and has no address.
-fn put_refused(out: &mut [u8], used: usize, number: u32, address: u32) -> usize {
-    let a = put_labelled(&mut *out, used, b"check refused ", number as u64);
+fn put_refused(number: u32, address: u32) {
     if number == 1 {
-        return put(&mut *out, a, b"\n");
+        tell(b"check refused 1\n");
+        return;
     }
-    let b = put_labelled(&mut *out, a, b" at ", address as u64);
-    put(&mut *out, b, b"\n")
+    say(b"check refused % at %\n", &[number as u64, address as u64]);
 }
 
-fn put_checked(out: &mut [u8], used: usize, c: Checked) -> usize {
-    match c {
-        Checked::Accepted => put(&mut *out, used, b"check accepted\n"),
-        Checked::Refused { number, address } => put_refused(&mut *out, used, number, address),
-        Checked::Broken { address, rule } => {
-            let a = put_labelled(&mut *out, used, b"check refused 9 at ", address as u64);
-            put_rule(&mut *out, a, rule)
-        }
-    }
-}
-
-pub fn do_check(d: Description, code: &[u8], out: &mut [u8], used: usize) -> usize {
-    let c = least(d.code as usize, code.len());
-    let marking = d.marking;
-    let r = single_path::check(
-        &code[0..c],
-        d.main as usize,
-        d.local as usize,
-        cache_words(d.words),
-        d.lo,
-        d.hi,
-        marking,
+fn put_broken(address: u32, letter: u8) {
+    say(
+        b"check refused 9 at % rule $\n",
+        &[address as u64, letter as u64],
     );
-    put_checked(&mut *out, used, r)
+}
+
+fn put_checked(c: Checked) {
+    match c {
+        Checked::Accepted => tell(b"check accepted\n"),
+        Checked::Refused { number, address } => put_refused(number, address),
+        Checked::Broken { address, rule } => put_broken(address, letter(rule)),
+    }
+}
+
+fn check_part(code: &[u8], e: Extents, marking: Marking) -> Checked {
+    let c = least(e.code, code.len());
+    single_path::check(&code[0..c], e.main, e.local, e.words, e.lo, e.hi, marking)
+}
+
+pub fn do_check(code: &Bytes, kept: &Kept) {
+    put_checked(check_part(code, extents_of(kept), marking_of(kept)));
 }

@@ -1,46 +1,51 @@
 // Whole parts of the buffers.
+use crate::buffers::CACHE_COPY;
+use crate::buffers::COPY;
+use crate::buffers::Cache;
+use crate::buffers::Memory;
 use crate::output::least;
 
-// The first n bytes are made zero.
-pub fn clear_bytes(s: &mut [u8], n: usize) {
-    let end = least(n, s.len());
+// The first n bytes of a memory are made zero.
+pub fn clear_memory(memory: &mut Memory, n: usize) {
+    let end = least(n, COPY);
     let mut i = 0;
     while i < end {
-        s[i] = 0;
+        memory[i] = 0;
         i += 1;
     }
 }
 
-pub fn clear_words(s: &mut [u32], n: usize) {
-    let end = least(n, s.len());
-    let mut i = 0;
-    while i < end {
-        s[i] = 0;
+// The words that a case puts into the cache stand in its copy until the case is opened.
+pub fn clear_cache_copy(cache: &mut Cache) {
+    let mut i = CACHE_COPY;
+    while i < 1026 {
+        cache[i] = 0;
         i += 1;
     }
 }
 
-// The first n bytes of one slice are copied to another.
-pub fn copy_bytes(from: &[u8], to: &mut [u8], n: usize) {
-    let end = least(least(n, from.len()), to.len());
+// The first n bytes of a memory are copied.
+pub fn copy_memory(memory: &mut Memory, n: usize) {
+    let end = least(n, COPY);
     let mut i = 0;
     while i < end {
-        to[i] = from[i];
+        memory[COPY + i] = memory[i];
         i += 1;
     }
 }
 
-pub fn copy_words(from: &[u32], to: &mut [u32], n: usize) {
-    let end = least(least(n, from.len()), to.len());
+// The first n words of the cache are taken from its copy.
+pub fn fill_cache(cache: &mut Cache, n: usize) {
+    let end = least(n, CACHE_COPY);
     let mut i = 0;
     while i < end {
-        to[i] = from[i];
+        cache[i] = cache[CACHE_COPY + i];
         i += 1;
     }
 }
 
-pub fn put_at(s: &mut [u32], i: usize, w: u32) {
-    if i < s.len() {
-        s[i] = w;
+pub fn put_in_copy(cache: &mut Cache, place: usize, w: u32) {
+    if place < CACHE_COPY {
+        cache[CACHE_COPY + place] = w;
     }
 }

@@ -1,91 +1,92 @@
-// What the description lines of a case say, gathered in any order.
-use crate::marking::Verdict;
-use crate::marking::all_public;
-use crate::places::Places;
-use crate::places::no_places;
-use case_file::keyword::SpecialName;
-use case_file::line::Line;
-use case_file::reason::Reason;
-use effects::effect::Transfer;
-use machine::state::WaitingLoad;
-use machine::state::WaitingTransfer;
-use single_path::Marking;
+// What the description lines of a case say of its numbers, gathered in any order. Each function answers the row of the mistake.
+use crate::kept::BASE;
+use crate::kept::ENTRY;
+use crate::kept::FETCH;
+use crate::kept::GIVEN;
+use crate::kept::HI;
+use crate::kept::Kept;
+use crate::kept::LO;
+use crate::kept::LOAD;
+use crate::kept::LOCAL;
+use crate::kept::MAIN;
+use crate::kept::PREDICATES;
+use crate::kept::REGISTERS;
+use crate::kept::SPECIALS;
+use crate::kept::TRANSFER;
+use crate::kept::WORDS;
+use crate::kept::is_set;
+use crate::kept::keep;
+use crate::kept::keep_flag;
+use crate::kept::keep_word;
+use crate::kept_state::BLOCK;
+use crate::kept_state::BR;
+use crate::kept_state::CALL;
+use crate::kept_state::keep_load;
+use crate::kept_state::keep_transfer;
+use crate::mistake::NO_MISTAKE;
+use crate::mistake::REPEATED;
+use crate::mistake::TOO_MUCH_MEMORY;
+use case_file::Line;
+use case_file::SpecialName;
 
-// The waiting transfer and load.
-pub struct Waiting {
-    pub transfer: WaitingTransfer,
-    pub load: WaitingLoad,
-}
+const GREATEST: u32 = 65536;
 
-// Lengths are in bytes, words is the number of stack cache words. The flags tell which lines came.
-pub struct Description {
-    pub code: u32,
-    pub main: u32,
-    pub local: u32,
-    pub words: u32,
-    pub lo: u32,
-    pub hi: u32,
-    pub entry: u32,
-    pub fetch: u32,
-    pub base: u32,
-    pub has_main: bool,
-    pub has_local: bool,
-    pub has_stack: bool,
-    pub has_entry: bool,
-    pub has_fetch: bool,
-    pub has_base: bool,
-    pub has_transfer: bool,
-    pub has_load: bool,
-    pub registers: [u32; 32],
-    pub predicates: [bool; 8],
-    pub specials: [u32; 8],
-    pub has_special: [bool; 8],
-    pub waiting: Waiting,
-    pub marking: Marking,
-    pub places: Places,
-}
-
-// A description after a line, and whether the line was taken.
-pub struct Described {
-    pub description: Description,
-    pub verdict: Verdict,
-}
-
-pub const GREATEST: u32 = 65536;
-
-pub fn empty() -> Description {
-    let waiting = Waiting {
-        transfer: WaitingTransfer::Nothing,
-        load: WaitingLoad::Nothing,
-    };
-    let marking = all_public();
-    let places = no_places();
-    Description {
-        code: 0,
-        main: 0,
-        local: 0,
-        words: 16,
-        lo: 0,
-        hi: 0,
-        entry: 0,
-        fetch: 0,
-        base: 0,
-        has_main: false,
-        has_local: false,
-        has_stack: false,
-        has_entry: false,
-        has_fetch: false,
-        has_base: false,
-        has_transfer: false,
-        has_load: false,
-        registers: [0; 32],
-        predicates: [true, false, false, false, false, false, false, false],
-        specials: [0; 8],
-        has_special: [false; 8],
-        waiting,
-        marking,
-        places,
+// Whether a line gave the number at a place.
+pub fn is_given(kept: &Kept, place: usize) -> bool {
+    if place < GIVEN {
+        return is_set(kept, GIVEN + place);
     }
+    false
+}
+
+fn mark_given(kept: &mut Kept, place: usize) {
+    if place < GIVEN {
+        keep(&mut *kept, GIVEN + place, 1);
+    }
+}
+
+// A number that a case gives once.
+fn give_once(kept: &mut Kept, place: usize, n: u32) -> usize {
+    if is_given(&*kept, place) {
+        return REPEATED;
+    }
+    mark_given(&mut *kept, place);
+    keep_word(&mut *kept, place, n);
+    NO_MISTAKE
+}
+
+// The length of a memory.
+fn give_length(kept: &mut Kept, place: usize, n: u32) -> usize {
+    if is_given(&*kept, place) {
+        return REPEATED;
+    }
+    if GREATEST < n {
+        return TOO_MUCH_MEMORY;
+    }
+    give_once(&mut *kept, place, n)
+}
+
+fn give_stack(kept: &mut Kept, words: u32, lo: u32, hi: u32) -> usize {
+    if is_given(&*kept, WORDS) {
+        return REPEATED;
+    }
+    kept[LO] = lo as u64;
+    kept[HI] = hi as u64;
+    give_once(&mut *kept, WORDS, words)
+}
+
+fn give_register(kept: &mut Kept, r: u32, w: u32) -> usize {
+    if r < 32 {
+        keep_word(&mut *kept, REGISTERS + (r as usize), w);
+    }
+    NO_MISTAKE
+}
+
+fn give_predicate(kept: &mut Kept, p: u32, v: bool) -> usize {
+    if p < 8 {
+        keep_flag(&mut *kept, PREDICATES + (p as usize), v);
+    }
+    NO_MISTAKE
 }
 
 // The place of a special register in the list of them.
@@ -103,157 +104,58 @@ fn special_place(name: SpecialName) -> usize {
     }
 }
 
-impl Description {
-    pub fn taken(self) -> Described {
-        Described {
-            description: self,
-            verdict: Verdict::Fine,
-        }
+fn give_special(kept: &mut Kept, name: SpecialName, w: u32) -> usize {
+    let k = special_place(name);
+    if k < 8 {
+        mark_given(&mut *kept, SPECIALS + k);
+        keep_word(&mut *kept, SPECIALS + k, w);
     }
+    NO_MISTAKE
+}
 
-    pub fn mistaken(self, r: Reason) -> Described {
-        Described {
-            description: self,
-            verdict: Verdict::Mistake(r),
-        }
+fn give_transfer(kept: &mut Kept, kind: u64, a: u32, b: u32, c: u32) -> usize {
+    if is_given(&*kept, TRANSFER) {
+        return REPEATED;
     }
+    mark_given(&mut *kept, TRANSFER);
+    keep_transfer(&mut *kept, kind, a, b, c);
+    NO_MISTAKE
+}
 
-    fn with_main(mut self, n: u32) -> Described {
-        if self.has_main {
-            return self.mistaken(Reason::Repeated);
-        }
-        if GREATEST < n {
-            return self.mistaken(Reason::TooMuchMemory);
-        }
-        self.main = n;
-        self.has_main = true;
-        self.taken()
+fn give_load(kept: &mut Kept, register: u32, value: u32) -> usize {
+    if is_given(&*kept, LOAD) {
+        return REPEATED;
     }
+    mark_given(&mut *kept, LOAD);
+    keep_load(&mut *kept, register, value);
+    NO_MISTAKE
+}
 
-    fn with_local(mut self, n: u32) -> Described {
-        if self.has_local {
-            return self.mistaken(Reason::Repeated);
+// A line that is put into the state.
+fn give_state(kept: &mut Kept, said: Line) -> usize {
+    match said {
+        Line::Reg { number, word } => give_register(&mut *kept, number, word),
+        Line::Pred { number, value } => give_predicate(&mut *kept, number, value),
+        Line::Special { name, word } => give_special(&mut *kept, name, word),
+        Line::Load { number, word } => give_load(&mut *kept, number, word),
+        Line::Br { target, wait } => give_transfer(&mut *kept, BR, target, wait, 0),
+        Line::Call { target, wait } => give_transfer(&mut *kept, CALL, target, wait, 0),
+        Line::Block { target, base, wait } => {
+            give_transfer(&mut *kept, BLOCK, target, base, wait)
         }
-        if GREATEST < n {
-            return self.mistaken(Reason::TooMuchMemory);
-        }
-        self.local = n;
-        self.has_local = true;
-        self.taken()
+        _ => NO_MISTAKE,
     }
+}
 
-    fn with_stack(mut self, words: u32, lo: u32, hi: u32) -> Described {
-        if self.has_stack {
-            return self.mistaken(Reason::Repeated);
-        }
-        self.words = words;
-        self.lo = lo;
-        self.hi = hi;
-        self.has_stack = true;
-        self.taken()
-    }
-
-    fn with_entry(mut self, a: u32) -> Described {
-        if self.has_entry {
-            return self.mistaken(Reason::Repeated);
-        }
-        self.entry = a;
-        self.has_entry = true;
-        self.taken()
-    }
-
-    fn with_fetch(mut self, a: u32) -> Described {
-        if self.has_fetch {
-            return self.mistaken(Reason::Repeated);
-        }
-        self.fetch = a;
-        self.has_fetch = true;
-        self.taken()
-    }
-
-    fn with_base(mut self, a: u32) -> Described {
-        if self.has_base {
-            return self.mistaken(Reason::Repeated);
-        }
-        self.base = a;
-        self.has_base = true;
-        self.taken()
-    }
-
-    fn with_register(mut self, r: u32, w: u32) -> Described {
-        let k = r as usize;
-        if k < 32 {
-            self.registers[k] = w;
-        }
-        self.taken()
-    }
-
-    fn with_predicate(mut self, p: u32, v: bool) -> Described {
-        let k = p as usize;
-        if k < 8 {
-            self.predicates[k] = v;
-        }
-        self.taken()
-    }
-
-    fn with_special(mut self, name: SpecialName, w: u32) -> Described {
-        let k = special_place(name);
-        if k < 8 {
-            self.specials[k] = w;
-            self.has_special[k] = true;
-        }
-        self.taken()
-    }
-
-    fn with_transfer(mut self, transfer: Transfer, wait: u32) -> Described {
-        if self.has_transfer {
-            return self.mistaken(Reason::Repeated);
-        }
-        let before = self.waiting;
-        let load = before.load;
-        let waiting = Waiting {
-            transfer: WaitingTransfer::Waits { transfer, wait },
-            load,
-        };
-        self.waiting = waiting;
-        self.has_transfer = true;
-        self.taken()
-    }
-
-    fn with_load(mut self, register: u32, value: u32) -> Described {
-        if self.has_load {
-            return self.mistaken(Reason::Repeated);
-        }
-        let before = self.waiting;
-        let transfer = before.transfer;
-        let waiting = Waiting {
-            transfer,
-            load: WaitingLoad::Waits { register, value },
-        };
-        self.waiting = waiting;
-        self.has_load = true;
-        self.taken()
-    }
-
-    // A line that needs nothing but its own numbers.
-    pub fn with_line(self, said: Line) -> Described {
-        match said {
-            Line::Main(n) => self.with_main(n),
-            Line::Local(n) => self.with_local(n),
-            Line::Stack { words, lo, hi } => self.with_stack(words, lo, hi),
-            Line::Entry(a) => self.with_entry(a),
-            Line::Fetch(a) => self.with_fetch(a),
-            Line::Base(a) => self.with_base(a),
-            Line::Reg { number, word } => self.with_register(number, word),
-            Line::Pred { number, value } => self.with_predicate(number, value),
-            Line::Special { name, word } => self.with_special(name, word),
-            Line::Br { target, wait } => self.with_transfer(Transfer::Br { target }, wait),
-            Line::Call { target, wait } => self.with_transfer(Transfer::Call { target }, wait),
-            Line::Block { target, base, wait } => {
-                self.with_transfer(Transfer::Block { target, base }, wait)
-            }
-            Line::Load { number, word } => self.with_load(number, word),
-            _ => self.taken(),
-        }
+// A line that needs nothing but its own numbers.
+pub fn give(kept: &mut Kept, said: Line) -> usize {
+    match said {
+        Line::Main(n) => give_length(&mut *kept, MAIN, n),
+        Line::Local(n) => give_length(&mut *kept, LOCAL, n),
+        Line::Stack { words, lo, hi } => give_stack(&mut *kept, words, lo, hi),
+        Line::Entry(a) => give_once(&mut *kept, ENTRY, a),
+        Line::Fetch(a) => give_once(&mut *kept, FETCH, a),
+        Line::Base(a) => give_once(&mut *kept, BASE, a),
+        _ => give_state(&mut *kept, said),
     }
 }

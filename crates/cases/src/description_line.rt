@@ -1,143 +1,119 @@
-// The description lines that fill a buffer.
-use crate::clearing::put_at;
-use crate::description::Described;
-use crate::description::Description;
-use crate::description::GREATEST;
-use crate::marking::Verdict;
-use crate::marking::with_items;
+// The description lines that fill a buffer. Each function answers the row of the mistake.
+use crate::buffers::Bytes;
+use crate::buffers::COPY;
+use crate::buffers::Cache;
+use crate::buffers::Memory;
+use crate::clearing::put_in_copy;
+use crate::description::give;
+use crate::kept::CODE;
+use crate::kept::Kept;
+use crate::marking::mark_items;
+use crate::mistake::NO_MISTAKE;
+use crate::mistake::TOO_MUCH_CODE;
+use crate::mistake::row_of;
+use crate::output::least;
 use crate::places::Store;
 use crate::places::last_byte;
 use crate::places::note;
-use case_file::argument::CodeEntry;
-use case_file::argument::code_entry;
-use case_file::line::Line;
-use case_file::reason::Reason;
+use case_file::CodeEntry;
+use case_file::Line;
+use case_file::arguments::code_entry;
 use word::bytes::write_word;
 
-// The length of the code with a line's words, or what is wrong with the line.
-enum CodeRead {
-    Length(u32),
-    Mistake(Reason),
+// Appends a word to the code, or answers the mistake that there is no room.
+fn append_word(kept: &mut Kept, word: u32, code: &mut Bytes) -> usize {
+    let n = kept[CODE];
+    if 65536 <= n {
+        return TOO_MUCH_CODE;
+    }
+    write_word(&mut *code, n as u32, word);
+    kept[CODE] = n + 4;
+    NO_MISTAKE
 }
 
 // Appends the words of a code line from a place on. A line has fewer entries than bytes.
-fn append_code(line: &[u8], list: usize, before: u32, code: &mut [u8]) -> CodeRead {
-    let mut n = before;
+fn code_line(kept: &mut Kept, line: &[u8], list: usize, code: &mut Bytes) -> usize {
     let mut at = list;
     let mut left = line.len();
     while 0 < left {
         left -= 1;
         match code_entry(line, at) {
             CodeEntry::End => {
-                return CodeRead::Length(n);
+                return NO_MISTAKE;
             }
             CodeEntry::Mistake(r) => {
-                return CodeRead::Mistake(r);
+                return row_of(r);
             }
             CodeEntry::Word { word, next } => {
-                if GREATEST <= n {
-                    return CodeRead::Mistake(Reason::TooMuchCode);
+                let row = append_word(&mut *kept, word, &mut *code);
+                if row != NO_MISTAKE {
+                    return row;
                 }
-                write_word(&mut *code, n, word);
-                n += 4;
                 at = next;
             }
         }
     }
-    CodeRead::Length(n)
+    NO_MISTAKE
 }
 
-fn code_line(mut d: Description, line: &[u8], list: usize, code: &mut [u8]) -> Described {
-    match append_code(line, list, d.code, &mut *code) {
-        CodeRead::Mistake(r) => d.mistaken(r),
-        CodeRead::Length(n) => {
-            d.code = n;
-            d.taken()
-        }
-    }
+// Bytes that no memory has are not written.
+fn write_below_copy(memory: &mut [u8], address: u32, word: u32) {
+    let n = least(COPY, memory.len());
+    write_word(&mut memory[0..n], address, word);
 }
 
-fn private_line(mut d: Description, line: &[u8], list: usize) -> Described {
-    let before = d.marking;
-    let m = with_items(before, line, list);
-    let marking = m.marking;
-    let verdict = m.verdict;
-    d.marking = marking;
-    Described {
-        description: d,
-        verdict,
-    }
-}
-
-// A word of a memory is put there at once. Bytes that no memory has are not written.
+// A word of a memory is put there at once.
 fn memory_word(
-    mut d: Description,
+    kept: &mut Kept,
     store: Store,
     address: u32,
     word: u32,
-    memory: &mut [u8],
-    notes: &mut [u64],
-    number: u64,
-) -> Described {
-    let last = last_byte(address);
-    write_word(&mut *memory, address, word);
-    let before = d.places;
-    let places = note(before, &mut *notes, store, last, number);
-    d.places = places;
-    d.taken()
+    memory: &mut Memory,
+) -> usize {
+    write_below_copy(&mut *memory, address, word);
+    note(&mut *kept, store, last_byte(address));
+    NO_MISTAKE
 }
 
-fn cache_word(
-    mut d: Description,
-    place: u32,
-    word: u32,
-    cache: &mut [u32],
-    notes: &mut [u64],
-    number: u64,
-) -> Described {
-    put_at(&mut *cache, place as usize, word);
-    let before = d.places;
-    let places = note(before, &mut *notes, Store::Cache, place, number);
-    d.places = places;
-    d.taken()
+fn cache_word(kept: &mut Kept, place: u32, word: u32, cache: &mut Cache) -> usize {
+    put_in_copy(&mut *cache, place as usize, word);
+    note(&mut *kept, Store::Cache, place);
+    NO_MISTAKE
 }
 
-// A description line, which is the file's line of this number.
+// A line that names a place, or any other.
+fn describe_place(
+    said: Line,
+    main: &mut Memory,
+    local: &mut Memory,
+    cache: &mut Cache,
+    kept: &mut Kept,
+) -> usize {
+    match said {
+        Line::MainWord { address, word } => {
+            memory_word(&mut *kept, Store::Main, address, word, &mut *main)
+        }
+        Line::LocalWord { address, word } => {
+            memory_word(&mut *kept, Store::Local, address, word, &mut *local)
+        }
+        Line::CacheWord { place, word } => cache_word(&mut *kept, place, word, &mut *cache),
+        _ => give(&mut *kept, said),
+    }
+}
+
+// A description line.
 pub fn describe(
-    d: Description,
     said: Line,
     line: &[u8],
-    number: u64,
-    code: &mut [u8],
-    main: &mut [u8],
-    local: &mut [u8],
-    cache: &mut [u32],
-    notes: &mut [u64],
-) -> Described {
+    code: &mut Bytes,
+    main: &mut Memory,
+    local: &mut Memory,
+    cache: &mut Cache,
+    kept: &mut Kept,
+) -> usize {
     match said {
-        Line::Code { list } => code_line(d, line, list, &mut *code),
-        Line::Private { list } => private_line(d, line, list),
-        Line::MainWord { address, word } => memory_word(
-            d,
-            Store::Main,
-            address,
-            word,
-            &mut *main,
-            &mut *notes,
-            number,
-        ),
-        Line::LocalWord { address, word } => memory_word(
-            d,
-            Store::Local,
-            address,
-            word,
-            &mut *local,
-            &mut *notes,
-            number,
-        ),
-        Line::CacheWord { place, word } => {
-            cache_word(d, place, word, &mut *cache, &mut *notes, number)
-        }
-        _ => d.with_line(said),
+        Line::Code { list } => code_line(&mut *kept, line, list, &mut *code),
+        Line::Private { list } => mark_items(&mut *kept, line, list),
+        _ => describe_place(said, &mut *main, &mut *local, &mut *cache, &mut *kept),
     }
 }

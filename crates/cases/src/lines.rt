@@ -1,217 +1,231 @@
 // Lines of the file, one after the other.
+use crate::buffers::Bytes;
+use crate::buffers::Cache;
+use crate::buffers::LineBytes;
+use crate::buffers::Memory;
 use crate::description_line::describe;
-use crate::marking::Verdict;
-use crate::reading::DESCRIBED;
-use crate::reading::NO_CASE;
-use crate::reading::OPEN;
-use crate::reading::Reading;
-use case_file::line::Line;
-use case_file::line::read_line;
-use case_file::reason::Reason;
+use crate::input::Found;
+use crate::input::Input;
+use crate::input::look;
+use crate::input::no_input;
+use crate::kept::DESCRIBED;
+use crate::kept::Kept;
+use crate::kept::LINE;
+use crate::kept::NO_CASE;
+use crate::kept::OPEN;
+use crate::kept::PHASE;
+use crate::kept::STOPPED;
+use crate::mistake::AFTER_OPERATION;
+use crate::mistake::BEFORE_FIRST_CASE;
+use crate::mistake::LINE_TOO_LONG;
+use crate::mistake::NO_MISTAKE;
+use crate::mistake::fail;
+use crate::mistake::row_of;
+use crate::opening::open_case;
+use crate::opening::start_case;
+use crate::output::least;
+use crate::perform::perform;
+use case_file::Line;
+use case_file::lines::read_line;
 use std::num::wrapping_add_u64;
 
-impl Reading {
-    // A description line, which is taken only while the case is described.
-    fn describe(
-        mut self,
-        said: Line,
-        line: &[u8],
-        code: &mut [u8],
-        main: &mut [u8],
-        local: &mut [u8],
-        cache_copy: &mut [u32],
-        notes: &mut [u64],
-        out: &mut [u8],
-    ) -> Reading {
-        if self.phase != DESCRIBED {
-            return self.fail(&mut *out, self.line, Reason::AfterOperation);
+// What a line is to the case.
+enum Kind {
+    Empty,
+    Mistake(usize),
+    Start(usize),
+    Operation,
+    Description,
+}
+
+fn kind_of(said: Line) -> Kind {
+    match said {
+        Line::Empty => Kind::Empty,
+        Line::Mistake(r) => Kind::Mistake(row_of(r)),
+        Line::Case { name } => Kind::Start(name),
+        Line::Run(_) => Kind::Operation,
+        Line::Step => Kind::Operation,
+        Line::Check => Kind::Operation,
+        _ => Kind::Description,
+    }
+}
+
+// A line of a kind that is no mistake itself may be one in a phase: description lines are taken only while the case is
+// described, and no line of a case before the first.
+fn kind_in(phase: u64, kind: Kind) -> Kind {
+    match kind {
+        Kind::Operation => {
+            if phase == NO_CASE {
+                return Kind::Mistake(BEFORE_FIRST_CASE);
+            }
+            Kind::Operation
         }
-        let before = self.description;
-        let r = describe(
-            before,
-            said,
+        Kind::Description => {
+            if phase == NO_CASE {
+                return Kind::Mistake(BEFORE_FIRST_CASE);
+            }
+            if phase != DESCRIBED {
+                return Kind::Mistake(AFTER_OPERATION);
+            }
+            Kind::Description
+        }
+        _ => kind,
+    }
+}
+
+// A mistake of the line that was read last.
+fn fail_here(kept: &mut Kept, row: usize) {
+    let line = kept[LINE];
+    fail(&mut *kept, line, row);
+}
+
+fn judged(kept: &mut Kept, row: usize) {
+    if row != NO_MISTAKE {
+        fail_here(&mut *kept, row);
+    }
+}
+
+// Where the case is described, it is opened, refused or found mistaken.
+fn ready(code: &Bytes, main: &mut Memory, local: &mut Memory, cache: &mut Cache, kept: &mut Kept) {
+    if kept[PHASE] == DESCRIBED {
+        open_case(code, &mut *main, &mut *local, &mut *cache, &mut *kept);
+    }
+}
+
+// An operation line: the first of a case opens it. After a refused opening nothing is done.
+fn operation_line(
+    said: Line,
+    code: &Bytes,
+    main: &mut Memory,
+    local: &mut Memory,
+    cache: &mut Cache,
+    kept: &mut Kept,
+) {
+    ready(code, &mut *main, &mut *local, &mut *cache, &mut *kept);
+    if kept[PHASE] == OPEN {
+        perform(said, code, &mut *main, &mut *local, &mut *cache, &mut *kept);
+    }
+}
+
+// The next line, without its line end.
+fn take_line(
+    line: &[u8],
+    code: &mut Bytes,
+    main: &mut Memory,
+    local: &mut Memory,
+    cache: &mut Cache,
+    kept: &mut Kept,
+) {
+    kept[LINE] = wrapping_add_u64(kept[LINE], 1);
+    let said = read_line(line);
+    match kind_in(kept[PHASE], kind_of(said)) {
+        Kind::Empty => (),
+        Kind::Mistake(row) => fail_here(&mut *kept, row),
+        Kind::Start(name) => start_case(
             line,
-            self.line,
-            &mut *code,
-            &mut *main,
-            &mut *local,
-            &mut *cache_copy,
-            &mut *notes,
-        );
-        let d = r.description;
-        let verdict = r.verdict;
-        self.description = d;
-        if let Verdict::Mistake(reason) = verdict {
-            return self.fail(&mut *out, self.line, reason);
-        }
-        self
-    }
-
-    // Where the case is described, it is opened, refused or found mistaken.
-    fn ready(
-        self,
-        code: &[u8],
-        main: &[u8],
-        local: &[u8],
-        cache: &mut [u32],
-        main_copy: &mut [u8],
-        local_copy: &mut [u8],
-        cache_copy: &[u32],
-        notes: &[u64],
-        out: &mut [u8],
-    ) -> Reading {
-        if self.phase == DESCRIBED {
-            return self.open_case(
-                code,
-                main,
-                local,
-                &mut *cache,
-                &mut *main_copy,
-                &mut *local_copy,
-                cache_copy,
-                notes,
-                &mut *out,
-            );
-        }
-        self
-    }
-
-    // An operation line. After a refused opening nothing is done.
-    fn operate(
-        self,
-        said: Line,
-        code: &[u8],
-        main: &mut [u8],
-        local: &mut [u8],
-        cache: &mut [u32],
-        main_copy: &mut [u8],
-        local_copy: &mut [u8],
-        cache_copy: &mut [u32],
-        notes: &[u64],
-        out: &mut [u8],
-    ) -> Reading {
-        let s = self.ready(
-            code,
-            &*main,
-            &*local,
-            &mut *cache,
-            &mut *main_copy,
-            &mut *local_copy,
-            &*cache_copy,
-            notes,
-            &mut *out,
-        );
-        if s.phase != OPEN {
-            return s;
-        }
-        s.perform(
-            said,
-            code,
+            name,
             &mut *main,
             &mut *local,
             &mut *cache,
-            &mut *main_copy,
-            &mut *local_copy,
-            &mut *cache_copy,
-            &mut *out,
-        )
-    }
-
-    // A line that belongs to a case.
-    fn case_line(
-        self,
-        said: Line,
-        line: &[u8],
-        code: &mut [u8],
-        main: &mut [u8],
-        local: &mut [u8],
-        cache: &mut [u32],
-        main_copy: &mut [u8],
-        local_copy: &mut [u8],
-        cache_copy: &mut [u32],
-        notes: &mut [u64],
-        out: &mut [u8],
-    ) -> Reading {
-        if self.phase == NO_CASE {
-            return self.fail(&mut *out, self.line, Reason::BeforeFirstCase);
-        }
-        if is_operation(said) {
-            return self.operate(
-                said,
-                &*code,
-                &mut *main,
-                &mut *local,
-                &mut *cache,
-                &mut *main_copy,
-                &mut *local_copy,
-                &mut *cache_copy,
-                &*notes,
-                &mut *out,
-            );
-        }
-        self.describe(
+            &mut *kept,
+        ),
+        Kind::Operation => operation_line(
             said,
-            line,
-            &mut *code,
+            &*code,
             &mut *main,
             &mut *local,
-            &mut *cache_copy,
-            &mut *notes,
-            &mut *out,
-        )
-    }
-
-    // The next line, without its line end.
-    pub fn take_line(
-        mut self,
-        line: &[u8],
-        code: &mut [u8],
-        main: &mut [u8],
-        local: &mut [u8],
-        cache: &mut [u32],
-        main_copy: &mut [u8],
-        local_copy: &mut [u8],
-        cache_copy: &mut [u32],
-        notes: &mut [u64],
-        out: &mut [u8],
-    ) -> Reading {
-        let number = wrapping_add_u64(self.line, 1);
-        self.line = number;
-        self.held = 0;
-        let said = read_line(line);
-        match said {
-            Line::Empty => self,
-            Line::Mistake(r) => self.fail(&mut *out, number, r),
-            Line::Case { name } => self.start_case(
-                line,
-                name,
-                &mut *main,
-                &mut *local,
-                &mut *cache_copy,
-                &mut *out,
-            ),
-            _ => self.case_line(
+            &mut *cache,
+            &mut *kept,
+        ),
+        Kind::Description => {
+            let row = describe(
                 said,
                 line,
                 &mut *code,
                 &mut *main,
                 &mut *local,
                 &mut *cache,
-                &mut *main_copy,
-                &mut *local_copy,
-                &mut *cache_copy,
-                &mut *notes,
-                &mut *out,
-            ),
+                &mut *kept,
+            );
+            judged(&mut *kept, row);
         }
     }
 }
 
-fn is_operation(said: Line) -> bool {
-    match said {
-        Line::Run(_) => true,
-        Line::Step => true,
-        Line::Check => true,
-        _ => false,
+// The file gave no line.
+fn without_line(found: Found, path: &[u8], kept: &mut Kept) {
+    match found {
+        Found::Unreadable => {
+            os::fail(path);
+            kept[PHASE] = STOPPED;
+        }
+        Found::End => kept[PHASE] = STOPPED,
+        Found::TooLong => {
+            let line = wrapping_add_u64(kept[LINE], 1);
+            fail(&mut *kept, line, LINE_TOO_LONG);
+        }
+        _ => (),
+    }
+}
+
+// What was found in the file: a line is taken.
+fn take(
+    found: Found,
+    path: &[u8],
+    line: &LineBytes,
+    code: &mut Bytes,
+    main: &mut Memory,
+    local: &mut Memory,
+    cache: &mut Cache,
+    kept: &mut Kept,
+) {
+    match found {
+        Found::Line(n) => {
+            let end = least(n, 4000);
+            let bytes = &line[..];
+            take_line(
+                &bytes[0..end],
+                &mut *code,
+                &mut *main,
+                &mut *local,
+                &mut *cache,
+                &mut *kept,
+            );
+        }
+        _ => without_line(found, path, &mut *kept),
+    }
+}
+
+// Reads to the file's end. A proved loop has to end, and nothing says that a file does, so the turns are counted down.
+pub fn read_all(
+    fd: i32,
+    path: &[u8],
+    piece: &mut Bytes,
+    line: &mut LineBytes,
+    code: &mut Bytes,
+    main: &mut Memory,
+    local: &mut Memory,
+    cache: &mut Cache,
+    kept: &mut Kept,
+) {
+    let mut s = no_input();
+    let mut turns = u64::MAX;
+    while 0 < turns {
+        turns -= 1;
+        s = look(fd, &mut *piece, &mut *line, s);
+        let found = s.found;
+        take(
+            found,
+            path,
+            &*line,
+            &mut *code,
+            &mut *main,
+            &mut *local,
+            &mut *cache,
+            &mut *kept,
+        );
+        if kept[PHASE] == STOPPED {
+            return;
+        }
     }
 }

@@ -1,11 +1,15 @@
 // Runs the cases of a case file and writes their report to standard output. Where there is nothing to read, it says so on
 // standard error.
+mod buffers;
 mod changes;
 mod check_code;
 mod clearing;
 mod description;
 mod description_line;
+mod extent;
 mod input;
+mod kept;
+mod kept_state;
 mod lines;
 mod marking;
 mod mistake;
@@ -14,41 +18,30 @@ mod operation;
 mod output;
 mod perform;
 mod places;
-mod reading;
 mod report;
-mod specials;
 
 use libc::STDERR_FILENO;
-use reading::new_reading;
+use lines::read_all;
 
-// All buffers stand in this frame. The cache has one word more than the greatest stack cache, so that a case with
-// more words is lent a cache that is refused.
+// All buffers stand in this frame.
 fn read_cases(fd: i32, path: &[u8]) {
-    let mut input = [0u8; 65536];
+    let mut piece = [0u8; 65536];
     let mut line = [0u8; 4000];
     let mut code = [0u8; 65536];
-    let mut main = [0u8; 65536];
-    let mut local = [0u8; 65536];
-    let mut cache = [0u32; 513];
-    let mut main_copy = [0u8; 65536];
-    let mut local_copy = [0u8; 65536];
-    let mut cache_copy = [0u32; 513];
-    let mut notes = [0u64; 120000];
-    let mut out = [0u8; 65536];
-    new_reading().read_all(
+    let mut main = [0u8; 131072];
+    let mut local = [0u8; 131072];
+    let mut cache = [0u32; 1026];
+    let mut kept = [0u64; 120200];
+    read_all(
         fd,
         path,
-        &mut input,
+        &mut piece,
         &mut line,
         &mut code,
         &mut main,
         &mut local,
         &mut cache,
-        &mut main_copy,
-        &mut local_copy,
-        &mut cache_copy,
-        &mut notes,
-        &mut out,
+        &mut kept,
     );
 }
 

@@ -1,66 +1,99 @@
 // The last line of a report whose file has a mistake.
-use crate::output::flush;
-use crate::output::put;
-use crate::output::put_labelled;
-use case_file::reason::Reason;
+use crate::kept::Kept;
+use crate::kept::PHASE;
+use crate::kept::STOPPED;
+use crate::output::say;
+use crate::output::tell;
+use case_file::Reason;
 
-// What is wrong with the fields of a line.
-fn put_field_reason(out: &mut [u8], used: usize, r: Reason) -> usize {
+// What is wrong with a line is told by its row in the texts below.
+pub const NO_MISTAKE: usize = 0;
+
+pub const LINE_TOO_LONG: usize = 13;
+
+pub const BEFORE_FIRST_CASE: usize = 14;
+
+pub const AFTER_OPERATION: usize = 15;
+
+pub const REPEATED: usize = 16;
+
+pub const TOO_MUCH_CODE: usize = 17;
+
+pub const TOO_MUCH_MEMORY: usize = 18;
+
+pub const PLACE_OUTSIDE: usize = 19;
+
+pub fn row_of(r: Reason) -> usize {
     match r {
-        Reason::UnknownWord => put(&mut *out, used, b"the first word is unknown"),
-        Reason::FieldMissing => put(&mut *out, used, b"a field is missing"),
-        Reason::FieldTooMany => put(&mut *out, used, b"a field too many"),
-        Reason::NotANumber => put(&mut *out, used, b"a decimal number of 32 bits is expected"),
-        Reason::NotAWord => put(
-            &mut *out,
-            used,
-            b"a word of eight hexadecimal digits is expected",
-        ),
-        Reason::NotAName => put(
-            &mut *out,
-            used,
-            b"a name has 1 to 60 letters, digits, '-', '_' or '.'",
-        ),
-        Reason::NotABit => put(&mut *out, used, b"a predicate is 0 or 1"),
-        Reason::NoSuchRegister => put(&mut *out, used, b"registers are 0 to 31"),
-        Reason::NoSuchPredicate => put(&mut *out, used, b"predicates are 0 to 7"),
-        Reason::NoSuchSpecial => put(
-            &mut *out,
-            used,
-            b"specials are sl, sh, ss, st, srb, sro, sxb and sxo",
-        ),
-        Reason::NoSuchTransfer => put(&mut *out, used, b"transfers are br, call and block"),
-        _ => put(
-            &mut *out,
-            used,
-            b"items are r0 to r31, p0 to p7, sl, sh, main, local and stack",
-        ),
+        Reason::UnknownWord => 1,
+        Reason::FieldMissing => 2,
+        Reason::FieldTooMany => 3,
+        Reason::NotANumber => 4,
+        Reason::NotAWord => 5,
+        Reason::NotAName => 6,
+        Reason::NotABit => 7,
+        Reason::NoSuchRegister => 8,
+        Reason::NoSuchPredicate => 9,
+        Reason::NoSuchSpecial => 10,
+        Reason::NoSuchTransfer => 11,
+        Reason::NoSuchItem => 12,
+        Reason::LineTooLong => LINE_TOO_LONG,
+        Reason::BeforeFirstCase => BEFORE_FIRST_CASE,
+        Reason::AfterOperation => AFTER_OPERATION,
+        Reason::Repeated => REPEATED,
+        Reason::TooMuchCode => TOO_MUCH_CODE,
+        Reason::TooMuchMemory => TOO_MUCH_MEMORY,
+        Reason::PlaceOutside => PLACE_OUTSIDE,
+        Reason::NoCheck => 20,
     }
 }
 
-fn put_reason(out: &mut [u8], used: usize, r: Reason) -> usize {
-    match r {
-        Reason::LineTooLong => put(&mut *out, used, b"the line is longer than 4000 bytes"),
-        Reason::BeforeFirstCase => put(&mut *out, used, b"no case has started"),
-        Reason::AfterOperation => put(
-            &mut *out,
-            used,
-            b"a description line after the case's first operation",
-        ),
-        Reason::Repeated => put(&mut *out, used, b"this line stands once in a case"),
-        Reason::TooMuchCode => put(&mut *out, used, b"code is at most 65536 bytes long"),
-        Reason::TooMuchMemory => put(&mut *out, used, b"a memory is at most 65536 bytes long"),
-        Reason::PlaceOutside => put(&mut *out, used, b"no whole word lies at this place"),
-        Reason::NoCheck => put(&mut *out, used, b"this build has no check"),
-        _ => put_field_reason(&mut *out, used, r),
+// Tells the bytes of one row, and its line end.
+fn tell_row(rows: &[u8], row: usize) {
+    let mut start = 0;
+    let mut left = row;
+    let mut i = 0;
+    while i < rows.len() {
+        i += 1;
+        if rows[i - 1] == b'\n' {
+            if left == 0 {
+                tell(&rows[start..i]);
+                return;
+            }
+            left -= 1;
+            start = i;
+        }
     }
 }
 
-// Writes the line and all before it.
-pub fn report_mistake(out: &mut [u8], used: usize, line: u64, r: Reason) {
-    let a = put_labelled(&mut *out, used, b"error line ", line);
-    let b = put(&mut *out, a, b": ");
-    let c = put_reason(&mut *out, b, r);
-    let d = put(&mut *out, c, b"\n");
-    flush(&*out, d);
+fn tell_mistake(row: usize) {
+    let rows = b"no mistake\n\
+        the first word is unknown\n\
+        a field is missing\n\
+        a field too many\n\
+        a decimal number of 32 bits is expected\n\
+        a word of eight hexadecimal digits is expected\n\
+        a name has 1 to 60 letters, digits, '-', '_' or '.'\n\
+        a predicate is 0 or 1\n\
+        registers are 0 to 31\n\
+        predicates are 0 to 7\n\
+        specials are sl, sh, ss, st, srb, sro, sxb and sxo\n\
+        transfers are br, call and block\n\
+        items are r0 to r31, p0 to p7, sl, sh, main, local and stack\n\
+        the line is longer than 4000 bytes\n\
+        no case has started\n\
+        a description line after the case's first operation\n\
+        this line stands once in a case\n\
+        code is at most 65536 bytes long\n\
+        a memory is at most 65536 bytes long\n\
+        no whole word lies at this place\n\
+        this build has no check\n";
+    tell_row(rows, row);
+}
+
+// The report ends with what is wrong with a line.
+pub fn fail(kept: &mut Kept, line: u64, row: usize) {
+    say(b"error line %: ", &[line]);
+    tell_mistake(row);
+    kept[PHASE] = STOPPED;
 }

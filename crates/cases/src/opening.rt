@@ -1,82 +1,168 @@
-// The fresh state of a case, at its first operation.
-use crate::clearing::copy_bytes;
-use crate::clearing::copy_words;
-use crate::description::Description;
-use crate::operation::cache_words;
-use crate::output::least;
-use crate::specials::described_state;
-use machine::open::Opened;
-use machine::open::Opening;
-use machine::state::State;
+// How a case starts, and how its state is opened at its first operation.
+use crate::buffers::Bytes;
+use crate::buffers::Cache;
+use crate::buffers::Memory;
+use crate::clearing::clear_cache_copy;
+use crate::clearing::clear_memory;
+use crate::clearing::copy_memory;
+use crate::clearing::fill_cache;
+use crate::description::is_given;
+use crate::extent::Extents;
+use crate::extent::extents_of;
+use crate::kept::BASE;
+use crate::kept::DESCRIBED;
+use crate::kept::ENTRY;
+use crate::kept::FETCH;
+use crate::kept::Kept;
+use crate::kept::LOCAL;
+use crate::kept::MAIN;
+use crate::kept::OPEN;
+use crate::kept::PHASE;
+use crate::kept::REFUSED;
+use crate::kept::SPECIALS;
+use crate::kept::forget_case;
+use crate::kept::keep_word;
+use crate::kept::number;
+use crate::kept::word;
+use crate::kept_state::listed;
+use crate::mistake::PLACE_OUTSIDE;
+use crate::mistake::fail;
+use crate::output::say;
+use crate::output::tell;
+use crate::places::Outside;
+use crate::places::Store;
+use crate::places::first_outside;
+use crate::places::reach_place;
+use machine::Opened;
+use machine::Opening;
+use machine::State;
+use text::fields::next_field;
+ghost use Prim.Native.Nat.{_≤_};
+ghost use lib.ListN.{length};
 
-// A state to start with, before any case is opened.
-pub fn no_state() -> State {
-    let mut none = [0u32; 4];
-    let o = State::fresh(b"", b"", b"", &mut none, 0, 0, 0);
-    o.state
+fn tell_name(line: &[u8], name: usize) {
+    let f = next_field(line, name);
+    let start = f.start;
+    let end = f.end;
+    tell(b"case ");
+    tell(&line[start..end]);
+    tell(b"\n");
+}
+
+// How many bytes of a memory a case may have written: those that it has, and those of its places.
+fn written(kept: &Kept, length: usize, store: Store) -> usize {
+    let reach = number(kept, reach_place(store));
+    if number(kept, length) < reach {
+        return reach as usize;
+    }
+    number(kept, length) as usize
+}
+
+// The next case: what the one before put into the buffers is cleared.
+pub fn start_case(
+    line: &[u8],
+    name: usize,
+    main: &mut Memory,
+    local: &mut Memory,
+    cache: &mut Cache,
+    kept: &mut Kept,
+) {
+    tell_name(line, name);
+    clear_memory(&mut *main, written(&*kept, MAIN, Store::Main));
+    clear_memory(&mut *local, written(&*kept, LOCAL, Store::Local));
+    clear_cache_copy(&mut *cache);
+    forget_case(&mut *kept);
+    kept[PHASE] = DESCRIBED;
 }
 
 // The fresh state, judged and built.
-fn fresh(d: Description, code: &[u8], main: &[u8], local: &[u8], cache: &mut [u32]) -> Opened {
-    let c = least(d.code as usize, code.len());
-    let m = least(d.main as usize, main.len());
-    let l = least(d.local as usize, local.len());
-    let w = least(cache_words(d.words), cache.len());
+fn fresh(
+    e: Extents,
+    entry: u32,
+    code: &[u8],
+    main: &[u8],
+    local: &[u8],
+    cache: &mut [u32],
+) -> Opened
+    requires { ⌜ (e .code ≤ length (now code)) × (e .main ≤ length (now main)) × (e .local ≤ length (now local)) × (e .words ≤ length (now cache)) ⌝ }
+{
+    let c = e.code;
+    let m = e.main;
+    let l = e.local;
+    let w = e.words;
     State::fresh(
         &code[0..c],
         &main[0..m],
         &local[0..l],
         &mut cache[0..w],
-        d.lo,
-        d.hi,
-        d.entry,
+        e.lo,
+        e.hi,
+        entry,
     )
 }
 
+// A word of the state is as built where no line gave it.
+fn keep_built(kept: &mut Kept, place: usize, w: u32) {
+    if !is_given(&*kept, place) {
+        keep_word(&mut *kept, place, w);
+    }
+}
+
+fn keep_built_specials(kept: &mut Kept, specials: [u32; 8]) {
+    let mut i = 0;
+    while i < 8 {
+        keep_built(&mut *kept, SPECIALS + i, specials[i]);
+        i += 1;
+    }
+}
+
+// The fresh state is completed by what the case puts into it. Registers, predicates and what waits are kept as described.
+fn keep_fresh(kept: &mut Kept, s: State) {
+    keep_built(&mut *kept, FETCH, s.fetch);
+    keep_built(&mut *kept, BASE, s.base);
+    keep_built_specials(&mut *kept, listed(s.specials));
+    kept[PHASE] = OPEN;
+}
+
 // The copies that later tell what an operation changed. The case's cache words stand in the cache's copy.
-fn set_up(
-    d: Description,
-    main: &[u8],
-    local: &[u8],
-    cache: &mut [u32],
-    main_copy: &mut [u8],
-    local_copy: &mut [u8],
-    cache_copy: &[u32],
-) {
-    copy_bytes(main, &mut *main_copy, d.main as usize);
-    copy_bytes(local, &mut *local_copy, d.local as usize);
-    copy_words(cache_copy, &mut *cache, cache_words(d.words));
+fn set_up(main: &mut Memory, local: &mut Memory, cache: &mut Cache, e: Extents) {
+    copy_memory(&mut *main, e.main);
+    copy_memory(&mut *local, e.local);
+    fill_cache(&mut *cache, e.words);
 }
 
-fn with_state(answer: Opening, state: State) -> Opened {
-    Opened { answer, state }
-}
-
-// The fresh state with what the case puts into it.
-pub fn open(
-    d: Description,
-    code: &[u8],
-    main: &[u8],
-    local: &[u8],
-    cache: &mut [u32],
-    main_copy: &mut [u8],
-    local_copy: &mut [u8],
-    cache_copy: &[u32],
-) -> Opened {
-    let o = fresh(d, code, main, local, &mut *cache);
+// Keeps what came of the opening. The number of a refusal is reported.
+fn keep_opened(o: Opened, kept: &mut Kept) {
     let answer = o.answer;
     let state = o.state;
-    if let Opening::Refused(n) = answer {
-        return with_state(Opening::Refused(n), state);
+    match answer {
+        Opening::Refused(n) => {
+            say(b"open refused %\n", &[n as u64]);
+            kept[PHASE] = REFUSED;
+        }
+        Opening::Opened => keep_fresh(&mut *kept, state),
     }
-    set_up(
-        d,
-        main,
-        local,
-        &mut *cache,
-        &mut *main_copy,
-        &mut *local_copy,
-        cache_copy,
-    );
-    with_state(Opening::Opened, described_state(state, d))
+}
+
+// Of a case that is refused nothing is done, so the copies are made in any case.
+fn open(code: &Bytes, main: &mut Memory, local: &mut Memory, cache: &mut Cache, kept: &mut Kept) {
+    let e = extents_of(&*kept);
+    let entry = word(&*kept, ENTRY);
+    let o = fresh(e, entry, code, &*main, &*local, &mut *cache);
+    set_up(&mut *main, &mut *local, &mut *cache, e);
+    keep_opened(o, &mut *kept);
+}
+
+// At a case's first operation its places are judged, and its state is opened.
+pub fn open_case(
+    code: &Bytes,
+    main: &mut Memory,
+    local: &mut Memory,
+    cache: &mut Cache,
+    kept: &mut Kept,
+) {
+    match first_outside(&*kept) {
+        Outside::Line(n) => fail(&mut *kept, n, PLACE_OUTSIDE),
+        Outside::Nowhere => open(code, &mut *main, &mut *local, &mut *cache, &mut *kept),
+    }
 }

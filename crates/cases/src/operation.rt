@@ -1,100 +1,153 @@
-// The three operations, on the parts of the buffers that a case describes.
-use crate::description::Description;
-use crate::output::least;
-use crate::output::put;
-use crate::output::put_labelled;
+// The operations that change the state, on the parts of the buffers that a case has, and their reports.
+use crate::buffers::Bytes;
+use crate::buffers::Cache;
+use crate::buffers::Memory;
+use crate::changes::put_changes;
+use crate::extent::Extents;
+use crate::extent::extents_of;
+use crate::kept::Kept;
+use crate::kept_state::keep_state;
+use crate::kept_state::state_of;
+use crate::output::say;
+use crate::output::tell;
 use crate::report::put_counts;
-use machine::state::State;
-use machine::step::Answer;
-use machine::step::Counts;
+use crate::report::put_state;
+use machine::Answer;
+use machine::State;
+use machine::Stepped;
+use run::Ran;
 use run::RunAnswer;
+ghost use Prim.Native.Nat.{_≤_};
+ghost use lib.ListN.{length};
 
-// What an operation left: the report so far, and the state.
-pub struct Operated {
-    pub used: usize,
-    pub state: State,
-}
-
-// How many words of the cache are lent. More than 512 are refused, whatever their number.
-pub fn cache_words(words: u32) -> usize {
-    least(words as usize, 513)
-}
-
-fn put_step_answer(out: &mut [u8], used: usize, a: Answer) -> usize {
+fn put_step_answer(a: Answer) {
     match a {
-        Answer::Done => put(&mut *out, used, b"step done"),
-        Answer::Ended => put(&mut *out, used, b"step ended"),
-        Answer::Refused(n) => put_labelled(&mut *out, used, b"step refused ", n as u64),
+        Answer::Done => tell(b"step done"),
+        Answer::Ended => tell(b"step ended"),
+        Answer::Refused(n) => say(b"step refused %", &[n as u64]),
     }
 }
 
-fn put_run_answer(out: &mut [u8], used: usize, a: RunAnswer) -> usize {
+fn put_run_answer(a: RunAnswer) {
     match a {
-        RunAnswer::Ended => put(&mut *out, used, b"run ended"),
-        RunAnswer::Spent => put(&mut *out, used, b"run spent"),
-        RunAnswer::Refused(n) => put_labelled(&mut *out, used, b"run refused ", n as u64),
+        RunAnswer::Ended => tell(b"run ended"),
+        RunAnswer::Spent => tell(b"run spent"),
+        RunAnswer::Refused(n) => say(b"run refused %", &[n as u64]),
     }
 }
 
-pub fn do_step(
-    d: Description,
+fn step(
     s: State,
+    e: Extents,
     code: &[u8],
     main: &mut [u8],
     local: &mut [u8],
     cache: &mut [u32],
-    out: &mut [u8],
-    used: usize,
-) -> Operated {
-    let c = least(d.code as usize, code.len());
-    let m = least(d.main as usize, main.len());
-    let l = least(d.local as usize, local.len());
-    let w = least(cache_words(d.words), cache.len());
-    let r = s.step(
+) -> Stepped
+    requires { ⌜ (e .code ≤ length (now code)) × (e .main ≤ length (now main)) × (e .local ≤ length (now local)) × (e .words ≤ length (now cache)) ⌝ }
+{
+    let c = e.code;
+    let m = e.main;
+    let l = e.local;
+    let w = e.words;
+    s.step(
         &code[0..c],
         &mut main[0..m],
         &mut local[0..l],
         &mut cache[0..w],
-        d.lo,
-        d.hi,
-    );
-    let answer = r.answer;
-    let counts = r.counts;
-    let state = r.state;
-    let a = put_step_answer(&mut *out, used, answer);
-    let b = put_counts(&mut *out, a, counts);
-    Operated { used: b, state }
+        e.lo,
+        e.hi,
+    )
 }
 
-pub fn do_run(
-    d: Description,
+fn run_on(
     s: State,
     budget: u32,
+    e: Extents,
     code: &[u8],
     main: &mut [u8],
     local: &mut [u8],
     cache: &mut [u32],
-    out: &mut [u8],
-    used: usize,
-) -> Operated {
-    let c = least(d.code as usize, code.len());
-    let m = least(d.main as usize, main.len());
-    let l = least(d.local as usize, local.len());
-    let w = least(cache_words(d.words), cache.len());
-    let r = run::run(
+) -> Ran
+    requires { ⌜ (e .code ≤ length (now code)) × (e .main ≤ length (now main)) × (e .local ≤ length (now local)) × (e .words ≤ length (now cache)) ⌝ }
+{
+    let c = e.code;
+    let m = e.main;
+    let l = e.local;
+    let w = e.words;
+    run::run(
         s,
         &code[0..c],
         &mut main[0..m],
         &mut local[0..l],
         &mut cache[0..w],
-        d.lo,
-        d.hi,
+        e.lo,
+        e.hi,
         budget,
-    );
+    )
+}
+
+// The state that a step left is kept, and its answer is reported.
+fn after_step(r: Stepped, kept: &mut Kept) {
     let answer = r.answer;
     let counts = r.counts;
     let state = r.state;
-    let a = put_run_answer(&mut *out, used, answer);
-    let b = put_counts(&mut *out, a, counts);
-    Operated { used: b, state }
+    put_step_answer(answer);
+    put_counts(counts);
+    keep_state(&mut *kept, state);
+}
+
+fn after_run(r: Ran, kept: &mut Kept) {
+    let answer = r.answer;
+    let counts = r.counts;
+    let state = r.state;
+    put_run_answer(answer);
+    put_counts(counts);
+    keep_state(&mut *kept, state);
+}
+
+// The state lines and the change lines.
+fn report(main: &mut Memory, local: &mut Memory, cache: &mut Cache, kept: &Kept) {
+    put_state(kept);
+    put_changes(&mut *main, &mut *local, &mut *cache, extents_of(kept));
+}
+
+pub fn do_step(
+    code: &Bytes,
+    main: &mut Memory,
+    local: &mut Memory,
+    cache: &mut Cache,
+    kept: &mut Kept,
+) {
+    let r = step(
+        state_of(&*kept),
+        extents_of(&*kept),
+        code,
+        &mut *main,
+        &mut *local,
+        &mut *cache,
+    );
+    after_step(r, &mut *kept);
+    report(&mut *main, &mut *local, &mut *cache, &*kept);
+}
+
+pub fn do_run(
+    budget: u32,
+    code: &Bytes,
+    main: &mut Memory,
+    local: &mut Memory,
+    cache: &mut Cache,
+    kept: &mut Kept,
+) {
+    let r = run_on(
+        state_of(&*kept),
+        budget,
+        extents_of(&*kept),
+        code,
+        &mut *main,
+        &mut *local,
+        &mut *cache,
+    );
+    after_run(r, &mut *kept);
+    report(&mut *main, &mut *local, &mut *cache, &*kept);
 }

@@ -1,20 +1,21 @@
 // The places that a case names in its memories and in its stack cache. Their lines may come before those that give the lengths,
 // so they are noted and judged at the first operation. Only a place further out than all before it can be the first mistake.
-use crate::output::least;
+use crate::kept::Kept;
+use crate::kept::LINE;
+use crate::kept::LOCAL;
+use crate::kept::MAIN;
+use crate::kept::NOTED;
+use crate::kept::NOTES;
+use crate::kept::REACH;
+use crate::kept::WORDS;
+use crate::kept::keep;
+use crate::kept::number;
 
 // The memories that have places.
 pub enum Store {
     Main,
     Local,
     Cache,
-}
-
-// How far the noted places of each store reach, and how many are noted.
-pub struct Places {
-    pub main: u64,
-    pub local: u64,
-    pub cache: u64,
-    pub count: usize,
 }
 
 // The line of the first place outside its store.
@@ -24,16 +25,7 @@ pub enum Outside {
 }
 
 // Rising places: 16384 in each memory, one beyond, and 512 in the cache.
-pub const ROOM: usize = 40000;
-
-pub fn no_places() -> Places {
-    Places {
-        main: 0,
-        local: 0,
-        cache: 0,
-        count: 0,
-    }
-}
+const ROOM: u64 = 40000;
 
 // The last byte of the word at an address of a memory, or one that no memory has.
 pub fn last_byte(address: u32) -> u32 {
@@ -46,90 +38,56 @@ pub fn last_byte(address: u32) -> u32 {
     address + 3
 }
 
-fn reach(p: Places, store: Store) -> u64 {
+// Where it is kept how far the places of a store reach.
+pub fn reach_place(store: Store) -> usize {
     match store {
-        Store::Main => p.main,
-        Store::Local => p.local,
-        Store::Cache => p.cache,
+        Store::Main => REACH,
+        Store::Local => REACH + 1,
+        Store::Cache => REACH + 2,
     }
 }
 
-fn with_reach(mut p: Places, store: Store, end: u64) -> Places {
+// Where the length of a store is kept.
+fn length_place(store: Store) -> usize {
     match store {
-        Store::Main => {
-            p.main = end;
-            p
-        }
-        Store::Local => {
-            p.local = end;
-            p
-        }
-        Store::Cache => {
-            p.cache = end;
-            p
-        }
+        Store::Main => MAIN,
+        Store::Local => LOCAL,
+        Store::Cache => WORDS,
     }
 }
 
-fn store_number(store: Store) -> u64 {
-    match store {
-        Store::Main => 0,
-        Store::Local => 1,
-        Store::Cache => 2,
-    }
-}
-
-fn number_at(notes: &[u64], i: usize) -> u64 {
-    if i < notes.len() {
-        return notes[i];
-    }
-    0
-}
-
-fn put_at(notes: &mut [u64], i: usize, n: u64) {
-    if i < notes.len() {
-        notes[i] = n;
-    }
-}
-
-// A place is noted as its store, its last byte or word, and its line. There is room for as many rising places as stores within
-// the limits have; more are not noted.
-pub fn note(p: Places, notes: &mut [u64], store: Store, last: u32, line: u64) -> Places {
+// A place is noted as where its store's length is kept, its last byte or word, and its line. There is room for as many rising
+// places as stores within the limits have; more are not noted.
+pub fn note(kept: &mut Kept, store: Store, last: u32) {
     let end = (last as u64) + 1;
-    if end <= reach(p, store) {
-        return p;
+    let reach = reach_place(store);
+    if end <= number(&*kept, reach) {
+        return;
     }
-    let mut q = with_reach(p, store, end);
-    let n = q.count;
+    keep(&mut *kept, reach, end);
+    let n = kept[NOTED];
     if ROOM <= n {
-        return q;
+        return;
     }
-    put_at(&mut *notes, 3 * n, store_number(store));
-    put_at(&mut *notes, 3 * n + 1, last as u64);
-    put_at(&mut *notes, 3 * n + 2, line);
-    q.count = n + 1;
-    q
-}
-
-fn size(store: u64, main: u32, local: u32, words: u32) -> u64 {
-    if store == 0 {
-        return main as u64;
-    }
-    if store == 1 {
-        return local as u64;
-    }
-    words as u64
+    let at = NOTES + 3 * (n as usize);
+    kept[at] = length_place(store) as u64;
+    kept[at + 1] = last as u64;
+    kept[at + 2] = kept[LINE];
+    kept[NOTED] = n + 1;
 }
 
 // The first noted place that lies outside.
-pub fn first_outside(notes: &[u64], count: usize, main: u32, local: u32, words: u32) -> Outside {
-    let most = least(count, ROOM);
-    let mut i = 0;
-    while i < most {
-        let store = number_at(notes, 3 * i);
-        let last = number_at(notes, 3 * i + 1);
-        if size(store, main, local, words) <= last {
-            return Outside::Line(number_at(notes, 3 * i + 2));
+pub fn first_outside(kept: &Kept) -> Outside {
+    let noted = number(kept, NOTED);
+    let mut i: u64 = 0;
+    while i < noted {
+        if ROOM <= i {
+            return Outside::Nowhere;
+        }
+        let at = NOTES + 3 * (i as usize);
+        let length = number(kept, at) as usize;
+        if number(kept, length) <= number(kept, at + 1) {
+            return Outside::Line(number(kept, at + 2));
         }
         i += 1;
     }

@@ -4,12 +4,12 @@ use mathlib.Core.Bool.{Bool, cond}
 use mathlib.Core.Option.{Option, none, some}
 use Rattle.decoder.specs.Format.{_⋯_, bits, reading}
 use Rattle.decoder.specs.Formats.{isSet, predicateOperand, longFormats, aluFormats, firstFormats}
-use Rattle.decoder.specs.declared.instruction.PredicateOperand.{PredicateOperand}
-use Rattle.decoder.specs.declared.instruction.AluOperation.{AluOperation}
-use Rattle.decoder.specs.declared.instruction.Operation.{Operation}
-use Rattle.decoder.specs.declared.instruction.Operation.the-variants.{Alu}
-use Rattle.decoder.specs.declared.instruction.Bundle.{Bundle}
-use Rattle.decoder.specs.declared.instruction.Bundle.the-variants.{Undecodable, One, Two, Long}
+use Rattle.decoder.specs.declared.PredicateOperand.{PredicateOperand}
+use Rattle.decoder.specs.declared.AluOperation.{AluOperation}
+use Rattle.decoder.specs.declared.Operation.{Operation}
+use Rattle.decoder.specs.declared.Operation.the-variants.{Alu}
+use Rattle.decoder.specs.declared.Bundle.{Bundle}
+use Rattle.decoder.specs.declared.Bundle.the-variants.{Undecodable, One, Two, Long}
 
 -- "Bit 31 of the first word tells a bundle of two words."
 abbrev pub isTwoWords : ℕ → Bool

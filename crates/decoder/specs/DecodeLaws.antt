@@ -7,12 +7,12 @@ use native.Mathlib.Omega.{arith}
 use Rattle.decoder.specs.Format.{reading}
 use Rattle.decoder.specs.Formats.{longFormats}
 use Rattle.decoder.specs.Decode.{isTwoWords, bundleWords, guardOf, slotOne, slotTwo, one, two, long, applied, decode}
-use Rattle.decoder.specs.declared.instruction.AluOperation.{AluOperation}
-use Rattle.decoder.specs.declared.instruction.Operation.{Operation}
-use Rattle.decoder.specs.declared.instruction.Instruction.{Instruction}
-use Rattle.decoder.specs.declared.instruction.AluInstruction.{AluInstruction}
-use Rattle.decoder.specs.declared.instruction.Bundle.{Bundle}
-use Rattle.decoder.specs.declared.instruction.Bundle.the-variants.{Undecodable, One, Two, Long}
+use Rattle.decoder.specs.declared.AluOperation.{AluOperation}
+use Rattle.decoder.specs.declared.Operation.{Operation}
+use Rattle.decoder.specs.declared.Instruction.{Instruction}
+use Rattle.decoder.specs.declared.AluInstruction.{AluInstruction}
+use Rattle.decoder.specs.declared.Bundle.{Bundle}
+use Rattle.decoder.specs.declared.Bundle.the-variants.{Undecodable, One, Two, Long}
 
 -- The number of words tells whether there are two.
 pub words-one : (first : ℕ) → bundleWords first ≡ 1 → isTwoWords first ≡ false

@@ -39,6 +39,9 @@ pub record Format (A : Type 0) : Type 0 where
   pub unused : List Range
   pub meaning : Meaning A fields
 
+abbrev pub format : {A : Type 0} → List Fixed → (fields : List Range) → List Range → Meaning A fields → Format A
+format fixed fields unused meaning = record { fixed = fixed; fields = fields; unused = unused; meaning = meaning }
+
 abbrev pub matches : List Fixed → ℕ → Bool
 matches [] w = true
 matches (f ∷ fs) w = eqb (bits (f .range) w) (f .value) && matches fs w

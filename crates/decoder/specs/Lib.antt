@@ -3,9 +3,6 @@ pub mod Tables
 pub mod Formats
 pub mod Decode
 pub mod DecodeLaws
-pub mod Layout
-pub mod Ranges
-pub mod RangeLaws
 pub mod Readings
 pub mod TableLaws
 pub mod FlowLaws

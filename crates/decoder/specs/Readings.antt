@@ -1,14 +1,14 @@
 -- What the decoder's own functions return, as the options of the definitions.
 use mathlib.Core.Option.{Option, none, some}
-use Rattle.decoder.specs.declared.instruction.AluFunction.{AluFunction}
-use Rattle.decoder.specs.declared.instruction.MultiplyFunction.{MultiplyFunction}
-use Rattle.decoder.specs.declared.instruction.CompareFunction.{CompareFunction}
-use Rattle.decoder.specs.declared.instruction.PredicateFunction.{PredicateFunction}
-use Rattle.decoder.specs.declared.instruction.Special.{Special}
-use Rattle.decoder.specs.declared.instruction.LoadWidth.{LoadWidth}
-use Rattle.decoder.specs.declared.instruction.StoreWidth.{StoreWidth}
-use Rattle.decoder.specs.declared.instruction.AluOperation.{AluOperation}
-use Rattle.decoder.specs.declared.instruction.Operation.{Operation}
+use Rattle.decoder.specs.declared.AluFunction.{AluFunction}
+use Rattle.decoder.specs.declared.MultiplyFunction.{MultiplyFunction}
+use Rattle.decoder.specs.declared.CompareFunction.{CompareFunction}
+use Rattle.decoder.specs.declared.PredicateFunction.{PredicateFunction}
+use Rattle.decoder.specs.declared.Special.{Special}
+use Rattle.decoder.specs.declared.LoadWidth.{LoadWidth}
+use Rattle.decoder.specs.declared.StoreWidth.{StoreWidth}
+use Rattle.decoder.specs.declared.AluOperation.{AluOperation}
+use Rattle.decoder.specs.declared.Operation.{Operation}
 use Rattle.decoder.specs.declared.tables.AluRow.{AluRow}
 use Rattle.decoder.specs.declared.tables.AluRow.the-variants as of-aluRow
 use Rattle.decoder.specs.declared.tables.MultiplyRow.{MultiplyRow}

@@ -8,7 +8,7 @@ use lib.Dec.{eqb}
 use native.Mathlib.Omega.{arith}
 use Rattle.decoder.specs.Format.{Row, row}
 use Rattle.decoder.specs.Decode.{applied}
-use Rattle.decoder.specs.declared.instruction.AluOperation.{AluOperation}
+use Rattle.decoder.specs.declared.AluOperation.{AluOperation}
 
 abbrev pub andThen : {A B : Type 0} → Option A → (A → Option B) → Option B
 andThen none k = none

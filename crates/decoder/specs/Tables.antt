@@ -4,29 +4,29 @@ use mathlib.Core.Bool.{Bool, true, false}
 use mathlib.Core.List.{List, [], _∷_}
 use Rattle.word.specs.Word.{signed}
 use Rattle.decoder.specs.Format.{Row, _⇒_}
-use Rattle.decoder.specs.declared.instruction.AluFunction.{AluFunction}
-use Rattle.decoder.specs.declared.instruction.AluFunction.the-variants.{Add, Sub, Xor, Sl, Sr, Sra, Or, And, Nor, Shadd, Shadd2}
-use Rattle.decoder.specs.declared.instruction.MultiplyFunction.{MultiplyFunction}
-use Rattle.decoder.specs.declared.instruction.MultiplyFunction.the-variants.{Mul, Mulu}
-use Rattle.decoder.specs.declared.instruction.CompareFunction.{CompareFunction}
-use Rattle.decoder.specs.declared.instruction.CompareFunction.the-variants.{Cmpeq, Cmpneq, Cmplt, Cmple, Cmpult, Cmpule, Btest}
-use Rattle.decoder.specs.declared.instruction.PredicateFunction.{PredicateFunction}
-use Rattle.decoder.specs.declared.instruction.PredicateFunction.the-variants.{Por, Pand, Pxor}
-use Rattle.decoder.specs.declared.instruction.Special.{Special}
-use Rattle.decoder.specs.declared.instruction.Special.the-variants as special
-use Rattle.decoder.specs.declared.instruction.AccessKind.{AccessKind}
-use Rattle.decoder.specs.declared.instruction.AccessKind.the-variants.{Stack, Local, Cached, Main}
-use Rattle.decoder.specs.declared.instruction.LoadWidth.{LoadWidth}
-use Rattle.decoder.specs.declared.instruction.LoadWidth.the-variants.{Word, Half, Byte, HalfUnsigned, ByteUnsigned}
-use Rattle.decoder.specs.declared.instruction.StoreWidth.{StoreWidth}
-use Rattle.decoder.specs.declared.instruction.StoreWidth.the-variants as store
-use Rattle.decoder.specs.declared.instruction.StackAmount.the-variants as amount
-use Rattle.decoder.specs.declared.instruction.StackOperation.{StackOperation}
-use Rattle.decoder.specs.declared.instruction.StackOperation.the-variants.{Sres, Sens, Sfree, Sspill}
-use Rattle.decoder.specs.declared.instruction.Target.{Target}
-use Rattle.decoder.specs.declared.instruction.Target.the-variants.{Call, CallRegister, Br, BrRegister, Brcf, BrcfRegister, Ret}
-use Rattle.decoder.specs.declared.instruction.Operation.{Operation}
-use Rattle.decoder.specs.declared.instruction.Operation.the-variants.{Transfer, Trap, Xret}
+use Rattle.decoder.specs.declared.AluFunction.{AluFunction}
+use Rattle.decoder.specs.declared.AluFunction.the-variants.{Add, Sub, Xor, Sl, Sr, Sra, Or, And, Nor, Shadd, Shadd2}
+use Rattle.decoder.specs.declared.MultiplyFunction.{MultiplyFunction}
+use Rattle.decoder.specs.declared.MultiplyFunction.the-variants.{Mul, Mulu}
+use Rattle.decoder.specs.declared.CompareFunction.{CompareFunction}
+use Rattle.decoder.specs.declared.CompareFunction.the-variants.{Cmpeq, Cmpneq, Cmplt, Cmple, Cmpult, Cmpule, Btest}
+use Rattle.decoder.specs.declared.PredicateFunction.{PredicateFunction}
+use Rattle.decoder.specs.declared.PredicateFunction.the-variants.{Por, Pand, Pxor}
+use Rattle.decoder.specs.declared.Special.{Special}
+use Rattle.decoder.specs.declared.Special.the-variants as special
+use Rattle.decoder.specs.declared.AccessKind.{AccessKind}
+use Rattle.decoder.specs.declared.AccessKind.the-variants.{Stack, Local, Cached, Main}
+use Rattle.decoder.specs.declared.LoadWidth.{LoadWidth}
+use Rattle.decoder.specs.declared.LoadWidth.the-variants.{Word, Half, Byte, HalfUnsigned, ByteUnsigned}
+use Rattle.decoder.specs.declared.StoreWidth.{StoreWidth}
+use Rattle.decoder.specs.declared.StoreWidth.the-variants as store
+use Rattle.decoder.specs.declared.StackAmount.the-variants as amount
+use Rattle.decoder.specs.declared.StackOperation.{StackOperation}
+use Rattle.decoder.specs.declared.StackOperation.the-variants.{Sres, Sens, Sfree, Sspill}
+use Rattle.decoder.specs.declared.Target.{Target}
+use Rattle.decoder.specs.declared.Target.the-variants.{Call, CallRegister, Br, BrRegister, Brcf, BrcfRegister, Ret}
+use Rattle.decoder.specs.declared.Operation.{Operation}
+use Rattle.decoder.specs.declared.Operation.the-variants.{Transfer, Trap, Xret}
 
 -- Table 2.1.
 abbrev pub aluTable : List (Row AluFunction)
@@ -46,10 +46,7 @@ aluTable =
 
 -- Table 2.2.
 abbrev pub multiplyTable : List (Row MultiplyFunction)
-multiplyTable =
-    0b0000 ⇒ Mul ∷
-    0b0001 ⇒ Mulu ∷
-    []
+multiplyTable = 0b0000 ⇒ Mul ∷ 0b0001 ⇒ Mulu ∷ []
 
 -- Table 2.3.
 abbrev pub compareTable : List (Row CompareFunction)
@@ -65,11 +62,7 @@ compareTable =
 
 -- Table 2.4.
 abbrev pub predicateTable : List (Row PredicateFunction)
-predicateTable =
-    0b0110 ⇒ Por ∷
-    0b0111 ⇒ Pand ∷
-    0b1010 ⇒ Pxor ∷
-    []
+predicateTable = 0b0110 ⇒ Por ∷ 0b0111 ⇒ Pand ∷ 0b1010 ⇒ Pxor ∷ []
 
 -- Figure 2.2: the special registers that the core has.
 abbrev pub specialTable : List (Row Special)
@@ -87,44 +80,21 @@ specialTable =
 
 -- Tables 2.5 and 2.6 print a type as three bits for the width and two for the memory.
 abbrev pub kindTable : List (Row AccessKind)
-kindTable =
-    0b00 ⇒ Stack ∷
-    0b01 ⇒ Local ∷
-    0b10 ⇒ Cached ∷
-    0b11 ⇒ Main ∷
-    []
+kindTable = 0b00 ⇒ Stack ∷ 0b01 ⇒ Local ∷ 0b10 ⇒ Cached ∷ 0b11 ⇒ Main ∷ []
 
 abbrev pub loadTable : List (Row LoadWidth)
-loadTable =
-    0b000 ⇒ Word ∷
-    0b001 ⇒ Half ∷
-    0b010 ⇒ Byte ∷
-    0b011 ⇒ HalfUnsigned ∷
-    0b100 ⇒ ByteUnsigned ∷
-    []
+loadTable = 0b000 ⇒ Word ∷ 0b001 ⇒ Half ∷ 0b010 ⇒ Byte ∷ 0b011 ⇒ HalfUnsigned ∷ 0b100 ⇒ ByteUnsigned ∷ []
 
 abbrev pub storeTable : List (Row StoreWidth)
-storeTable =
-    0b000 ⇒ store.Word ∷
-    0b001 ⇒ store.Half ∷
-    0b010 ⇒ store.Byte ∷
-    []
+storeTable = 0b000 ⇒ store.Word ∷ 0b001 ⇒ store.Half ∷ 0b010 ⇒ store.Byte ∷ []
 
 -- Table 2.7: what an immediate of words does.
 abbrev pub stackTable : List (Row (ℕ → StackOperation))
-stackTable =
-    0b00 ⇒ Sres ∷
-    0b01 ⇒ (λ n. Sens (amount.Words n)) ∷
-    0b10 ⇒ Sfree ∷
-    0b11 ⇒ (λ n. Sspill (amount.Words n)) ∷
-    []
+stackTable = 0b00 ⇒ Sres ∷ 0b01 ⇒ (λ n. Sens (amount.Words n)) ∷ 0b10 ⇒ Sfree ∷ 0b11 ⇒ (λ n. Sspill (amount.Words n)) ∷ []
 
 -- Table 2.8: what a register of bytes does.
 abbrev pub stackRegisterTable : List (Row (ℕ → StackOperation))
-stackRegisterTable =
-    0b01 ⇒ (λ r. Sens (amount.Register r)) ∷
-    0b11 ⇒ (λ r. Sspill (amount.Register r)) ∷
-    []
+stackRegisterTable = 0b01 ⇒ (λ r. Sens (amount.Register r)) ∷ 0b11 ⇒ (λ r. Sspill (amount.Register r)) ∷ []
 
 -- Table 2.10, by op and d; "br adds its signed words", the others' immediates are unsigned.
 abbrev pub flowTable : List (Row (ℕ → Operation))
@@ -140,20 +110,12 @@ flowTable =
 
 -- Table 2.11, by op, of the bit d: with no register operand.
 abbrev pub flowImplicitTable : List (Row (Bool → Operation))
-flowImplicitTable =
-    0b00 ⇒ (λ d. Transfer d Ret) ∷
-    0b01 ⇒ Xret ∷
-    []
+flowImplicitTable = 0b00 ⇒ (λ d. Transfer d Ret) ∷ 0b01 ⇒ Xret ∷ []
 
 -- Table 2.12: with one register operand.
 abbrev pub flowSingleTable : List (Row (Bool → ℕ → Operation))
-flowSingleTable =
-    0b00 ⇒ (λ d r. Transfer d (CallRegister r)) ∷
-    0b01 ⇒ (λ d r. Transfer d (BrRegister r)) ∷
-    []
+flowSingleTable = 0b00 ⇒ (λ d r. Transfer d (CallRegister r)) ∷ 0b01 ⇒ (λ d r. Transfer d (BrRegister r)) ∷ []
 
 -- Table 2.13: with two.
 abbrev pub flowTwoTable : List (Row (Bool → ℕ → ℕ → Operation))
-flowTwoTable =
-    0b10 ⇒ (λ d base offset. Transfer d (BrcfRegister base offset)) ∷
-    []
+flowTwoTable = 0b10 ⇒ (λ d base offset. Transfer d (BrcfRegister base offset)) ∷ []

@@ -6,9 +6,9 @@ ghost use Rattle.decoder.specs.Tables.{aluTable, compareTable, predicate
 ghost use Rattle.decoder.specs.Formats.{predicateOperand, longFormats, aluFormats};
 ghost use Rattle.decoder.specs.Decode.{applied};
 ghost use Rattle.decoder.specs.Readings.{aluFound};
-use crate::instruction::AluOperation;
-use crate::instruction::Op2;
-use crate::instruction::PredicateOperand;
+use crate::AluOperation;
+use crate::Op2;
+use crate::PredicateOperand;
 use crate::tables::AluRow;
 use crate::tables::CompareRow;
 use crate::tables::PredicateRow;

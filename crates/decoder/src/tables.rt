@@ -5,14 +5,14 @@ ghost use mathlib.Core.Option.{some};
 ghost use Rattle.decoder.specs.Format.{row};
 ghost use Rattle.decoder.specs.Tables.{aluTable, multiplyTable, compareTable, predicateTable, specialTable, loadTable, storeTable, kindTable};
 ghost use Rattle.decoder.specs.Readings.{aluRow, multiplyRow, compareRow, predicateRow, specialRow, loadWidthRow, storeWidthRow};
-use crate::instruction::AccessKind;
-use crate::instruction::AluFunction;
-use crate::instruction::CompareFunction;
-use crate::instruction::LoadWidth;
-use crate::instruction::MultiplyFunction;
-use crate::instruction::PredicateFunction;
-use crate::instruction::Special;
-use crate::instruction::StoreWidth;
+use crate::AccessKind;
+use crate::AluFunction;
+use crate::CompareFunction;
+use crate::LoadWidth;
+use crate::MultiplyFunction;
+use crate::PredicateFunction;
+use crate::Special;
+use crate::StoreWidth;
 
 pub(crate) enum AluRow {
     Unused,

@@ -8,39 +8,39 @@ use mir.Syntax.{w32}
 use mir.Val.{ofZ}
 use Rattle.word.specs.Word.{add, shiftLeft, copyBit}
 use Rattle.alu.specs.Alu.{arithmetic, multiply, compare, combine}
-use Rattle.decoder.specs.declared.instruction.PredicateOperand.{PredicateOperand}
-use Rattle.decoder.specs.declared.instruction.Op2.{Op2}
-use Rattle.decoder.specs.declared.instruction.Op2.the-variants as op2
-use Rattle.decoder.specs.declared.instruction.AluOperation.{AluOperation}
-use Rattle.decoder.specs.declared.instruction.AluOperation.the-variants.{Arithmetic, Compare, Predicate, BitCopy}
-use Rattle.decoder.specs.declared.instruction.Special.{Special}
-use Rattle.decoder.specs.declared.instruction.Special.the-variants.{S0, Sl, Sh, Ss, St, Srb, Sro, Sxb, Sxo}
-use Rattle.decoder.specs.declared.instruction.AccessKind.{AccessKind}
-use Rattle.decoder.specs.declared.instruction.AccessKind.the-variants.{Stack, Local, Cached, Main}
-use Rattle.decoder.specs.declared.instruction.StackAmount.{StackAmount}
-use Rattle.decoder.specs.declared.instruction.StackAmount.the-variants.{Words, Register}
-use Rattle.decoder.specs.declared.instruction.StackOperation.{StackOperation}
-use Rattle.decoder.specs.declared.instruction.StackOperation.the-variants as operation
-use Rattle.decoder.specs.declared.instruction.Target.{Target}
-use Rattle.decoder.specs.declared.instruction.Target.the-variants as target
-use Rattle.decoder.specs.declared.instruction.Operation.{Operation}
-use Rattle.decoder.specs.declared.instruction.Operation.the-variants.{Alu, Multiply, Mts, Mfs, Load, Store, StackControl, Transfer, Trap, Xret}
-use Rattle.decoder.specs.declared.instruction.Instruction.{Instruction}
-use Rattle.decoder.specs.declared.instruction.AluInstruction.{AluInstruction}
-use Rattle.decoder.specs.declared.instruction.Bundle.{Bundle}
-use Rattle.decoder.specs.declared.instruction.Bundle.the-variants.{Undecodable, One, Two, Long}
+use Rattle.decoder.specs.declared.PredicateOperand.{PredicateOperand}
+use Rattle.decoder.specs.declared.Op2.{Op2}
+use Rattle.decoder.specs.declared.Op2.the-variants as op2
+use Rattle.decoder.specs.declared.AluOperation.{AluOperation}
+use Rattle.decoder.specs.declared.AluOperation.the-variants.{Arithmetic, Compare, Predicate, BitCopy}
+use Rattle.decoder.specs.declared.Special.{Special}
+use Rattle.decoder.specs.declared.Special.the-variants.{S0, Sl, Sh, Ss, St, Srb, Sro, Sxb, Sxo}
+use Rattle.decoder.specs.declared.AccessKind.{AccessKind}
+use Rattle.decoder.specs.declared.AccessKind.the-variants.{Stack, Local, Cached, Main}
+use Rattle.decoder.specs.declared.StackAmount.{StackAmount}
+use Rattle.decoder.specs.declared.StackAmount.the-variants.{Words, Register}
+use Rattle.decoder.specs.declared.StackOperation.{StackOperation}
+use Rattle.decoder.specs.declared.StackOperation.the-variants as operation
+use Rattle.decoder.specs.declared.Target.{Target}
+use Rattle.decoder.specs.declared.Target.the-variants as target
+use Rattle.decoder.specs.declared.Operation.{Operation}
+use Rattle.decoder.specs.declared.Operation.the-variants.{Alu, Multiply, Mts, Mfs, Load, Store, StackControl, Transfer, Trap, Xret}
+use Rattle.decoder.specs.declared.Instruction.{Instruction}
+use Rattle.decoder.specs.declared.AluInstruction.{AluInstruction}
+use Rattle.decoder.specs.declared.Bundle.{Bundle}
+use Rattle.decoder.specs.declared.Bundle.the-variants.{Undecodable, One, Two, Long}
 use Rattle.stack_cache.specs.declared.StackControl as stack
 use Rattle.stack_cache.specs.declared.StackControl.the-variants as control
 use Rattle.memory.specs.Access.{loadScale, storeScale}
-use Rattle.effects.specs.declared.special.Specials.{Specials}
-use Rattle.effects.specs.declared.effect.Transfer as declared
-use Rattle.effects.specs.declared.effect.Transfer.the-variants as transfer
-use Rattle.effects.specs.declared.effect.AluEffect.{AluEffect}
-use Rattle.effects.specs.declared.effect.AluEffect.the-variants as alu
-use Rattle.effects.specs.declared.effect.Effect.{Effect}
-use Rattle.effects.specs.declared.effect.Effect.the-variants as effect
-use Rattle.effects.specs.declared.effect.Effects.{Effects}
-use Rattle.effects.specs.declared.effect.Effects.the-variants as effects
+use Rattle.effects.specs.declared.Specials.{Specials}
+use Rattle.effects.specs.declared.Transfer as declared
+use Rattle.effects.specs.declared.Transfer.the-variants as transfer
+use Rattle.effects.specs.declared.AluEffect.{AluEffect}
+use Rattle.effects.specs.declared.AluEffect.the-variants as alu
+use Rattle.effects.specs.declared.Effect.{Effect}
+use Rattle.effects.specs.declared.Effect.the-variants as effect
+use Rattle.effects.specs.declared.Effects.{Effects}
+use Rattle.effects.specs.declared.Effects.the-variants as effects
 
 -- The part of the state that slots read.
 pub record Start : Type 0 where
@@ -162,26 +162,16 @@ slotTwo s (One i) = alu.Nothing
 slotTwo s (Two i j) = slotTwoEffect (s .registers) (s .predicates) j
 slotTwo s (Long i) = alu.Nothing
 
--- By cases: of a transfer, of a stack instruction, and of every other effect.
-abbrev pub onTransfer : {A : Type 0} → A → (Bool → declared.Transfer → A) → Effect → A
-onTransfer other f (effect.Alu a) = other
-onTransfer other f (effect.Special d v) = other
-onTransfer other f (effect.Product l h) = other
-onTransfer other f (effect.Load k w r a) = other
-onTransfer other f (effect.Store k w a v) = other
-onTransfer other f (effect.Stack c n m) = other
-onTransfer other f (effect.Transfer d t) = f d t
-onTransfer other f effect.Exception = other
-
-abbrev pub onStack : {A : Type 0} → A → (stack.StackControl → ℕ → Bool → A) → Effect → A
-onStack other f (effect.Alu a) = other
-onStack other f (effect.Special d v) = other
-onStack other f (effect.Product l h) = other
-onStack other f (effect.Load k w r a) = other
-onStack other f (effect.Store k w a v) = other
-onStack other f (effect.Stack c n m) = f c n m
-onStack other f (effect.Transfer d t) = other
-onStack other f effect.Exception = other
+-- By cases: of a stack instruction, of a transfer, and of every other effect.
+abbrev pub onEffect : {A : Type 0} → A → (stack.StackControl → ℕ → Bool → A) → (Bool → declared.Transfer → A) → Effect → A
+onEffect other f g (effect.Alu a) = other
+onEffect other f g (effect.Special d v) = other
+onEffect other f g (effect.Product l h) = other
+onEffect other f g (effect.Load k w r a) = other
+onEffect other f g (effect.Store k w a v) = other
+onEffect other f g (effect.Stack c n m) = f c n m
+onEffect other f g (effect.Transfer d t) = g d t
+onEffect other f g effect.Exception = other
 
 -- Refusal 3: undecodable.
 abbrev pub isUndecodable : Bundle → Bool

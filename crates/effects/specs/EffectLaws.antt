@@ -6,13 +6,13 @@ use mathlib.Core.Path.{_≡_, refl, sym, ap, _∙_}
 use lib.ListN.{length, getD, drop, drop-of-length-le}
 use lib.Seq.{drop-cons}
 use native.Mathlib.Omega.{arith}
-use Rattle.decoder.specs.declared.instruction.Instruction.{Instruction}
-use Rattle.decoder.specs.declared.instruction.Bundle.{Bundle}
-use Rattle.decoder.specs.declared.instruction.Bundle.the-variants.{Undecodable, One, Two, Long}
-use Rattle.effects.specs.declared.effect.AluEffect.the-variants as alu
-use Rattle.effects.specs.declared.effect.Effects.the-variants as effects
-use Rattle.effects.specs.declared.slot.First.{First}
-use Rattle.effects.specs.declared.slot.First.the-variants as first
+use Rattle.decoder.specs.declared.Instruction.{Instruction}
+use Rattle.decoder.specs.declared.Bundle.{Bundle}
+use Rattle.decoder.specs.declared.Bundle.the-variants.{Undecodable, One, Two, Long}
+use Rattle.effects.specs.declared.AluEffect.the-variants as alu
+use Rattle.effects.specs.declared.Effects.the-variants as effects
+use Rattle.effects.specs.declared.First.{First}
+use Rattle.effects.specs.declared.First.the-variants as first
 use Rattle.effects.specs.Effect.{Start, predicatesWord, slotOneEffect, slotTwo, effectsOf}
 
 abbrev pub bitOf : Bool → ℕ

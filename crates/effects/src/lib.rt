@@ -1,4 +1,83 @@
 // What the slots of a bundle do, as values: computed from the state at the start, before anything is written.
-pub mod effect;
+pub mod either_slot;
 pub mod slot;
 pub mod special;
+
+use decoder::AccessKind;
+use decoder::Instruction;
+use decoder::LoadWidth;
+use decoder::Special;
+use decoder::StoreWidth;
+use stack_cache::StackControl;
+
+// A transfer of control that is to be carried out. Block is brcf and ret, which set the base.
+pub enum Transfer {
+    Br { target: u32 },
+    Call { target: u32 },
+    Block { target: u32, base: u32 },
+}
+
+// What either slot can do.
+pub enum AluEffect {
+    Nothing,
+    Register { rd: u32, value: u32 },
+    Predicate { pd: u32, value: bool },
+}
+
+// What slot one can do.
+pub enum Effect {
+    Alu(AluEffect),
+    Special {
+        special: Special,
+        value: u32,
+    },
+    Product {
+        low: u32,
+        high: u32,
+    },
+    Load {
+        kind: AccessKind,
+        width: LoadWidth,
+        rd: u32,
+        address: u32,
+    },
+    Store {
+        kind: AccessKind,
+        width: StoreWidth,
+        address: u32,
+        value: u32,
+    },
+    Stack {
+        control: StackControl,
+        words: u32,
+        aligned: bool,
+    },
+    Transfer {
+        delayed: bool,
+        transfer: Transfer,
+    },
+    Exception,
+}
+
+// What the two slots of a bundle do, if it has a meaning.
+pub enum Effects {
+    Undecodable,
+    Slots { one: Effect, two: AluEffect },
+}
+
+pub struct Specials {
+    pub sl: u32,
+    pub sh: u32,
+    pub ss: u32,
+    pub st: u32,
+    pub srb: u32,
+    pub sro: u32,
+    pub sxb: u32,
+    pub sxo: u32,
+}
+
+// The instruction of slot one, if the bundle has a meaning.
+pub enum First {
+    Undecodable,
+    Slot(Instruction),
+}

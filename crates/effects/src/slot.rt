@@ -4,23 +4,24 @@ ghost use Rattle.effects.specs.Effect.{start, accessAddress, address, am
 ghost use Prim.Native.Nat.{ℕ};
 ghost use Rattle.decoder.specs.Decode.{decode};
 ghost use Rattle.effects.specs.EffectLaws.{firstOf};
-use crate::effect::AluEffect;
-use crate::effect::Effect;
-use crate::effect::Effects;
-use crate::effect::Transfer;
-use crate::effect::alu_effect;
-use crate::effect::operand;
-use crate::effect::register;
-use crate::effect::slot_two;
-use crate::special::Specials;
+use crate::AluEffect;
+use crate::Effect;
+use crate::Effects;
+use crate::First;
+use crate::Specials;
+use crate::Transfer;
+use crate::either_slot::alu_effect;
+use crate::either_slot::operand;
+use crate::either_slot::register;
+use crate::either_slot::slot_two;
 use crate::special::read_special;
-use decoder::instruction::AccessKind;
-use decoder::instruction::Bundle;
-use decoder::instruction::Instruction;
-use decoder::instruction::Operation;
-use decoder::instruction::StackAmount;
-use decoder::instruction::StackOperation;
-use decoder::instruction::Target;
+use decoder::AccessKind;
+use decoder::Bundle;
+use decoder::Instruction;
+use decoder::Operation;
+use decoder::StackAmount;
+use decoder::StackOperation;
+use decoder::Target;
 use memory::width::load_scale;
 use memory::width::store_scale;
 use stack_cache::StackControl;
@@ -215,12 +216,6 @@ fn slot_one(
         return effect(registers, predicates, specials, fetch, operation);
     }
     Effect::Alu(AluEffect::Nothing)
-}
-
-// The instruction of slot one, if the bundle has a meaning.
-pub enum First {
-    Undecodable,
-    Slot(Instruction),
 }
 
 fn first_slot(b: Bundle) -> First

@@ -3,18 +3,8 @@ ghost use mathlib.Core.Path.{_≡_};
 ghost use mathlib.Core.Bool.{cond};
 ghost use Prim.Native.Nat.{_<_};
 ghost use Rattle.effects.specs.Effect.{predicatesWord, special};
-use decoder::instruction::Special;
-
-pub struct Specials {
-    pub sl: u32,
-    pub sh: u32,
-    pub ss: u32,
-    pub st: u32,
-    pub srb: u32,
-    pub sro: u32,
-    pub sxb: u32,
-    pub sxo: u32,
-}
+use crate::Specials;
+use decoder::Special;
 
 fn bit(b: bool) -> u32
     ensures { λ r. ⌜ (r ≡ cond b 1 0) × (r < 2) ⌝ }

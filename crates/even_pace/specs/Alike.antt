@@ -4,26 +4,26 @@ use mathlib.Core.Bool.{Bool, true, false}
 use mathlib.Core.Path.{_≡_, refl, sym, ap, _∙_}
 use borrow.Author.Tests.{not-false}
 use lib.ListN.{length, getD}
-use Rattle.decoder.specs.declared.instruction.Special.{Special}
-use Rattle.decoder.specs.declared.instruction.AccessKind.{AccessKind}
-use Rattle.decoder.specs.declared.instruction.LoadWidth.{LoadWidth}
-use Rattle.decoder.specs.declared.instruction.StoreWidth.{StoreWidth}
+use Rattle.decoder.specs.declared.Special.{Special}
+use Rattle.decoder.specs.declared.AccessKind.{AccessKind}
+use Rattle.decoder.specs.declared.LoadWidth.{LoadWidth}
+use Rattle.decoder.specs.declared.StoreWidth.{StoreWidth}
 use Rattle.stack_cache.specs.declared.StackControl.{StackControl}
 use Rattle.stack_cache.specs.Stack.{topAfter, spillAfter}
-use Rattle.memory.specs.declared.settings.Settings.{Settings}
+use Rattle.memory.specs.declared.Settings.{Settings}
 use Rattle.memory.specs.Access.{Buffers, loadScale, loadedValue, extended}
-use Rattle.effects.specs.declared.effect.Transfer.{Transfer}
-use Rattle.effects.specs.declared.effect.AluEffect.{AluEffect}
-use Rattle.effects.specs.declared.effect.AluEffect.the-variants as alu
-use Rattle.effects.specs.declared.effect.Effect.{Effect}
-use Rattle.effects.specs.declared.effect.Effect.the-variants as effect
-use Rattle.machine.specs.declared.state.State.{State}
-use Rattle.machine.specs.declared.state.WaitingTransfer.{WaitingTransfer}
-use Rattle.machine.specs.declared.state.WaitingLoad.the-variants.{Nothing}
+use Rattle.effects.specs.declared.Transfer.{Transfer}
+use Rattle.effects.specs.declared.AluEffect.{AluEffect}
+use Rattle.effects.specs.declared.AluEffect.the-variants as alu
+use Rattle.effects.specs.declared.Effect.{Effect}
+use Rattle.effects.specs.declared.Effect.the-variants as effect
+use Rattle.machine.specs.declared.State.{State}
+use Rattle.machine.specs.declared.WaitingTransfer.{WaitingTransfer}
+use Rattle.machine.specs.declared.WaitingLoad.the-variants.{Nothing}
 use Rattle.machine.specs.Bundle.{writeAlu, writeOne, onward, nearer}
-use Rattle.machine_laws.specs.StackKept.{Passed}
-use Rattle.single_path.specs.declared.Marking.{Marking}
-use Rattle.single_path.specs.Marking.{privateStore, publicRegister, publicPredicate, publicSpecial}
+use Rattle.machine_laws.specs.StackKept.{Passed, passed-open}
+use Rattle.marking_rules.specs.declared.Marking.{Marking}
+use Rattle.marking_rules.specs.Marking.{privateStore, publicRegister, publicPredicate, publicSpecial}
 use Rattle.even_pace.specs.Terms.{SameState, SameBuffers}
 use Rattle.even_pace.specs.StateLaws.{state-refl, state-sym, state-trans, register-both, predicate-both}
 use Rattle.even_pace.specs.WriteLaws.{special-both, product-both, stack-both, load-both, register-quiet, predicate-quiet, product-quiet, special-quiet, load-quiet, waits-private, waits-none}
@@ -94,7 +94,7 @@ module _ {m : Marking} (g : Settings) {b₁ b₂ : Buffers} (b : SameBuffers m (
   loaded-both : (k : AccessKind) (w : LoadWidth) (r a : ℕ) → Passed g from₁ (effect.Load k w r a) → privateStore m k ≡ false
       → loadedValue b₁ k w a ≡ loadedValue b₂ k w a
   unfolding loadedValue
-  loaded-both k w r a p h = ap (extended w) (read-both m g b (from₁ .specials .st) (from₁ .specials .ss) k a (2 ^ loadScale w) (not-false _ (p .access)) h)
+  loaded-both k w r a p h = ap (extended w) (read-both m g b (from₁ .specials .st) (from₁ .specials .ss) k a (2 ^ loadScale w) (passed-open _ g _ _ k a _ p) h)
 
   writeOne-both : {e₁ e₂ : Effect} {s₁ s₂ : State} → SameState m s₁ s₂ → SameEffect m e₁ e₂ → Passed g from₁ e₁
       → SameState m (writeOne g b₁ from₁ e₁ s₁) (writeOne g b₂ from₂ e₂ s₂)

@@ -5,22 +5,22 @@ use mathlib.Core.Bool.{Bool, true, false, false≢true}
 use mathlib.Core.List.{List}
 use mathlib.Core.Path.{_≡_, refl, sym, ap, subst, _∙_}
 use lib.ListN.{length, getD}
-use Rattle.decoder.specs.declared.instruction.Bundle.{Bundle}
-use Rattle.memory.specs.declared.settings.Settings.{Settings}
-use Rattle.memory.specs.declared.judge.Verdict.{Verdict}
-use Rattle.memory.specs.declared.judge.Verdict.the-variants.{Fine as Passing, Refused}
+use Rattle.decoder.specs.declared.Bundle.{Bundle}
+use Rattle.memory.specs.declared.Settings.{Settings}
+use Rattle.memory.specs.declared.Verdict.{Verdict}
+use Rattle.memory.specs.declared.Verdict.the-variants.{Fine as Passing, Refused}
 use Rattle.memory.specs.Answer.{Returned, done, refused}
 use Rattle.memory.specs.Access.{Buffers, verdict as verdictOf}
 use Rattle.effects.specs.Effect.{slotOne, slotTwo, isUndecodable}
-use Rattle.machine.specs.declared.state.State.{State}
+use Rattle.machine.specs.declared.State.{State}
 use Rattle.machine.specs.State.{startOf}
 use Rattle.machine.specs.Refusal.{effectTests}
 use Rattle.machine.specs.Bundle.{written, countsOf, buffersAfter, Outcome, outcome, bundleAt, followingAt, refusedOr, bundle}
-use Rattle.machine_laws.specs.StackKept.{fine-passed}
-use Rattle.single_path.specs.declared.Marking.{Marking}
-use Rattle.single_path.specs.declared.Rule.{Rule}
-use Rattle.single_path.specs.Rules.{breaks}
-use Rattle.single_path.specs.CheckLaws.{Fine, keeps-each}
+use Rattle.marking_rules.specs.declared.Marking.{Marking}
+use Rattle.marking_rules.specs.declared.Rule.{Rule}
+use Rattle.marking_rules.specs.Rules.{breaks}
+use Rattle.marking_rules.specs.RuleLaws.{keeps-each}
+use Rattle.single_path.specs.CheckLaws.{Fine}
 use Rattle.even_pace.specs.Terms.{Agree, hasPrivateAccess}
 use Rattle.even_pace.specs.Alike.{AlikeEffect, same-effect, quiet-effects}
 use Rattle.even_pace.specs.DoneLaws.{verdict-both, counts-alike, done-alike}
@@ -74,7 +74,7 @@ module _ {m : Marking} (g : Settings) (ordered : g .lo ≤ g .hi) {s₁ s₂ : S
           answer = refl;
           counts = counts-alike g (a .state) h;
           contents = done-alike g ordered (a .state) (a .buffers) inside following h (bundle-two g (a .state) (w₁ .eight) i kept)
-              (fine-passed g s₁ _ p) (fine-passed g s₂ _ q) (w₁ .eight) (w₂ .eight) (w₁ .first) (w₂ .first);
+              p q (w₁ .eight) (w₂ .eight) (w₁ .first) (w₂ .first);
         }
 
     outcome-alike : NoStop s₁ b₁ (verdictOf (effectTests g s₁ (slotOne (startOf s₁) i)))

@@ -6,19 +6,19 @@ use mathlib.Core.Path.{_≡_, refl, sym, ap, subst, _∙_}
 use borrow.Author.Tests.{not-false}
 use lib.ListN.{length, getD}
 use Rattle.stack_cache.specs.declared.StackControl.{StackControl}
-use Rattle.memory.specs.declared.settings.Settings.{Settings}
+use Rattle.memory.specs.declared.Settings.{Settings}
 use Rattle.memory.specs.Access.{Buffers, storeScale, verdict as verdictOf}
-use Rattle.effects.specs.declared.effect.AluEffect.{AluEffect}
-use Rattle.effects.specs.declared.effect.Effect.{Effect}
-use Rattle.effects.specs.declared.effect.Effect.the-variants as effect
-use Rattle.machine.specs.declared.state.State.{State}
-use Rattle.machine.specs.declared.state.WaitingTransfer.{WaitingTransfer}
-use Rattle.machine.specs.declared.state.WaitingLoad.the-variants.{Nothing}
+use Rattle.effects.specs.declared.AluEffect.{AluEffect}
+use Rattle.effects.specs.declared.Effect.{Effect}
+use Rattle.effects.specs.declared.Effect.the-variants as effect
+use Rattle.machine.specs.declared.State.{State}
+use Rattle.machine.specs.declared.WaitingTransfer.{WaitingTransfer}
+use Rattle.machine.specs.declared.WaitingLoad.the-variants.{Nothing}
 use Rattle.machine.specs.State.{state, specials, landed}
 use Rattle.machine.specs.Refusal.{effectTests}
 use Rattle.machine.specs.Bundle.{writeAlu, writeOne, onward, written, buffersAfter, stackMoved, countsOf}
-use Rattle.machine_laws.specs.StackKept.{Passed}
-use Rattle.single_path.specs.declared.Marking.{Marking}
+use Rattle.machine_laws.specs.StackKept.{Passed, passed-open}
+use Rattle.marking_rules.specs.declared.Marking.{Marking}
 use Rattle.even_pace.specs.Terms.{SameState, SameBuffers, Agree}
 use Rattle.even_pace.specs.FlowLaws.{landed-both, landed-predicates, landed-none}
 use Rattle.even_pace.specs.BufferLaws.{buffers-refl, buffers-sym, buffers-trans, store-both, store-quiet, moved-both}
@@ -110,7 +110,7 @@ module _ {m : Marking} (g : Settings) (ordered : g .lo ≤ g .hi) {s₁ s₂ : S
   buffers-both (special h) p = b
   buffers-both (product h k) p = b
   buffers-both (load h) p = b
-  buffers-both (store {k} {w} {a = x} {v₁} {v₂} h) p = store-both m g b (s₁ .specials .st) (s₁ .specials .ss) k x (2 ^ storeScale w) v₁ v₂ (not-false _ (p .access)) h
+  buffers-both (store {k} {w} {a = x} {v₁} {v₂} h) p = store-both m g b (s₁ .specials .st) (s₁ .specials .ss) k x (2 ^ storeScale w) v₁ v₂ (passed-open _ g _ _ k x _ p) h
   buffers-both (stack {c} {n} {x}) p =
       let e = moved-judging g s₁ c n b₂ ∙ ap (λ (s : State). stackMoved g s c n b₂) (same-judging g a) ∙ sym (moved-judging g s₂ c n b₂) in
       subst (λ (x : Buffers). SameBuffers m (g .lo) (g .hi) (stackMoved g s₁ c n b₁) x) e (moved-both m g ordered s₁ c n b inside)
@@ -123,7 +123,7 @@ module _ {m : Marking} (g : Settings) (ordered : g .lo ≤ g .hi) {s₁ s₂ : S
   buffers-quiet s c (quiet-special h) p = buffers-refl c
   buffers-quiet s c (quiet-product h k) p = buffers-refl c
   buffers-quiet s c (quiet-load h) p = buffers-refl c
-  buffers-quiet s c (quiet-store {k} {w} {a = x} {v} h) p = store-quiet m g c (s .specials .st) (s .specials .ss) k x (2 ^ storeScale w) v (not-false _ (p .access)) h
+  buffers-quiet s c (quiet-store {k} {w} {a = x} {v} h) p = store-quiet m g c (s .specials .st) (s .specials .ss) k x (2 ^ storeScale w) v (passed-open _ g _ _ k x _ p) h
 
   buffers-alike : {e₁ e₂ : Effect} → AlikeEffect m e₁ e₂ → Passed g s₁ e₁ → Passed g s₂ e₂
       → SameBuffers m (g .lo) (g .hi) (buffersAfter g s₁ e₁ b₁) (buffersAfter g s₂ e₂ b₂)

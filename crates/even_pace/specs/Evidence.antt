@@ -9,12 +9,12 @@ use mathlib.Core.Path.{_≡_, refl, sym, ap, subst, _∙_}
 use native.Mathlib.Omega.{arith}
 use lib.ListN.{getElem?}
 use Rattle.memory.specs.Answer.{Returned, ended, refused}
-use Rattle.machine.specs.declared.state.State.{State}
-use Rattle.machine.specs.declared.state.WaitingLoad.the-variants as load
-use Rattle.machine.specs.declared.step.Counts.{Counts}
+use Rattle.machine.specs.declared.State.{State}
+use Rattle.machine.specs.declared.WaitingLoad.the-variants as load
+use Rattle.machine.specs.declared.Counts.{Counts}
 use Rattle.machine.specs.Bundle.{noCounts, bundleAt, step}
 use Rattle.run.specs.Run.{run, Tried, triedAt, tries}
-use Rattle.single_path.specs.Marking.{publicRegister}
+use Rattle.marking_rules.specs.Marking.{publicRegister}
 use Rattle.single_path.specs.Check.{Walked, first, accepted}
 use Rattle.single_path.specs.WalkLaws.{walked-inside}
 use Rattle.even_pace.specs.Terms.{Agree, hasPrivateAccess, Stops, not-walked, refused-access, SameTried, StopsAt, EvenPace}

@@ -16,19 +16,18 @@ use Rattle.memory.specs.Answer.{Returned}
 use Rattle.memory.specs.Settings.{admits}
 use Rattle.memory.specs.Access.{Buffers, buffers, loadScale, storeScale, readNumber, extended, loadedValue, stored, mainOpen, accessOpen, verdict}
 use Rattle.effects.specs.Effect.{predicatesWord, special, op2Value, aluEffect, accessAddress, amountWords, amountAligned, stackEffect, transferOf, effectOf, slotOneEffect, slotTwoEffect}
-use Rattle.machine.specs.declared.state.State.{State}
-use Rattle.machine.specs.declared.state.WaitingTransfer.the-variants as transfer
-use Rattle.machine.specs.declared.state.WaitingLoad.{WaitingLoad}
-use Rattle.machine.specs.declared.state.WaitingLoad.the-variants as load
-use Rattle.machine.specs.State.{state, specials, withRegister, withPredicate, predicatesOf, withSpecial, landed, transferred, wellFormed, ended as hasEnded}
+use Rattle.machine.specs.declared.State.{State}
+use Rattle.machine.specs.declared.WaitingTransfer.the-variants as transfer
+use Rattle.machine.specs.declared.WaitingLoad.{WaitingLoad}
+use Rattle.machine.specs.declared.WaitingLoad.the-variants as load
+use Rattle.machine.specs.State.{Shaped, state, specials, withRegister, withPredicate, predicatesOf, withSpecial, landed, transferred, wellFormed, ended as hasEnded}
 use Rattle.machine.specs.Refusal.{outsideCode}
 use Rattle.machine.specs.Bundle.{stackMoved, buffersAfter, writeAlu, writeOne, delaySlots, written, bundleAt, noCounts, bundle, readiness, step}
-use Rattle.machine_laws.specs.KeptLaws.{Shaped}
 use Rattle.run.specs.Run.{run, Tried, tries}
-use Rattle.single_path.specs.declared.Marking.{Marking}
-use Rattle.single_path.specs.declared.Rule.the-variants.{A, B, C, D, E}
-use Rattle.single_path.specs.Marking.{privateStore, some as someOf, markingOk}
-use Rattle.single_path.specs.Rules.{breaksA, breaksB, breaksC, breaksD, breaksE, operationBreaks, breaks, keeps}
+use Rattle.marking_rules.specs.declared.Marking.{Marking}
+use Rattle.marking_rules.specs.declared.Rule.the-variants.{A, B, C, D, E}
+use Rattle.marking_rules.specs.Marking.{privateStore, some as someOf, markingOk}
+use Rattle.marking_rules.specs.Rules.{asked, breaksA, breaksB, breaksC, breaksD, breaksE, operationBreaks, breaks, keeps}
 use Rattle.single_path.specs.Check.{CheckAnswer, walkFrom, checked}
 use Rattle.even_pace.specs.Terms.{Agree, hasPrivateAccess}
 use Rattle.even_pace.specs.StateLaws.{state-refl, with-registers, with-predicates}
@@ -70,15 +69,15 @@ begin v p waiting = state (0 ∷ v ∷ replicate 30 0) (true ∷ p ∷ replicate
 -- the definitions by which it is computed.)
 unfoldable pub check : List ℕ → CheckAnswer
 unfolding checked walkFrom admits isCacheSize markingOk outsideCode numberAt bundleWords decode guardOf decoder.slotOne slotTwo reading row signed
-    keeps breaks operationBreaks breaksA breaksB breaksC breaksD breaksE privateStore someOf
+    keeps breaks operationBreaks asked breaksA breaksB breaksC breaksD breaksE privateStore someOf
 check code = checked code 32 4 4 lo hi marking
 
 unfoldable pub broken : List ℕ → List Bool
-unfolding numberAt bundleWords decode guardOf decoder.slotOne slotTwo reading row signed breaks operationBreaks breaksA breaksB breaksC breaksD breaksE privateStore someOf
+unfolding numberAt bundleWords decode guardOf decoder.slotOne slotTwo reading row signed breaks operationBreaks asked breaksA breaksB breaksC breaksD breaksE privateStore someOf
 broken code = map (breaks marking (bundleAt code 0)) (A ∷ B ∷ C ∷ D ∷ E ∷ [])
 
 unfoldable pub hasAccess : List ℕ → ℕ → Bool
-unfolding hasPrivateAccess numberAt bundleWords decode guardOf decoder.slotOne slotTwo reading row signed
+unfolding hasPrivateAccess asked numberAt bundleWords decode guardOf decoder.slotOne slotTwo reading row signed
 hasAccess code a = hasPrivateAccess marking (bundleAt code a)
 
 unfoldable pub tried : ℕ → List ℕ → State → List Tried

@@ -4,17 +4,17 @@ use mathlib.Core.Bool.{Bool, true, false, cond}
 use mathlib.Core.Path.{_≡_, refl, sym, ap, subst, _∙_}
 use lib.Dec.{leb}
 use Rattle.word.specs.Word.{sub}
-use Rattle.effects.specs.declared.effect.Transfer.{Transfer}
-use Rattle.effects.specs.declared.effect.Transfer.the-variants.{Br, Call, Block}
-use Rattle.machine.specs.declared.state.State.{State}
-use Rattle.machine.specs.declared.state.WaitingTransfer.{WaitingTransfer}
-use Rattle.machine.specs.declared.state.WaitingTransfer.the-variants as transfer
-use Rattle.machine.specs.declared.state.WaitingLoad.{WaitingLoad}
-use Rattle.machine.specs.declared.state.WaitingLoad.the-variants.{Nothing, Waits}
+use Rattle.effects.specs.declared.Transfer.{Transfer}
+use Rattle.effects.specs.declared.Transfer.the-variants.{Br, Call, Block}
+use Rattle.machine.specs.declared.State.{State}
+use Rattle.machine.specs.declared.WaitingTransfer.{WaitingTransfer}
+use Rattle.machine.specs.declared.WaitingTransfer.the-variants as transfer
+use Rattle.machine.specs.declared.WaitingLoad.{WaitingLoad}
+use Rattle.machine.specs.declared.WaitingLoad.the-variants.{Nothing, Waits}
 use Rattle.machine.specs.State.{withRegister, withFlow, goingOn, landing, landed, transferred}
 use Rattle.machine.specs.Bundle.{delaySlots, nearer, begun}
-use Rattle.single_path.specs.declared.Marking.{Marking}
-use Rattle.single_path.specs.Marking.{publicRegister}
+use Rattle.marking_rules.specs.declared.Marking.{Marking}
+use Rattle.marking_rules.specs.Marking.{publicRegister}
 use Rattle.even_pace.specs.Terms.{SameState}
 use Rattle.even_pace.specs.StateLaws.{state-sym, state-trans, register-both, with-loads}
 use Rattle.even_pace.specs.WriteLaws.{register-quiet, waits-private, waits-none}

@@ -3,7 +3,7 @@
 use Prim.Native.Nat.{ℕ, _/_, _%_, _^_}
 use mathlib.Core.Bool.{Bool, true, false, not, _&&_, _||_, Bool·beq, false≢true, or-true}
 use mathlib.Core.List.{List}
-use mathlib.Core.Path.{_≡_, refl, sym, ap, subst}
+use mathlib.Core.Path.{_≡_, refl, sym, ap, subst, _∙_}
 use native.Mathlib.Omega.{arith}
 use borrow.Author.Tests.{not-false}
 use lib.Dec.{eqb}
@@ -13,36 +13,37 @@ use mir.Syntax.{w32}
 use mir.Val.{ofZ}
 use Rattle.word.specs.Word.{add, shiftLeft, copyBit}
 use Rattle.alu.specs.Alu.{arithmetic, multiply, compare, combine}
-use Rattle.decoder.specs.declared.instruction.PredicateOperand.{PredicateOperand}
-use Rattle.decoder.specs.declared.instruction.MultiplyFunction.{MultiplyFunction}
-use Rattle.decoder.specs.declared.instruction.Op2.{Op2}
-use Rattle.decoder.specs.declared.instruction.Op2.the-variants as op2
-use Rattle.decoder.specs.declared.instruction.AluOperation.{AluOperation}
-use Rattle.decoder.specs.declared.instruction.AluOperation.the-variants.{Arithmetic, Compare, Predicate, BitCopy}
-use Rattle.decoder.specs.declared.instruction.Special.{Special}
-use Rattle.decoder.specs.declared.instruction.Special.the-variants.{S0, Sl, Sh, Ss, St, Srb, Sro, Sxb, Sxo}
-use Rattle.decoder.specs.declared.instruction.AccessKind.{AccessKind}
-use Rattle.decoder.specs.declared.instruction.StackAmount.{StackAmount}
-use Rattle.decoder.specs.declared.instruction.StackAmount.the-variants.{Words, Register}
-use Rattle.decoder.specs.declared.instruction.StackOperation.{StackOperation}
-use Rattle.decoder.specs.declared.instruction.StackOperation.the-variants.{Sres, Sens, Sfree, Sspill}
-use Rattle.decoder.specs.declared.instruction.Target.{Target}
-use Rattle.decoder.specs.declared.instruction.Target.the-variants.{Call, CallRegister, Br, BrRegister, Brcf, BrcfRegister, Ret}
-use Rattle.decoder.specs.declared.instruction.Operation.{Operation}
-use Rattle.decoder.specs.declared.instruction.Operation.the-variants.{Alu, Multiply, Mts, Mfs, Load, Store, StackControl, Transfer, Trap, Xret}
+use Rattle.decoder.specs.declared.PredicateOperand.{PredicateOperand}
+use Rattle.decoder.specs.declared.MultiplyFunction.{MultiplyFunction}
+use Rattle.decoder.specs.declared.Op2.{Op2}
+use Rattle.decoder.specs.declared.Op2.the-variants as op2
+use Rattle.decoder.specs.declared.AluOperation.{AluOperation}
+use Rattle.decoder.specs.declared.AluOperation.the-variants.{Arithmetic, Compare, Predicate, BitCopy}
+use Rattle.decoder.specs.declared.Special.{Special}
+use Rattle.decoder.specs.declared.Special.the-variants.{S0, Sl, Sh, Ss, St, Srb, Sro, Sxb, Sxo}
+use Rattle.decoder.specs.declared.AccessKind.{AccessKind}
+use Rattle.decoder.specs.declared.StackAmount.{StackAmount}
+use Rattle.decoder.specs.declared.StackAmount.the-variants.{Words, Register}
+use Rattle.decoder.specs.declared.StackOperation.{StackOperation}
+use Rattle.decoder.specs.declared.StackOperation.the-variants.{Sres, Sens, Sfree, Sspill}
+use Rattle.decoder.specs.declared.Target.{Target}
+use Rattle.decoder.specs.declared.Target.the-variants.{Call, CallRegister, Br, BrRegister, Brcf, BrcfRegister, Ret}
+use Rattle.decoder.specs.declared.Operation.{Operation}
+use Rattle.decoder.specs.declared.Operation.the-variants.{Alu, Multiply, Mts, Mfs, Load, Store, StackControl, Transfer, Trap, Xret}
 use Rattle.stack_cache.specs.RangeLaws.{or-left, or-right}
 use Rattle.stack_cache.specs.declared.StackControl.the-variants as control
 use Rattle.memory.specs.Access.{loadScale, storeScale}
-use Rattle.effects.specs.declared.effect.Effect.{Effect}
-use Rattle.effects.specs.declared.effect.Effect.the-variants as effect
-use Rattle.effects.specs.declared.effect.Transfer as declared
-use Rattle.effects.specs.declared.effect.Transfer.the-variants as transfer
+use Rattle.effects.specs.declared.Effect.{Effect}
+use Rattle.effects.specs.declared.Effect.the-variants as effect
+use Rattle.effects.specs.declared.Transfer as declared
+use Rattle.effects.specs.declared.Transfer.the-variants as transfer
 use Rattle.effects.specs.Effect.{holds, op2Value, predicatesWord, special as specialValue, aluEffect, address, accessAddress, amountWords, amountAligned, stackEffect, transferOf, effectOf, bytesOf}
-use Rattle.machine.specs.declared.state.State.{State}
+use Rattle.machine.specs.declared.State.{State}
 use Rattle.machine.specs.State.{startOf}
-use Rattle.single_path.specs.declared.Marking.{Marking}
-use Rattle.single_path.specs.Marking.{privateRegister, privatePredicate, privateOperand, privateSpecial}
-use Rattle.single_path.specs.Rules.{breaksA, breaksB, breaksC, breaksD, breaksE, privateOp2, privateAmount, privateStack, privateTarget}
+use Rattle.marking_rules.specs.declared.Marking.{Marking}
+use Rattle.marking_rules.specs.Marking.{privateRegister, privatePredicate, privateOperand, privateSpecial}
+use Rattle.marking_rules.specs.Rules.{asked, breaksA, breaksB, breaksC, breaksD, breaksE, privateOp2, privateAmount}
+use Rattle.marking_rules.specs.RuleLaws.{stack-row, transfer-row}
 use Rattle.even_pace.specs.Terms.{SameState}
 use Rattle.even_pace.specs.StateLaws.{some-none}
 use Rattle.even_pace.specs.Alike as alike
@@ -59,7 +60,7 @@ private-destination false e = refl
 
 -- An operation that breaks no rule, g being its guard's privacy.
 pub record Keeps (m : Marking) (g : Bool) (o : Operation) : Type 0 where
-  pub a : breaksA g o ≡ false
+  pub a : breaksA m g o ≡ false
   pub b : breaksB m g o ≡ false
   pub c : breaksC m o ≡ false
   pub d : breaksD m g o ≡ false
@@ -67,14 +68,23 @@ pub record Keeps (m : Marking) (g : Bool) (o : Operation) : Type 0 where
 
 -- Under a private guard.
 pub alu-quiet : (m : Marking) (rs : List ℕ) (ps : List Bool) (o : AluOperation) → breaksB m true (Alu o) ≡ false → QuietAlu m (aluEffect rs ps o)
-unfolding breaksB aluEffect
+unfolding asked breaksB aluEffect
 alu-quiet m rs ps (Arithmetic f rd r o) h = alike.quiet-register (private-destination _ h)
 alu-quiet m rs ps (Compare f pd r o) h = alike.quiet-predicate (private-destination _ h)
 alu-quiet m rs ps (Predicate f pd p q) h = alike.quiet-predicate (private-destination _ h)
 alu-quiet m rs ps (BitCopy rd r bit p) h = alike.quiet-register (private-destination _ h)
 
+-- Under a private guard stack control and transfers break A.
+pub stack-guarded : (m : Marking) (o : StackOperation) → breaksA m true (StackControl o) ≡ true
+unfolding breaksA
+stack-guarded m o = rw (stack-row m o)
+
+pub transfer-guarded : (m : Marking) (d : Bool) (t : Target) → breaksA m true (Transfer d t) ≡ true
+unfolding breaksA
+transfer-guarded m d t = rw (transfer-row m d t)
+
 pub operation-quiet : (m : Marking) (s : State) (o : Operation) → Keeps m true o → QuietEffect m (effectOf (startOf s) o)
-unfolding breaksA breaksB breaksD effectOf
+unfolding asked breaksA breaksB breaksD effectOf
 operation-quiet m s (Alu o) k = alike.quiet-alu (alu-quiet m (s .registers) (s .predicates) o (k .b))
 operation-quiet m s (Multiply f x y) k =
     let h = private-destination (not (m .sl) || not (m .sh)) (k .b) in
@@ -83,8 +93,8 @@ operation-quiet m s (Mts d r) k = alike.quiet-special (private-destination _ (k 
 operation-quiet m s (Mfs r d) k = alike.quiet-alu (alike.quiet-register (private-destination _ (k .b)))
 operation-quiet m s (Load j w rd ra o) k = alike.quiet-load (private-destination _ (k .b))
 operation-quiet m s (Store j w ra rs o) k = alike.quiet-store (not-false _ (private-destination _ (k .d)))
-operation-quiet m s (StackControl o) k = absurd (false≢true (sym (k .a)))
-operation-quiet m s (Transfer d t) k = absurd (false≢true (sym (k .a)))
+operation-quiet m s (StackControl o) k = absurd (false≢true (sym (k .a) ∙ stack-guarded m o))
+operation-quiet m s (Transfer d t) k = absurd (false≢true (sym (k .a) ∙ transfer-guarded m d t))
 operation-quiet m s (Trap n) k = absurd (false≢true (sym (k .a)))
 operation-quiet m s (Xret d) k = absurd (false≢true (sym (k .a)))
 
@@ -119,7 +129,7 @@ module _ {m : Marking} {s₁ s₂ : State} (a : SameState m s₁ s₂) (eight : 
 
   pub alu-same : (o : AluOperation) → breaksB m false (Alu o) ≡ false
       → SameAlu m (aluEffect (s₁ .registers) (s₁ .predicates) o) (aluEffect (s₂ .registers) (s₂ .predicates) o)
-  unfolding breaksB aluEffect
+  unfolding asked breaksB aluEffect
   alu-same (Arithmetic f rd r o) h =
       alike.register (λ p.
       let q = public-source _ (privateRegister m r || privateOp2 m o) h p in
@@ -151,8 +161,8 @@ module _ {m : Marking} {s₁ s₂ : State} (a : SameState m s₁ s₂) (eight : 
   aligned-same (Words n) h = refl
   aligned-same (Register r) h = ap (λ (n : ℕ). eqb (n % 4) 0) (register-same r h)
 
-  stack-same : (o : StackOperation) → privateStack m o ≡ false → SameEffect m (stackEffect (s₁ .registers) o) (stackEffect (s₂ .registers) o)
-  unfolding stackEffect
+  stack-same : (o : StackOperation) → breaksE m (StackControl o) ≡ false → SameEffect m (stackEffect (s₁ .registers) o) (stackEffect (s₂ .registers) o)
+  unfolding asked breaksE stackEffect
   stack-same (Sres n) h = alike.stack
   stack-same (Sens x) h =
       subst (λ (e : Effect). SameEffect m (stackEffect (s₁ .registers) (Sens x)) e)
@@ -162,28 +172,28 @@ module _ {m : Marking} {s₁ s₂ : State} (a : SameState m s₁ s₂) (eight : 
       subst (λ (e : Effect). SameEffect m (stackEffect (s₁ .registers) (Sspill x)) e)
       (λ i. effect.Stack control.Sspill (words-same x h i) (aligned-same x h i)) alike.stack
 
-  target-same : (t : Target) → privateTarget m t ≡ false → transferOf (startOf s₁) t ≡ transferOf (startOf s₂) t
-  unfolding transferOf
-  target-same (Call n) h = refl
-  target-same (CallRegister r) h = ap transfer.Call (register-same r h)
-  target-same (Br z) h = λ i. transfer.Br (add (a .fetch i) (bytesOf (ofZ w32 z)))
-  target-same (BrRegister r) h = ap transfer.Br (register-same r h)
-  target-same (Brcf n) h = refl
-  target-same (BrcfRegister b o) h =
+  target-same : (d : Bool) (t : Target) → breaksE m (Transfer d t) ≡ false → transferOf (startOf s₁) t ≡ transferOf (startOf s₂) t
+  unfolding asked breaksE transferOf
+  target-same d (Call n) h = refl
+  target-same d (CallRegister r) h = ap transfer.Call (register-same r h)
+  target-same d (Br z) h = λ i. transfer.Br (add (a .fetch i) (bytesOf (ofZ w32 z)))
+  target-same d (BrRegister r) h = ap transfer.Br (register-same r h)
+  target-same d (Brcf n) h = refl
+  target-same d (BrcfRegister b o) h =
       let p = register-same b (or-left _ (privateRegister m o) h) in
       let q = register-same o (or-right (privateRegister m b) _ h) in
       λ i. transfer.Block (add (p i) (q i)) (p i)
-  target-same Ret h = λ i. transfer.Block (add (a .specials .srb i) (a .specials .sro i)) (a .specials .srb i)
+  target-same d Ret h = λ i. transfer.Block (add (a .specials .srb i) (a .specials .sro i)) (a .specials .srb i)
 
   multiply-same : (f : MultiplyFunction) (x y : ℕ) → breaksB m false (Multiply f x y) ≡ false → not (m .sl) || not (m .sh) ≡ true
       → multiply f (getD (s₁ .registers) x 0) (getD (s₁ .registers) y 0) ≡ multiply f (getD (s₂ .registers) x 0) (getD (s₂ .registers) y 0)
-  unfolding breaksB
+  unfolding asked breaksB
   multiply-same f x y h p =
       let q = public-source _ (privateRegister m x || privateRegister m y) h p in
       λ i. multiply f (register-same x (or-left _ (privateRegister m y) q) i) (register-same y (or-right (privateRegister m x) _ q) i)
 
   pub operation-same : (o : Operation) → Keeps m false o → SameEffect m (effectOf (startOf s₁) o) (effectOf (startOf s₂) o)
-  unfolding breaksB breaksC breaksD breaksE effectOf
+  unfolding asked breaksB breaksC breaksD effectOf
   operation-same (Alu o) k = alike.of-alu (alu-same o (k .b))
   operation-same (Multiply f x y) k =
       alike.product (λ p. ap (λ (n : ℕ). n % 2 ^ 32) (multiply-same f x y (k .b) (rw p)))
@@ -200,6 +210,6 @@ module _ {m : Marking} {s₁ s₂ : State} (a : SameState m s₁ s₂) (eight : 
   operation-same (StackControl o) k = stack-same o (k .e)
   operation-same (Transfer d t) k =
       subst (λ (x : declared.Transfer). SameEffect m (effect.Transfer d (transferOf (startOf s₁) t)) (effect.Transfer d x))
-      (target-same t (k .e)) alike.transfer
+      (target-same d t (k .e)) alike.transfer
   operation-same (Trap n) k = alike.exception
   operation-same (Xret d) k = alike.exception

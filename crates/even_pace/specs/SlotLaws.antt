@@ -1,32 +1,32 @@
 -- The slots of a bundle that keeps the rules, in two states that agree.
 use mathlib.Core.Bool.{Bool, true, false, cond, _&&_, false≢true}
-use mathlib.Core.Path.{_≡_, refl, sym}
+use mathlib.Core.Path.{_≡_, refl, sym, _∙_}
 use lib.ListN.{length}
-use Rattle.decoder.specs.declared.instruction.Operation.{Operation}
-use Rattle.decoder.specs.declared.instruction.Operation.the-variants.{Alu, Multiply, Mts, Mfs, Load, Store, StackControl, Transfer, Trap, Xret}
-use Rattle.decoder.specs.declared.instruction.Instruction.{Instruction}
-use Rattle.decoder.specs.declared.instruction.AluInstruction.{AluInstruction}
-use Rattle.decoder.specs.declared.instruction.Bundle.{Bundle}
-use Rattle.decoder.specs.declared.instruction.Bundle.the-variants.{Undecodable, One, Two, Long}
+use Rattle.decoder.specs.declared.Operation.{Operation}
+use Rattle.decoder.specs.declared.Operation.the-variants.{Alu, Multiply, Mts, Mfs, Load, Store, StackControl, Transfer, Trap, Xret}
+use Rattle.decoder.specs.declared.Instruction.{Instruction}
+use Rattle.decoder.specs.declared.AluInstruction.{AluInstruction}
+use Rattle.decoder.specs.declared.Bundle.{Bundle}
+use Rattle.decoder.specs.declared.Bundle.the-variants.{Undecodable, One, Two, Long}
 use Rattle.stack_cache.specs.RangeLaws.{or-left, or-right}
-use Rattle.memory.specs.declared.settings.Settings.{Settings}
-use Rattle.memory.specs.declared.judge.Verdict.the-variants as verdict
+use Rattle.memory.specs.declared.Settings.{Settings}
+use Rattle.memory.specs.declared.Verdict.the-variants as verdict
 use Rattle.memory.specs.Access.{verdict as verdictOf}
-use Rattle.effects.specs.declared.effect.AluEffect.the-variants as alu
-use Rattle.effects.specs.declared.effect.Effect.{Effect}
-use Rattle.effects.specs.declared.effect.Effect.the-variants as effect
+use Rattle.effects.specs.declared.AluEffect.the-variants as alu
+use Rattle.effects.specs.declared.Effect.{Effect}
+use Rattle.effects.specs.declared.Effect.the-variants as effect
 use Rattle.effects.specs.Effect.{holds, aluEffect, effectOf, slotOneEffect, slotTwoEffect, slotOne, slotTwo, isUndecodable}
-use Rattle.machine.specs.declared.state.State.{State}
+use Rattle.machine.specs.declared.State.{State}
 use Rattle.machine.specs.State.{startOf}
 use Rattle.machine.specs.Refusal.{effectTests}
-use Rattle.single_path.specs.declared.Marking.{Marking}
-use Rattle.single_path.specs.declared.Rule.{Rule}
-use Rattle.single_path.specs.declared.Rule.the-variants as rule
-use Rattle.single_path.specs.Marking.{privateGuard}
-use Rattle.single_path.specs.Rules.{onAccess, breaksA, breaksB, operationBreaks, instructionBreaks, breaks}
+use Rattle.marking_rules.specs.declared.Marking.{Marking}
+use Rattle.marking_rules.specs.declared.Rule.{Rule}
+use Rattle.marking_rules.specs.declared.Rule.the-variants as rule
+use Rattle.marking_rules.specs.Marking.{privateGuard}
+use Rattle.marking_rules.specs.Rules.{asked, breaksA, breaksB, operationBreaks, instructionBreaks, breaks}
 use Rattle.even_pace.specs.Terms.{SameState, privateAccess, hasPrivateAccess}
 use Rattle.even_pace.specs.Alike.{SameEffect, of-alu, no-write, QuietAlu, quiet-none, QuietEffect, quiet-alu, AlikeAlu, same-alu, both-quiet}
-use Rattle.even_pace.specs.RuleLaws.{Keeps, alu-quiet, operation-quiet, holds-same, alu-same, operation-same}
+use Rattle.even_pace.specs.RuleLaws.{Keeps, stack-guarded, transfer-guarded, alu-quiet, operation-quiet, holds-same, alu-same, operation-same}
 
 -- Slot one in both runs: the same effect; or effects that do not show, which only a load or store can have refused.
 pub data SlotCase (m : Marking) (g : Settings) (s₁ s₂ : State) (access : Bool) (e₁ e₂ : Effect) : Type 0 where
@@ -40,17 +40,17 @@ unfolding operationBreaks
 instruction-keeps m p o h = record { a = h rule.A; b = h rule.B; c = h rule.C; d = h rule.D; e = h rule.E }
 
 -- Under a private guard only a load or store can be refused.
-quiet-fine : (m : Marking) (g : Settings) (s : State) (o : Operation) → Keeps m true o → onAccess false (λ ra. true) (λ k ra rs. true) o ≡ false
+quiet-fine : (m : Marking) (g : Settings) (s : State) (o : Operation) → Keeps m true o → asked m o .access ≡ false
     → verdictOf (effectTests g s (effectOf (startOf s) o)) ≡ verdict.Fine
-unfolding effectOf verdictOf breaksA
+unfolding asked breaksA effectOf verdictOf
 quiet-fine m g s (Alu o) k h = refl
 quiet-fine m g s (Multiply f x y) k h = refl
 quiet-fine m g s (Mts d r) k h = refl
 quiet-fine m g s (Mfs r d) k h = refl
 quiet-fine m g s (Load j w rd ra o) k h = absurd (false≢true (sym h))
 quiet-fine m g s (Store j w ra rs o) k h = absurd (false≢true (sym h))
-quiet-fine m g s (StackControl o) k h = absurd (false≢true (sym (k .a)))
-quiet-fine m g s (Transfer d t) k h = absurd (false≢true (sym (k .a)))
+quiet-fine m g s (StackControl o) k h = absurd (false≢true (sym (k .a) ∙ stack-guarded m o))
+quiet-fine m g s (Transfer d t) k h = absurd (false≢true (sym (k .a) ∙ transfer-guarded m d t))
 quiet-fine m g s (Trap n) k h = absurd (false≢true (sym (k .a)))
 quiet-fine m g s (Xret d) k h = absurd (false≢true (sym (k .a)))
 
@@ -68,7 +68,7 @@ module _ {m : Marking} (g : Settings) {s₁ s₂ : State} (a : SameState m s₁ 
       o = i .operation
 
       access : Bool
-      access = onAccess false (λ ra. true) (λ k ra rs. true) o
+      access = asked m o .access
 
       e : State → Bool → Effect
       e s t = cond t (effectOf (startOf s) o) (effect.Alu alu.Nothing)

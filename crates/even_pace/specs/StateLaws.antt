@@ -7,13 +7,13 @@ use mathlib.Core.Path.{_≡_, refl, sym, ap, _∙_}
 use native.Mathlib.Omega.{arith}
 use native.Mathlib.Decide.{ℕ-discrete}
 use Rattle.stack_cache.specs.RangeLaws.{or-left, or-right}
-use Rattle.effects.specs.declared.special.Specials.{Specials}
-use Rattle.machine.specs.declared.state.State.{State}
-use Rattle.machine.specs.declared.state.WaitingLoad.{WaitingLoad}
-use Rattle.machine.specs.declared.state.WaitingLoad.the-variants.{Nothing, Waits}
+use Rattle.effects.specs.declared.Specials.{Specials}
+use Rattle.machine.specs.declared.State.{State}
+use Rattle.machine.specs.declared.WaitingLoad.{WaitingLoad}
+use Rattle.machine.specs.declared.WaitingLoad.the-variants.{Nothing, Waits}
 use Rattle.machine.specs.State.{state, withRegister, withPredicate, withLoad, withPredicates, withSpecials}
-use Rattle.single_path.specs.declared.Marking.{Marking}
-use Rattle.single_path.specs.Marking.{privateRegister, privatePredicate, publicRegister, publicPredicate, some}
+use Rattle.marking_rules.specs.declared.Marking.{Marking}
+use Rattle.marking_rules.specs.Marking.{privateRegister, privatePredicate, publicRegister, publicPredicate, some}
 use Rattle.even_pace.specs.Terms.{Same, SameSpecials, SameState}
 use Rattle.even_pace.specs.SameLaws.{same-refl, same-sym, same-trans, same-write}
 

@@ -4,12 +4,11 @@ use mathlib.Core.Bool.{true}
 use mathlib.Core.List.{List}
 use mathlib.Core.Path.{_≡_}
 use Rattle.memory.specs.Access.{Buffers}
-use Rattle.machine.specs.declared.state.State.{State}
-use Rattle.machine.specs.State.{wellFormed}
+use Rattle.machine.specs.declared.State.{State}
+use Rattle.machine.specs.State.{Shaped, wellFormed}
 use Rattle.machine.specs.Bundle.{noCounts}
-use Rattle.machine_laws.specs.KeptLaws.{Shaped}
 use Rattle.run.specs.Run.{run, tries}
-use Rattle.single_path.specs.declared.Marking.{Marking}
+use Rattle.marking_rules.specs.declared.Marking.{Marking}
 use Rattle.even_pace.specs.Terms.{Accepted, Agree, EvenPace}
 
 -- "Two runs of the same accepted code, with the same settings, marking and budget, that start from well-formed states and agree on

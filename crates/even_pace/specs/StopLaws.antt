@@ -1,30 +1,34 @@
 -- A stopping event at a walked address of accepted code is refused for its load or store: the number is 5, 7 or 6.
-use Prim.Native.Nat.{ℕ}
-use mathlib.Core.Bool.{Bool, true, false, cond, false≢true}
+use Prim.Native.Nat.{ℕ, _%_, _^_}
+use mathlib.Core.Bool.{Bool, true, false, not, cond, false≢true}
 use mathlib.Core.List.{List}
 use mathlib.Core.Logic.{_⊎_, inl, inr}
 use mathlib.Core.Path.{_≡_, refl, sym, ap, _∙_}
-use Rattle.decoder.specs.declared.instruction.Operation.{Operation}
-use Rattle.decoder.specs.declared.instruction.Operation.the-variants.{Alu, Multiply, Mts, Mfs, Load, Store, StackControl, Transfer, Trap, Xret}
-use Rattle.decoder.specs.declared.instruction.Instruction.{Instruction}
-use Rattle.decoder.specs.declared.instruction.Bundle.{Bundle}
-use Rattle.decoder.specs.declared.instruction.Bundle.the-variants.{Undecodable, One, Two, Long}
+use lib.Dec.{eqb}
+use Rattle.decoder.specs.declared.AccessKind.{AccessKind}
+use Rattle.decoder.specs.declared.Operation.{Operation}
+use Rattle.decoder.specs.declared.Operation.the-variants.{Alu, Multiply, Mts, Mfs, Load, Store, StackControl, Transfer, Trap, Xret}
+use Rattle.decoder.specs.declared.Instruction.{Instruction}
+use Rattle.decoder.specs.declared.Bundle.{Bundle}
+use Rattle.decoder.specs.declared.Bundle.the-variants.{Undecodable, One, Two, Long}
 use Rattle.stack_cache.specs.RangeLaws.{and-right}
-use Rattle.memory.specs.declared.settings.Settings.{Settings}
-use Rattle.memory.specs.declared.judge.Verdict.{Verdict}
-use Rattle.memory.specs.declared.judge.Verdict.the-variants.{Fine as Passing, Refused}
+use Rattle.memory.specs.declared.Settings.{Settings}
+use Rattle.memory.specs.declared.Verdict.{Verdict}
+use Rattle.memory.specs.declared.Verdict.the-variants.{Fine as Passing, Refused}
 use Rattle.memory.specs.Answer.{Returned, accepted, done, ended, spent, refused}
-use Rattle.memory.specs.Access.{Buffers, verdict as verdictOf}
-use Rattle.effects.specs.declared.effect.AluEffect.the-variants as alu
-use Rattle.effects.specs.declared.effect.Effect.the-variants as effect
-use Rattle.effects.specs.Effect.{holds, effectOf, slotOneEffect, slotOne}
-use Rattle.machine.specs.declared.state.State.{State}
+use Rattle.memory.specs.Access.{Buffers, verdict as verdictOf, loadScale, storeScale, badAccess, mainReadable, mainWritable, accessOpen, accessTests}
+use Rattle.effects.specs.declared.AluEffect.the-variants as alu
+use Rattle.effects.specs.declared.Effect.the-variants as effect
+use Rattle.effects.specs.Effect.{holds, address, effectOf, slotOneEffect, slotOne}
+use Rattle.machine.specs.declared.State.{State}
 use Rattle.machine.specs.State.{startOf}
-use Rattle.machine.specs.Refusal.{effectTests, isMisaligned, isBadStack, isOutside}
+use Rattle.machine.specs.Refusal.{effectTests}
 use Rattle.machine.specs.Bundle.{Outcome, bundleAt, followingAt, refusedOr, bundle}
-use Rattle.single_path.specs.declared.Marking.{Marking}
-use Rattle.single_path.specs.Marking.{privateGuard}
-use Rattle.single_path.specs.Rules.{onAccess}
+use Rattle.marking_rules.specs.declared.Marking.{Marking}
+use Rattle.marking_rules.specs.declared.asked.Asked.{Asked}
+use Rattle.marking_rules.specs.Marking.{privateGuard}
+use Rattle.marking_rules.specs.Rules.{asked}
+use Rattle.marking_rules.specs.RuleLaws.{alu-row, stack-row, transfer-row}
 use Rattle.single_path.specs.CheckLaws.{Fine}
 use Rattle.even_pace.specs.Terms.{privateAccess, hasPrivateAccess}
 use Rattle.even_pace.specs.BundleLaws.{doneOf, bundle-outcome}
@@ -49,23 +53,24 @@ module _ (g : Settings) (s : State) (n : ℕ) where
   three false false true e = inr (inr (sym (ap (numberOf n) e)))
   three false false false e = absurd (false≢true (ap isRefusal e))
 
-  access-number : (o : Operation) → onAccess false (λ ra. true) (λ k ra rs. true) o ≡ true
+  tests-number : (main : Settings → ℕ → ℕ → Bool) (k : AccessKind) (a x : ℕ) → verdictOf (accessTests main g (s .specials .st) (s .specials .ss) k a x) ≡ Refused n
+      → OfAccess n
+  unfolding verdictOf
+  tests-number main k a x = three (not (eqb (a % x) 0)) (badAccess g (s .specials .st) (s .specials .ss) k) (not (accessOpen main g (s .specials .st) (s .specials .ss) k a x))
+
+  access-number : (m : Marking) (o : Operation) → asked m o .access ≡ true
       → verdictOf (effectTests g s (effectOf (startOf s) o)) ≡ Refused n → OfAccess n
-  unfolding effectOf verdictOf
-  access-number (Alu o) h e = absurd (false≢true h)
-  access-number (Multiply f x y) h e = absurd (false≢true h)
-  access-number (Mts d r) h e = absurd (false≢true h)
-  access-number (Mfs r d) h e = absurd (false≢true h)
-  access-number (Load k w rd ra o) h e =
-      let x = effectOf (startOf s) (Load k w rd ra o) in
-      three (isMisaligned x) (isBadStack g s x) (isOutside g s x) e
-  access-number (Store k w ra rs o) h e =
-      let x = effectOf (startOf s) (Store k w ra rs o) in
-      three (isMisaligned x) (isBadStack g s x) (isOutside g s x) e
-  access-number (StackControl o) h e = absurd (false≢true h)
-  access-number (Transfer d t) h e = absurd (false≢true h)
-  access-number (Trap k) h e = absurd (false≢true h)
-  access-number (Xret d) h e = absurd (false≢true h)
+  unfolding asked effectOf verdictOf
+  access-number m (Alu o) h e = absurd (false≢true (sym (ap (λ (x : Asked). x .access) (alu-row m o)) ∙ h))
+  access-number m (Multiply f x y) h e = absurd (false≢true h)
+  access-number m (Mts d r) h e = absurd (false≢true h)
+  access-number m (Mfs r d) h e = absurd (false≢true h)
+  access-number m (Load k w rd ra o) h e = tests-number mainReadable k (address (s .registers) (s .specials .st) k (loadScale w) ra o) (2 ^ loadScale w) e
+  access-number m (Store k w ra rs o) h e = tests-number mainWritable k (address (s .registers) (s .specials .st) k (storeScale w) ra o) (2 ^ storeScale w) e
+  access-number m (StackControl o) h e = absurd (false≢true (sym (ap (λ (x : Asked). x .access) (stack-row m o)) ∙ h))
+  access-number m (Transfer d t) h e = absurd (false≢true (sym (ap (λ (x : Asked). x .access) (transfer-row m d t)) ∙ h))
+  access-number m (Trap k) h e = absurd (false≢true h)
+  access-number m (Xret d) h e = absurd (false≢true h)
 
   slot-number : (m : Marking) (i : Instruction) → privateAccess m i ≡ true → verdictOf (effectTests g s (slotOneEffect (startOf s) i)) ≡ Refused n
       → OfAccess n
@@ -73,7 +78,7 @@ module _ (g : Settings) (s : State) (n : ℕ) where
   slot-number m i h = go (holds (s .predicates) (i .guard))
     where
       go : (t : Bool) → verdictOf (effectTests g s (cond t (effectOf (startOf s) (i .operation)) (effect.Alu alu.Nothing))) ≡ Refused n → OfAccess n
-      go true e = access-number (i .operation) (and-right (privateGuard m (i .guard)) _ h) e
+      go true e = access-number m (i .operation) (and-right (privateGuard m (i .guard)) _ h) e
       go false e = absurd (false≢true (ap isRefusal e))
 
   bundle-number : (m : Marking) (i : Bundle) → hasPrivateAccess m i ≡ true → verdictOf (effectTests g s (slotOne (startOf s) i)) ≡ Refused n

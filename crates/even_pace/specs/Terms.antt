@@ -7,22 +7,22 @@ use mathlib.Core.Option.{some}
 use mathlib.Core.Path.{_≡_}
 use lib.Dec.{leb, ltb}
 use lib.ListN.{length, getD, getElem?}
-use Rattle.decoder.specs.declared.instruction.Instruction.{Instruction}
-use Rattle.decoder.specs.declared.instruction.Bundle.{Bundle}
-use Rattle.decoder.specs.declared.instruction.Bundle.the-variants.{Undecodable, One, Two, Long}
+use Rattle.decoder.specs.declared.Instruction.{Instruction}
+use Rattle.decoder.specs.declared.Bundle.{Bundle}
+use Rattle.decoder.specs.declared.Bundle.the-variants.{Undecodable, One, Two, Long}
 use Rattle.memory.specs.Answer.{Returned, refused}
 use Rattle.memory.specs.Access.{Buffers}
-use Rattle.effects.specs.declared.special.Specials.{Specials}
-use Rattle.machine.specs.declared.state.State.{State}
-use Rattle.machine.specs.declared.state.WaitingLoad.the-variants.{Waits}
+use Rattle.effects.specs.declared.Specials.{Specials}
+use Rattle.machine.specs.declared.State.{State}
+use Rattle.machine.specs.declared.WaitingLoad.the-variants.{Waits}
 use Rattle.machine.specs.Bundle.{bundleAt}
 use Rattle.run.specs.Run.{Tried}
-use Rattle.single_path.specs.declared.Marking.{Marking}
-use Rattle.single_path.specs.Marking.{privateRegister, privatePredicate, privateGuard, publicRegister}
-use Rattle.single_path.specs.Rules.{onAccess}
+use Rattle.marking_rules.specs.declared.Marking.{Marking}
+use Rattle.marking_rules.specs.Marking.{privateRegister, privatePredicate, privateGuard, publicRegister}
+use Rattle.marking_rules.specs.Rules.{asked}
 use Rattle.single_path.specs.Check.{Walked, accepted, checked}
 
--- Terms that stand elsewhere: `settings` and `Walked` (single_path, Check), `privateGuard` (single_path, Marking), well formed as
+-- Terms that stand elsewhere: `settings` and `Walked` (single_path, Check), `privateGuard` (marking_rules, Marking), well formed as
 -- `wellFormed` (machine, State), and the bundles that a run tries as `tries` (run, Run).
 
 -- "Code is accepted if the check refuses nothing under these settings and this marking." The lengths are those of what is lent.
@@ -73,7 +73,7 @@ pub record Agree (m : Marking) (lo hi : ℕ) (s₁ : State) (b₁ : Buffers) (s�
 
 -- Whether slot one of a bundle is a load or store, a stack one too, under a private guard.
 abbrev pub privateAccess : Marking → Instruction → Bool
-privateAccess m i = privateGuard m (i .guard) && onAccess false (λ ra. true) (λ k ra rs. true) (i .operation)
+privateAccess m i = privateGuard m (i .guard) && asked m (i .operation) .access
 
 unfoldable pub hasPrivateAccess : Marking → Bundle → Bool
 hasPrivateAccess m Undecodable = false

@@ -9,13 +9,12 @@ use lib.ListN.{length, getElem?}
 use Rattle.stack_cache.specs.RangeLaws.{and-left}
 use Rattle.memory.specs.Access.{Buffers}
 use Rattle.memory.specs.Settings.{admits}
-use Rattle.machine.specs.declared.state.State.{State}
-use Rattle.machine.specs.State.{wellFormed}
+use Rattle.machine.specs.declared.State.{State}
+use Rattle.machine.specs.State.{Shaped, wellFormed}
 use Rattle.machine.specs.Bundle.{Outcome, noCounts}
-use Rattle.machine_laws.specs.KeptLaws.{Shaped}
 use Rattle.run.specs.Run.{run, Tried, tries}
-use Rattle.single_path.specs.declared.Marking.{Marking}
-use Rattle.single_path.specs.Marking.{markingOk}
+use Rattle.marking_rules.specs.declared.Marking.{Marking}
+use Rattle.marking_rules.specs.Marking.{markingOk}
 use Rattle.single_path.specs.Check.{settings}
 use Rattle.single_path.specs.CheckLaws.{accepted-passes, accepted-fine}
 use Rattle.even_pace.specs.Terms.{Accepted, Agree, Stops, EvenPace}

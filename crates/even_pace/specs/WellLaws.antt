@@ -7,22 +7,22 @@ use mathlib.Core.Path.{_≡_, refl}
 use native.Mathlib.Omega.{arith}
 use borrow.Author.Tests.{le-leb}
 use Rattle.word.specs.Bytes.{wordAt}
-use Rattle.decoder.specs.declared.instruction.PredicateOperand.{PredicateOperand}
-use Rattle.decoder.specs.declared.instruction.AluOperation.{AluOperation}
-use Rattle.decoder.specs.declared.instruction.StackOperation.the-variants.{Sres, Sens, Sfree, Sspill}
-use Rattle.decoder.specs.declared.instruction.Operation.{Operation}
-use Rattle.decoder.specs.declared.instruction.Operation.the-variants.{Alu, Multiply, Mts, Mfs, Load, Store, StackControl, Transfer, Trap, Xret}
+use Rattle.decoder.specs.declared.PredicateOperand.{PredicateOperand}
+use Rattle.decoder.specs.declared.AluOperation.{AluOperation}
+use Rattle.decoder.specs.declared.StackOperation.the-variants.{Sres, Sens, Sfree, Sspill}
+use Rattle.decoder.specs.declared.Operation.{Operation}
+use Rattle.decoder.specs.declared.Operation.the-variants.{Alu, Multiply, Mts, Mfs, Load, Store, StackControl, Transfer, Trap, Xret}
 use Rattle.decoder.specs.Decode.{isTwoWords, guardOf, slotOne as firstSlot, slotTwo as secondSlot, one, two, long, applied, decode}
 use Rattle.decoder.specs.Formats.{longFormats}
 use Rattle.decoder.specs.Format.{reading}
-use Rattle.decoder.specs.Ranges.{OperationInRange}
-use Rattle.decoder.specs.RangeLaws.{IfSome, slot-one-in-range}
-use Rattle.memory.specs.declared.settings.Settings.{Settings}
+use Rattle.decoder_laws.specs.Ranges.{OperationInRange}
+use Rattle.decoder_laws.specs.RangeLaws.{IfSome, slot-one-in-range}
+use Rattle.memory.specs.declared.Settings.{Settings}
 use Rattle.memory.specs.Access.{Buffers}
-use Rattle.effects.specs.declared.effect.AluEffect.the-variants as alu
-use Rattle.effects.specs.declared.effect.Effect.the-variants as effect
+use Rattle.effects.specs.declared.AluEffect.the-variants as alu
+use Rattle.effects.specs.declared.Effect.the-variants as effect
 use Rattle.effects.specs.Effect.{Start, holds, effectOf, stackEffect, slotOneEffect, slotOne}
-use Rattle.machine.specs.declared.state.State.{State}
+use Rattle.machine.specs.declared.State.{State}
 use Rattle.machine.specs.State.{startOf, loadOk, wellFormed}
 use Rattle.machine.specs.Bundle.{bundle}
 use Rattle.machine_laws.specs.StepCases.{effectAt, bundle-cases}

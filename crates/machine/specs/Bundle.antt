@@ -6,32 +6,32 @@ use lib.Dec.{leb}
 use lib.ListN.{length, take, drop}
 use Rattle.word.specs.Bytes.{wordAt}
 use Rattle.decoder.specs.Decode.{bundleWords, decode}
-use Rattle.decoder.specs.declared.instruction.Bundle.{Bundle}
+use Rattle.decoder.specs.declared.Bundle.{Bundle}
 use Rattle.stack_cache.specs.declared.StackControl.{StackControl}
 use Rattle.stack_cache.specs.Stack.{topAfter, spillAfter, spills, fills, spilled, filled}
-use Rattle.memory.specs.declared.settings.Settings.{Settings}
-use Rattle.memory.specs.declared.judge.Verdict.{Verdict}
-use Rattle.memory.specs.declared.judge.Verdict.the-variants as verdict
+use Rattle.memory.specs.declared.Settings.{Settings}
+use Rattle.memory.specs.declared.Verdict.{Verdict}
+use Rattle.memory.specs.declared.Verdict.the-variants as verdict
 use Rattle.memory.specs.Answer.{Returned, done, ended, refused}
 use Rattle.memory.specs.Settings.{admits, settingsOf}
 use Rattle.memory.specs.Access.{storeScale, Buffers, buffers, loadedValue, stored, verdict}
-use Rattle.effects.specs.declared.effect.Transfer.{Transfer}
-use Rattle.effects.specs.declared.effect.Transfer.the-variants.{Br, Call, Block}
-use Rattle.effects.specs.declared.effect.AluEffect.{AluEffect}
-use Rattle.effects.specs.declared.effect.AluEffect.the-variants as alu
-use Rattle.effects.specs.declared.effect.Effect.{Effect}
-use Rattle.effects.specs.declared.effect.Effect.the-variants as effect
-use Rattle.effects.specs.Effect.{slotOne, slotTwo, onTransfer, onStack}
-use Rattle.machine.specs.declared.state.State.{State}
-use Rattle.machine.specs.declared.state.WaitingTransfer.{WaitingTransfer}
-use Rattle.machine.specs.declared.state.WaitingTransfer.the-variants as transfer
-use Rattle.machine.specs.declared.state.WaitingLoad.the-variants as load
-use Rattle.machine.specs.declared.step.Answer.{Answer}
-use Rattle.machine.specs.declared.step.Answer.the-variants.{Done, Ended, Refused}
-use Rattle.machine.specs.declared.step.Readiness.{Readiness}
-use Rattle.machine.specs.declared.step.Readiness.the-variants as ready
-use Rattle.machine.specs.declared.step.Counts.{Counts}
-use Rattle.machine.specs.declared.step.Stepped.{Stepped}
+use Rattle.effects.specs.declared.Transfer.{Transfer}
+use Rattle.effects.specs.declared.Transfer.the-variants.{Br, Call, Block}
+use Rattle.effects.specs.declared.AluEffect.{AluEffect}
+use Rattle.effects.specs.declared.AluEffect.the-variants as alu
+use Rattle.effects.specs.declared.Effect.{Effect}
+use Rattle.effects.specs.declared.Effect.the-variants as effect
+use Rattle.effects.specs.Effect.{slotOne, slotTwo, onEffect}
+use Rattle.machine.specs.declared.State.{State}
+use Rattle.machine.specs.declared.WaitingTransfer.{WaitingTransfer}
+use Rattle.machine.specs.declared.WaitingTransfer.the-variants as transfer
+use Rattle.machine.specs.declared.WaitingLoad.the-variants as load
+use Rattle.machine.specs.declared.Answer.{Answer}
+use Rattle.machine.specs.declared.Answer.the-variants.{Done, Ended, Refused}
+use Rattle.machine.specs.declared.Readiness.{Readiness}
+use Rattle.machine.specs.declared.Readiness.the-variants as ready
+use Rattle.machine.specs.declared.Counts.{Counts}
+use Rattle.machine.specs.declared.Stepped.{Stepped}
 use Rattle.machine.specs.State.{startOf, withRegister, withPredicate, withSpecial, withProduct, withStack, withLoad, landed, goingOn, transferred, wellFormed, ended as hasEnded}
 use Rattle.machine.specs.Refusal.{bundleTests}
 
@@ -96,7 +96,7 @@ begun delayed t following onto =
     cond delayed (goingOn onto following (transfer.Waits t (delaySlots t))) (transferred onto t following)
 
 abbrev pub onward : Effect → WaitingTransfer → ℕ → State → State
-onward e waiting following onto = onTransfer (nearer waiting following onto) (λ d t. begun d t following onto) e
+onward e waiting following onto = let other = nearer waiting following onto in onEffect other (λ c n m. other) (λ d t. begun d t following onto) e
 
 -- "Results are written in this order: the load waiting from the bundle before, slot one, slot two, then a transfer that falls
 -- due. The later write wins."
@@ -110,14 +110,14 @@ undelayedCycles (Call target) = 4
 undelayedCycles (Block target base) = 4
 
 abbrev pub cyclesOf : Effect → ℕ
-cyclesOf = onTransfer 1 (λ d t. cond d 1 (undelayedCycles t))
+cyclesOf = onEffect 1 (λ c n m. 1) (λ d t. cond d 1 (undelayedCycles t))
 
 -- The words that a stack instruction spills and fills.
 abbrev pub spilledBy : Settings → State → Effect → ℕ
-spilledBy g s = onStack 0 (λ c n m. length (spills c (g .words) (s .specials .st) (s .specials .ss) n))
+spilledBy g s = onEffect 0 (λ c n m. length (spills c (g .words) (s .specials .st) (s .specials .ss) n)) (λ d t. 0)
 
 abbrev pub filledBy : State → Effect → ℕ
-filledBy s = onStack 0 (λ c n m. length (fills c (s .specials .st) (s .specials .ss) n))
+filledBy s = onEffect 0 (λ c n m. length (fills c (s .specials .st) (s .specials .ss) n)) (λ d t. 0)
 
 abbrev pub noCounts : Counts
 noCounts = record { bundles = 0; cycles = 0; spilled = 0; filled = 0 }

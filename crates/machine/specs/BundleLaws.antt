@@ -3,18 +3,18 @@ use Prim.Native.Nat.{ℕ}
 use mathlib.Core.Bool.{Bool, true, false, not, cond}
 use mathlib.Core.List.{List}
 use mathlib.Core.Path.{_≡_, refl, ap, _∙_}
-use Rattle.memory.specs.declared.settings.Settings.{Settings}
-use Rattle.machine.specs.declared.state.State.{State}
-use Rattle.effects.specs.declared.effect.AluEffect.{AluEffect}
-use Rattle.effects.specs.declared.effect.Effect.{Effect}
-use Rattle.machine.specs.declared.bundle.Fetched.the-variants as fetch
+use Rattle.memory.specs.declared.Settings.{Settings}
+use Rattle.machine.specs.declared.State.{State}
+use Rattle.effects.specs.declared.AluEffect.{AluEffect}
+use Rattle.effects.specs.declared.Effect.{Effect}
+use Rattle.machine.specs.declared.Fetched.the-variants as fetch
 use Rattle.memory.specs.Answer.{refused}
 use Rattle.memory.specs.Access.{Buffers, verdict}
-use Rattle.effects.specs.declared.effect.Effects.{Effects}
-use Rattle.effects.specs.declared.effect.Effects.the-variants as effects
+use Rattle.effects.specs.declared.Effects.{Effects}
+use Rattle.effects.specs.declared.Effects.the-variants as effects
 use Rattle.effects.specs.Effect.{slotOne, slotTwo, isUndecodable, effectsOf}
 use Rattle.memory.specs.Settings.{admits}
-use Rattle.machine.specs.declared.step.Readiness.the-variants as ready
+use Rattle.machine.specs.declared.Readiness.the-variants as ready
 use Rattle.machine.specs.State.{startOf, wellFormed, ended}
 use Rattle.machine.specs.Refusal.{outsideCode}
 use Rattle.machine.specs.Bundle.{outcome, noCounts, bundleAt, followingAt, bundle, readiness}

@@ -4,10 +4,10 @@ use mathlib.Core.Bool.{Bool, cond}
 use mathlib.Core.List.{List}
 use lib.Dec.{eqb}
 use lib.ListN.{set}
-use Rattle.machine.specs.declared.state.State.{State}
-use Rattle.machine.specs.declared.core.Core.{Core}
-use Rattle.machine.specs.declared.step.Advanced.{Advanced}
-use Rattle.machine.specs.declared.step.Stepped.{Stepped}
+use Rattle.machine.specs.declared.State.{State}
+use Rattle.machine.specs.declared.Core.{Core}
+use Rattle.machine.specs.declared.Advanced.{Advanced}
+use Rattle.machine.specs.declared.Stepped.{Stepped}
 use Rattle.machine.specs.State.{state}
 
 -- A state of its registers, its predicates and the rest.

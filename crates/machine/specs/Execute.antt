@@ -4,19 +4,19 @@ use mathlib.Core.Bool.{cond}
 use mathlib.Core.List.{List}
 use mathlib.Core.Path.{_≡_}
 use Rattle.stack_cache.specs.Stack.{below, above, spilled, filled}
-use Rattle.memory.specs.declared.settings.Settings.{Settings}
+use Rattle.memory.specs.declared.Settings.{Settings}
 use Rattle.memory.specs.Answer.{done}
 use Rattle.memory.specs.Access.{Buffers, verdict}
-use Rattle.effects.specs.declared.effect.AluEffect.{AluEffect}
-use Rattle.effects.specs.declared.effect.Effect.{Effect}
-use Rattle.effects.specs.declared.effect.Effects.{Effects}
-use Rattle.effects.specs.declared.effect.Effects.the-variants as effects
+use Rattle.effects.specs.declared.AluEffect.{AluEffect}
+use Rattle.effects.specs.declared.Effect.{Effect}
+use Rattle.effects.specs.declared.Effects.{Effects}
+use Rattle.effects.specs.declared.Effects.the-variants as effects
 use Rattle.effects.specs.Effect.{effectsOf}
-use Rattle.machine.specs.declared.state.State.{State}
-use Rattle.machine.specs.declared.bundle.Fetched.{Fetched}
-use Rattle.machine.specs.declared.bundle.Fetched.the-variants as fetch
-use Rattle.machine.specs.declared.step.Stepped.{Stepped}
-use Rattle.machine.specs.declared.step.Answer.the-variants.{Done, Ended, Refused}
+use Rattle.machine.specs.declared.State.{State}
+use Rattle.machine.specs.declared.Fetched.{Fetched}
+use Rattle.machine.specs.declared.Fetched.the-variants as fetch
+use Rattle.machine.specs.declared.Stepped.{Stepped}
+use Rattle.machine.specs.declared.Answer.the-variants.{Done, Ended, Refused}
 use Rattle.machine.specs.State.{startOf}
 use Rattle.machine.specs.Refusal.{outsideCode, effectTests}
 use Rattle.machine.specs.Bundle.{area, withArea, Outcome, outcome, noCounts, written, countsOf, buffersAfter, refusedOr, bundleAt, followingAt}

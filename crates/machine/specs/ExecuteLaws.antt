@@ -4,25 +4,25 @@ use mathlib.Core.Bool.{Bool, true, false, not, cond, _||_}
 use lib.ListN.{length}
 use mathlib.Core.List.{List}
 use mathlib.Core.Path.{_≡_, refl, ap, _∙_}
-use Rattle.decoder.specs.declared.instruction.AccessKind.{AccessKind}
-use Rattle.decoder.specs.declared.instruction.LoadWidth.{LoadWidth}
-use Rattle.decoder.specs.declared.instruction.StoreWidth.{StoreWidth}
+use Rattle.decoder.specs.declared.AccessKind.{AccessKind}
+use Rattle.decoder.specs.declared.LoadWidth.{LoadWidth}
+use Rattle.decoder.specs.declared.StoreWidth.{StoreWidth}
 use Rattle.stack_cache.specs.declared.StackControl.{StackControl}
 use Rattle.stack_cache.specs.declared.StackControl.the-variants.{Sres, Sens, Sfree, Sspill}
 use Rattle.stack_cache.specs.declared.Plan.{Plan}
 use Rattle.stack_cache.specs.declared.Plan.the-variants as plan
 use Rattle.stack_cache.specs.PlanLaws.{planned-told}
 use Rattle.stack_cache.specs.Stack.{badWindow, badAmount, movedOutside, planned, topAfter, spillAfter, spills, fills}
-use Rattle.memory.specs.declared.settings.Settings.{Settings}
-use Rattle.machine.specs.declared.state.State.{State}
-use Rattle.effects.specs.declared.effect.Transfer.{Transfer}
-use Rattle.machine.specs.declared.state.WaitingTransfer.{WaitingTransfer}
-use Rattle.effects.specs.declared.effect.AluEffect.{AluEffect}
-use Rattle.effects.specs.declared.effect.Effect.the-variants as effect
-use Rattle.memory.specs.declared.judge.Verdict.{Verdict}
-use Rattle.memory.specs.declared.judge.Verdict.the-variants.{Fine, Refused}
+use Rattle.memory.specs.declared.Settings.{Settings}
+use Rattle.machine.specs.declared.State.{State}
+use Rattle.effects.specs.declared.Transfer.{Transfer}
+use Rattle.machine.specs.declared.WaitingTransfer.{WaitingTransfer}
+use Rattle.effects.specs.declared.AluEffect.{AluEffect}
+use Rattle.effects.specs.declared.Effect.the-variants as effect
+use Rattle.memory.specs.declared.Verdict.{Verdict}
+use Rattle.memory.specs.declared.Verdict.the-variants.{Fine, Refused}
 use Rattle.machine.specs.State.{noneWaits, withStack, landed}
-use Rattle.machine.specs.declared.step.Stepped.{Stepped}
+use Rattle.machine.specs.declared.Stepped.{Stepped}
 use Rattle.memory.specs.Access.{loadScale, storeScale, Buffers, buffers, verdict, accessVerdict}
 use Rattle.machine.specs.Refusal.{effectTests}
 use Rattle.machine.specs.Bundle.{Outcome, full, written, writeOne, writeAlu, nearer, buffersAfter, stackMoved}

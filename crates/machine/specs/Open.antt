@@ -8,10 +8,10 @@ use lib.ListN.{length, replicate}
 use Rattle.word.specs.Word.{isMultipleOf4}
 use Rattle.memory.specs.Answer.{Returned, accepted, refused}
 use Rattle.memory.specs.Settings.{admits, settingsOf}
-use Rattle.machine.specs.declared.state.State.{State}
-use Rattle.machine.specs.declared.open.Opened as declared
-use Rattle.machine.specs.declared.open.Opening.{Opening}
-use Rattle.machine.specs.declared.open.Opening.the-variants.{Opened, Refused}
+use Rattle.machine.specs.declared.State.{State}
+use Rattle.machine.specs.declared.Opened as declared
+use Rattle.machine.specs.declared.Opening.{Opening}
+use Rattle.machine.specs.declared.Opening.the-variants.{Opened, Refused}
 use Rattle.machine.specs.State.{fresh}
 
 -- What an opening returns, with the state and the cache that it leaves; and what each answer of the function returns.

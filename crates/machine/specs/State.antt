@@ -2,25 +2,31 @@
 use Prim.Native.Nat.{ℕ, zero, suc, _/_, _%_}
 use mathlib.Core.Bool.{Bool, true, false, cond, _&&_}
 use mathlib.Core.List.{List, [], _∷_}
+use mathlib.Core.Path.{_≡_}
 use lib.Dec.{eqb, leb}
-use lib.ListN.{getD, set, replicate}
+use lib.ListN.{length, getD, set, replicate}
 use Rattle.word.specs.Word.{sub}
-use Rattle.decoder.specs.declared.instruction.Special.{Special}
-use Rattle.decoder.specs.declared.instruction.Special.the-variants.{S0, Sl, Sh, Ss, St, Srb, Sro, Sxb, Sxo}
-use Rattle.effects.specs.declared.special.Specials.{Specials}
-use Rattle.effects.specs.declared.effect.Transfer.{Transfer}
-use Rattle.effects.specs.declared.effect.Transfer.the-variants.{Br, Call, Block}
+use Rattle.decoder.specs.declared.Special.{Special}
+use Rattle.decoder.specs.declared.Special.the-variants.{S0, Sl, Sh, Ss, St, Srb, Sro, Sxb, Sxo}
+use Rattle.effects.specs.declared.Specials.{Specials}
+use Rattle.effects.specs.declared.Transfer.{Transfer}
+use Rattle.effects.specs.declared.Transfer.the-variants.{Br, Call, Block}
 use Rattle.effects.specs.Effect.{Start, start}
-use Rattle.machine.specs.declared.state.State.{State}
-use Rattle.machine.specs.declared.state.WaitingTransfer.{WaitingTransfer}
-use Rattle.machine.specs.declared.state.WaitingTransfer.the-variants as transfer
-use Rattle.machine.specs.declared.state.WaitingLoad.{WaitingLoad}
-use Rattle.machine.specs.declared.state.WaitingLoad.the-variants as load
+use Rattle.machine.specs.declared.State.{State}
+use Rattle.machine.specs.declared.WaitingTransfer.{WaitingTransfer}
+use Rattle.machine.specs.declared.WaitingTransfer.the-variants as transfer
+use Rattle.machine.specs.declared.WaitingLoad.{WaitingLoad}
+use Rattle.machine.specs.declared.WaitingLoad.the-variants as load
 
 -- A state of its parts, in the order of the struct.
 abbrev pub state : List ℕ → List Bool → Specials → ℕ → ℕ → WaitingTransfer → WaitingLoad → State
 state registers predicates specials fetch base transfer load =
     record { registers = registers; predicates = predicates; specials = specials; fetch = fetch; base = base; transfer = transfer; load = load }
+
+-- A state's lists of registers and predicates have the lengths that its type gives them.
+pub record Shaped (s : State) : Type 0 where
+  pub registers : length (s .registers) ≡ 32
+  pub predicates : length (s .predicates) ≡ 8
 
 abbrev pub specials : ℕ → ℕ → ℕ → ℕ → ℕ → ℕ → ℕ → ℕ → Specials
 specials sl sh ss st srb sro sxb sxo = record { sl = sl; sh = sh; ss = ss; st = st; srb = srb; sro = sro; sxb = sxb; sxo = sxo }

@@ -11,28 +11,19 @@ ghost use Rattle.memory.specs.Access.{buffers};
 ghost use Rattle.machine.specs.State.{loadOk, waitOk, noneWaits, wellFormed, ended};
 ghost use Rattle.machine.specs.Bundle.{full, bundle, readiness, step};
 ghost use Rattle.machine.specs.Execute.{fetched};
-use crate::core::Core;
-use crate::state::State;
-use crate::state::WaitingLoad;
-use crate::state::WaitingTransfer;
-use crate::step::Advanced;
-use crate::step::Readiness;
-use crate::step::Stepped;
-use effects::effect::AluEffect;
-use effects::effect::Effect;
-use effects::effect::Effects;
-use memory::settings::Settings;
+use crate::Advanced;
+use crate::Core;
+use crate::Fetched;
+use crate::Readiness;
+use crate::State;
+use crate::Stepped;
+use crate::WaitingLoad;
+use crate::WaitingTransfer;
+use effects::AluEffect;
+use effects::Effect;
+use effects::Effects;
+use memory::Settings;
 use word::bytes::read_word;
-
-// A bundle read: refused with 2 or 3, or what its two slots do and the address after it.
-pub enum Fetched {
-    Refused(u32),
-    Slots {
-        one: Effect,
-        two: AluEffect,
-        following: u32,
-    },
-}
 
 fn load_ok(l: WaitingLoad) -> bool
     ensures { λ r. ⌜ r ≡ loadOk l ⌝ }

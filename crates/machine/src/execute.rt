@@ -5,23 +5,25 @@ ghost use mathlib.Core.List.{List};
 ghost use Prim.Native.Nat.{ℕ, _≤_};
 ghost use lib.ListN.{length};
 ghost use Rattle.memory.specs.Settings.{admits};
+ghost use Rattle.memory.specs.declared.Settings.{Settings};
 ghost use Rattle.memory.specs.Access.{Buffers, buffers};
 ghost use Rattle.machine.specs.Bundle.{full, writeAlu, nearer, undelayedCycles};
 ghost use Rattle.machine.specs.Core.{joined, steppedAs};
 ghost use Rattle.machine.specs.Execute.{doneWith, executed, Moved};
-use crate::core::Core;
-use crate::state::WaitingLoad;
-use crate::state::WaitingTransfer;
-use crate::step::Advanced;
+use crate::Advanced;
+use crate::Core;
+use crate::WaitingLoad;
+use crate::WaitingTransfer;
 use crate::step::write_alu;
-use decoder::instruction::AccessKind;
-use decoder::instruction::LoadWidth;
-use decoder::instruction::StoreWidth;
-use effects::effect::AluEffect;
-use effects::effect::Effect;
-use effects::effect::Transfer;
-use memory::judge::Verdict;
-use memory::settings::Settings;
+use decoder::AccessKind;
+use decoder::LoadWidth;
+use decoder::Special;
+use decoder::StoreWidth;
+use effects::AluEffect;
+use effects::Effect;
+use effects::Transfer;
+use memory::Settings;
+use memory::Verdict;
 use stack_cache::Plan;
 use stack_cache::StackCache;
 use stack_cache::StackControl;
@@ -43,6 +45,56 @@ impl Core {
     {
         write_alu(&mut *registers, &mut *predicates, two);
         self.nearer(waiting, following).done(1, 0, 0)
+    }
+
+    fn do_alu(
+        self,
+        registers: &mut [u32; 32],
+        predicates: &mut [bool; 8],
+        a: AluEffect,
+        two: AluEffect,
+        following: u32,
+    ) -> Advanced
+        ensures { λ r. ⌜ ((g : Settings) (b : Buffers) → full (steppedAs (now (registers .exit)) (now (predicates .exit)) r) b ≡ executed g (joined (now (registers .entry)) (now (predicates .entry)) self) (Effect.Alu a) two following b) ⌝ }
+    {
+        let waiting = self.transfer;
+        let onto = self.land_load(&mut *registers);
+        write_alu(&mut *registers, &mut *predicates, a);
+        onto.finish(&mut *registers, &mut *predicates, waiting, two, following)
+    }
+
+    fn do_special(
+        self,
+        registers: &mut [u32; 32],
+        predicates: &mut [bool; 8],
+        special: Special,
+        value: u32,
+        two: AluEffect,
+        following: u32,
+    ) -> Advanced
+        ensures { λ r. ⌜ ((g : Settings) (b : Buffers) → full (steppedAs (now (registers .exit)) (now (predicates .exit)) r) b ≡ executed g (joined (now (registers .entry)) (now (predicates .entry)) self) (Effect.Special special value) two following b) ⌝ }
+    {
+        let waiting = self.transfer;
+        self.land_load(&mut *registers)
+            .write_special(&mut *predicates, special, value)
+            .finish(&mut *registers, &mut *predicates, waiting, two, following)
+    }
+
+    fn do_product(
+        self,
+        registers: &mut [u32; 32],
+        predicates: &mut [bool; 8],
+        low: u32,
+        high: u32,
+        two: AluEffect,
+        following: u32,
+    ) -> Advanced
+        ensures { λ r. ⌜ ((g : Settings) (b : Buffers) → full (steppedAs (now (registers .exit)) (now (predicates .exit)) r) b ≡ executed g (joined (now (registers .entry)) (now (predicates .entry)) self) (Effect.Product low high) two following b) ⌝ }
+    {
+        let waiting = self.transfer;
+        self.land_load(&mut *registers)
+            .write_product(low, high)
+            .finish(&mut *registers, &mut *predicates, waiting, two, following)
     }
 
     fn do_load(
@@ -184,21 +236,19 @@ impl Core {
         requires { ⌜ (admits g ≡ true) × (g .main ≡ length (now main)) ⌝ }
         ensures { λ r. ⌜ full (steppedAs (now (registers .exit)) (now (predicates .exit)) r) (buffers (now (main .exit)) (now (local .exit)) (now (cache .exit))) ≡ executed g (joined (now (registers .entry)) (now (predicates .entry)) self) one two following (buffers (now (main .entry)) (now (local .entry)) (now (cache .entry))) ⌝ }
     {
-        let waiting = self.transfer;
         match one {
-            Effect::Alu(a) => {
-                let onto = self.land_load(&mut *registers);
-                write_alu(&mut *registers, &mut *predicates, a);
-                onto.finish(&mut *registers, &mut *predicates, waiting, two, following)
+            Effect::Alu(a) => self.do_alu(&mut *registers, &mut *predicates, a, two, following),
+            Effect::Special { special, value } => self.do_special(
+                &mut *registers,
+                &mut *predicates,
+                special,
+                value,
+                two,
+                following,
+            ),
+            Effect::Product { low, high } => {
+                self.do_product(&mut *registers, &mut *predicates, low, high, two, following)
             }
-            Effect::Special { special, value } => {
-                self.land_load(&mut *registers)
-                    .write_special(&mut *predicates, special, value)
-                    .finish(&mut *registers, &mut *predicates, waiting, two, following)
-            }
-            Effect::Product { low, high } => self.land_load(&mut *registers)
-                .write_product(low, high)
-                .finish(&mut *registers, &mut *predicates, waiting, two, following),
             Effect::Load {
                 kind,
                 width,
@@ -262,7 +312,6 @@ impl Core {
             Effect::Transfer { delayed, transfer } => self.do_transfer(
                 &mut *registers,
                 &mut *predicates,
-                g,
                 delayed,
                 transfer,
                 two,
@@ -276,13 +325,12 @@ impl Core {
         self,
         registers: &mut [u32; 32],
         predicates: &mut [bool; 8],
-        g: Settings,
         delayed: bool,
         transfer: Transfer,
         two: AluEffect,
         following: u32,
     ) -> Advanced
-        ensures { λ r. ⌜ ((b : Buffers) → full (steppedAs (now (registers .exit)) (now (predicates .exit)) r) b ≡ executed g (joined (now (registers .entry)) (now (predicates .entry)) self) (Effect.Transfer delayed transfer) two following b) ⌝ }
+        ensures { λ r. ⌜ ((g : Settings) (b : Buffers) → full (steppedAs (now (registers .exit)) (now (predicates .exit)) r) b ≡ executed g (joined (now (registers .entry)) (now (predicates .entry)) self) (Effect.Transfer delayed transfer) two following b) ⌝ }
     {
         let waiting = self.transfer;
         if let WaitingTransfer::Waits {

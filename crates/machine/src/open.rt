@@ -3,23 +3,13 @@ ghost use mathlib.Core.Path.{_≡_};
 ghost use lib.ListN.{length, replicate};
 ghost use Rattle.machine.specs.State.{fresh};
 ghost use Rattle.machine.specs.Open.{openWith, opening, openedAs};
-use crate::state::State;
-use crate::state::WaitingLoad;
-use crate::state::WaitingTransfer;
-use effects::special::Specials;
-use memory::settings::Settings;
-
-// A state was built, or the number that the building is refused with.
-pub enum Opening {
-    Opened,
-    Refused(u32),
-}
-
-// The answer beside the state; of a refused opening the state is that of entry 0 to no code.
-pub struct Opened {
-    pub answer: Opening,
-    pub state: State,
-}
+use crate::Opened;
+use crate::Opening;
+use crate::State;
+use crate::WaitingLoad;
+use crate::WaitingTransfer;
+use effects::Specials;
+use memory::Settings;
 
 fn initial(code: u32, hi: u32, entry: u32) -> State
     ensures { λ r. ⌜ r ≡ fresh code hi entry ⌝ }

@@ -5,8 +5,8 @@ ghost use mathlib.Core.List.{List, _∷_};
 ghost use Prim.Native.Nat.{ℕ, _/_};
 ghost use Rattle.machine.specs.Core.{joined};
 ghost use Rattle.machine.specs.State.{predicatesOf, withSpecial, withProduct, withStack};
-use crate::core::Core;
-use decoder::instruction::Special;
+use crate::Core;
+use decoder::Special;
 
 // The predicates that a word written to s0 makes: p0 is true, p1 to p7 are bits 1 to 7.
 fn predicates_of(v: u32) -> [bool; 8]

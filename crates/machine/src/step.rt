@@ -6,49 +6,16 @@ ghost use Prim.Native.Nat.{ℕ};
 ghost use Rattle.machine.specs.Core.{joined, steppedAs};
 ghost use Rattle.machine.specs.Bundle.{writeAlu, delaySlots, nearer, begun};
 ghost use Rattle.machine.specs.Execute.{refusedWith, endedWith, doneWith};
-use crate::core::Core;
-use crate::core::write_predicate;
-use crate::core::write_register;
-use crate::state::State;
-use crate::state::WaitingTransfer;
-use effects::effect::AluEffect;
-use effects::effect::Transfer;
-
-// What a step answers; Refused holds document 01's number.
-pub enum Answer {
-    Done,
-    Ended,
-    Refused(u32),
-}
-
-// What is judged before a bundle is tried; Refused holds document 01's number.
-pub enum Readiness {
-    Ready,
-    Ended,
-    Refused(u32),
-}
-
-// The four counts.
-pub struct Counts {
-    pub bundles: u64,
-    pub cycles: u64,
-    pub spilled: u64,
-    pub filled: u64,
-}
-
-// A step's answer, with the state handed back and the counts of that one bundle.
-pub struct Stepped {
-    pub answer: Answer,
-    pub state: State,
-    pub counts: Counts,
-}
-
-// The same beside the registers and predicates, which were lent.
-pub struct Advanced {
-    pub answer: Answer,
-    pub core: Core,
-    pub counts: Counts,
-}
+use crate::Advanced;
+use crate::Answer;
+use crate::Core;
+use crate::Counts;
+use crate::State;
+use crate::WaitingTransfer;
+use crate::writes::write_predicate;
+use crate::writes::write_register;
+use effects::AluEffect;
+use effects::Transfer;
 
 // How many bundles a delayed transfer waits.
 fn delay_slots(t: Transfer) -> u32

@@ -16,18 +16,18 @@ use Rattle.stack_cache.specs.Count.{Accepted}
 use Rattle.stack_cache.specs.StackLaws.{length-below}
 use Rattle.stack_cache.specs.RangeLaws.{or-right}
 use Rattle.stack_cache.specs.PlanLaws.{accepted-window}
-use Rattle.memory.specs.declared.settings.Settings.{Settings}
+use Rattle.memory.specs.declared.Settings.{Settings}
 use Rattle.memory.specs.SettingsLaws.{words-small}
 use Rattle.memory.specs.Access.{Buffers}
-use Rattle.effects.specs.declared.effect.Transfer.{Transfer}
-use Rattle.effects.specs.declared.effect.Transfer.the-variants.{Br, Call, Block}
-use Rattle.effects.specs.declared.effect.Effect.{Effect}
-use Rattle.effects.specs.declared.effect.Effect.the-variants as effect
-use Rattle.machine.specs.declared.state.State.{State}
-use Rattle.machine.specs.declared.step.Counts.{Counts}
+use Rattle.effects.specs.declared.Transfer.{Transfer}
+use Rattle.effects.specs.declared.Transfer.the-variants.{Br, Call, Block}
+use Rattle.effects.specs.declared.Effect.{Effect}
+use Rattle.effects.specs.declared.Effect.the-variants as effect
+use Rattle.machine.specs.declared.State.{State}
+use Rattle.machine.specs.declared.Counts.{Counts}
 use Rattle.machine.specs.Bundle.{undelayedCycles, cyclesOf, spilledBy, filledBy, noCounts, countsOf, lent, step}
 use Rattle.machine_laws.specs.StepCases.{effectAt, step-cases}
-use Rattle.machine_laws.specs.StackKept.{Passed, fine-effect}
+use Rattle.machine_laws.specs.StackKept.{Passed, fine-effect, stack-accepted}
 
 -- Each loop moves no more words than it may.
 spillWhile-few : (most w st ss : ℕ) → length (spillWhile most w st ss) ≤ most
@@ -85,8 +85,8 @@ effect-small g s (effect.Stack c n m) h p =
     record {
       bundles = omega arith;
       cycles = omega arith;
-      spilled = le-trans (spills-few c (g .words) (s .specials .st) (s .specials .ss) n (p .stack)) h;
-      filled = le-trans (fills-few c (g .words) (s .specials .st) (s .specials .ss) n (p .stack)) h;
+      spilled = le-trans (spills-few c (g .words) (s .specials .st) (s .specials .ss) n (stack-accepted g s c n m p)) h;
+      filled = le-trans (fills-few c (g .words) (s .specials .st) (s .specials .ss) n (stack-accepted g s c n m p)) h;
     }
 effect-small g s (effect.Transfer d t) h p = record { bundles = omega arith; cycles = go d; spilled = omega arith; filled = omega arith }
   where

@@ -10,32 +10,32 @@ use lib.ListN.{length, getD, set, length-set}
 use lib.Seq.{getD-set-other}
 use Rattle.word.specs.Bytes.{wordAt}
 use Rattle.word.specs.BytesLaws.{number-bound}
-use Rattle.decoder.specs.declared.instruction.Special.{Special}
-use Rattle.decoder.specs.declared.instruction.Special.the-variants.{S0, Sl, Sh, Ss, St, Srb, Sro, Sxb, Sxo}
-use Rattle.decoder.specs.declared.instruction.Operation.{Operation}
-use Rattle.decoder.specs.declared.instruction.Operation.the-variants as operation
-use Rattle.decoder.specs.declared.instruction.Instruction.{Instruction}
-use Rattle.decoder.specs.declared.instruction.StackOperation.the-variants.{Sres, Sens, Sfree, Sspill}
-use Rattle.decoder.specs.declared.instruction.Bundle.{Bundle}
-use Rattle.decoder.specs.declared.instruction.Bundle.the-variants.{Undecodable, One, Two, Long}
-use Rattle.decoder.specs.Ranges.{OperationInRange, InstructionInRange, InRange}
-use Rattle.decoder.specs.RangeLaws.{decode-in-range}
+use Rattle.decoder.specs.declared.Special.{Special}
+use Rattle.decoder.specs.declared.Special.the-variants.{S0, Sl, Sh, Ss, St, Srb, Sro, Sxb, Sxo}
+use Rattle.decoder.specs.declared.Operation.{Operation}
+use Rattle.decoder.specs.declared.Operation.the-variants as operation
+use Rattle.decoder.specs.declared.Instruction.{Instruction}
+use Rattle.decoder.specs.declared.StackOperation.the-variants.{Sres, Sens, Sfree, Sspill}
+use Rattle.decoder.specs.declared.Bundle.{Bundle}
+use Rattle.decoder.specs.declared.Bundle.the-variants.{Undecodable, One, Two, Long}
+use Rattle.decoder_laws.specs.Ranges.{OperationInRange, InstructionInRange, InRange}
+use Rattle.decoder_laws.specs.RangeLaws.{decode-in-range}
 use Rattle.stack_cache.specs.RangeLaws.{and-left, and-right}
-use Rattle.memory.specs.declared.settings.Settings.{Settings}
-use Rattle.machine.specs.declared.state.State.{State}
-use Rattle.effects.specs.declared.effect.Transfer.{Transfer}
-use Rattle.effects.specs.declared.effect.Transfer.the-variants.{Br, Call, Block}
-use Rattle.machine.specs.declared.state.WaitingTransfer.{WaitingTransfer}
-use Rattle.machine.specs.declared.state.WaitingTransfer.the-variants as transfer
-use Rattle.machine.specs.declared.state.WaitingLoad.{WaitingLoad}
-use Rattle.machine.specs.declared.state.WaitingLoad.the-variants as load
-use Rattle.effects.specs.declared.effect.AluEffect.{AluEffect}
-use Rattle.effects.specs.declared.effect.AluEffect.the-variants as alu
-use Rattle.effects.specs.declared.effect.Effect.{Effect}
-use Rattle.effects.specs.declared.effect.Effect.the-variants as effect
-use Rattle.machine.specs.State.{startOf, state, withRegister, withPredicate, withPredicates, withSpecial, withSpecials, predicatesOf, withFlow, goingOn, landing, landed, transferred, loadOk, waitOk, wellFormed}
+use Rattle.memory.specs.declared.Settings.{Settings}
+use Rattle.machine.specs.declared.State.{State}
+use Rattle.effects.specs.declared.Transfer.{Transfer}
+use Rattle.effects.specs.declared.Transfer.the-variants.{Br, Call, Block}
+use Rattle.machine.specs.declared.WaitingTransfer.{WaitingTransfer}
+use Rattle.machine.specs.declared.WaitingTransfer.the-variants as transfer
+use Rattle.machine.specs.declared.WaitingLoad.{WaitingLoad}
+use Rattle.machine.specs.declared.WaitingLoad.the-variants as load
+use Rattle.effects.specs.declared.AluEffect.{AluEffect}
+use Rattle.effects.specs.declared.AluEffect.the-variants as alu
+use Rattle.effects.specs.declared.Effect.{Effect}
+use Rattle.effects.specs.declared.Effect.the-variants as effect
+use Rattle.machine.specs.State.{Shaped, startOf, state, withRegister, withPredicate, withPredicates, withSpecial, withSpecials, predicatesOf, withFlow, goingOn, landing, landed, transferred, loadOk, waitOk, wellFormed}
 use Rattle.memory.specs.Access.{Buffers, loadedValue}
-use Rattle.effects.specs.declared.special.Specials.{Specials}
+use Rattle.effects.specs.declared.Specials.{Specials}
 use Rattle.effects.specs.Effect.{Start, holds, slotOne, slotOneEffect, effectOf, stackEffect}
 use Rattle.machine.specs.Bundle.{writeAlu, writeOne, delaySlots, nearer, begun, onward, written, bundleAt, bundle, lent, step}
 use Rattle.machine_laws.specs.StepCases.{effectAt, stateAfter, bundle-cases, step-cases}
@@ -153,11 +153,6 @@ module _ (R : List ℕ → Type 0) (P : List Bool → Type 0) (k : Lasting R P) 
   written-lasts g b s one two following h =
       let t = writeAlu-lasts two (writeOne g b s one (landed s)) (writeOne-lasts g b s one (landed s) (landed-lasts s h)) in
       onward-cases (Has R P) following _ one (s .transfer) (λ srb sro fetch base w q. t)
-
--- The lengths of the lists of registers and predicates.
-pub record Shaped (s : State) : Type 0 where
-  pub registers : length (s .registers) ≡ 32
-  pub predicates : length (s .predicates) ≡ 8
 
 -- The lengths last.
 lengths-last : Lasting (λ l. length l ≡ 32) (λ l. length l ≡ 8)

@@ -13,10 +13,10 @@ use lib.Dec.{leb, ltb}
 use lib.ListN.{length, getD, take, drop, length-take, length-drop}
 use lib.Seq.{length-take-le, getD-take, getD-drop, take-at, drop-at, ext-getD}
 use Rattle.word.specs.BytesLaws.{length-putNumber, byte-outside}
-use Rattle.decoder.specs.declared.instruction.AccessKind.{AccessKind}
-use Rattle.decoder.specs.declared.instruction.AccessKind.the-variants as kind
-use Rattle.decoder.specs.declared.instruction.LoadWidth.{LoadWidth}
-use Rattle.decoder.specs.declared.instruction.StoreWidth.{StoreWidth}
+use Rattle.decoder.specs.declared.AccessKind.{AccessKind}
+use Rattle.decoder.specs.declared.AccessKind.the-variants as kind
+use Rattle.decoder.specs.declared.LoadWidth.{LoadWidth}
+use Rattle.decoder.specs.declared.StoreWidth.{StoreWidth}
 use Rattle.stack_cache.specs.declared.StackControl.{StackControl}
 use Rattle.stack_cache.specs.declared.Plan.the-variants.{Moves}
 use Rattle.stack_cache.specs.Stack.{spills, fills, spilled, topAfter, spillAfter, badWindow, inArea, spillOpen, fillOpen, every, movedOutside, planned}
@@ -24,18 +24,18 @@ use Rattle.stack_cache.specs.Count.{Accepted}
 use Rattle.stack_cache.specs.PlanLaws.{spills-window, moves-window}
 use Rattle.stack_cache.specs.StackLaws.{length-putCacheNumber, length-spilled, length-filled}
 use Rattle.stack_cache.specs.RangeLaws.{and-left, and-right, every-at, in-area}
-use Rattle.memory.specs.declared.settings.Settings.{Settings}
-use Rattle.machine.specs.declared.state.State.{State}
-use Rattle.effects.specs.declared.effect.AluEffect.{AluEffect}
-use Rattle.effects.specs.declared.effect.Effect.{Effect}
-use Rattle.effects.specs.declared.effect.Effect.the-variants as effect
-use Rattle.memory.specs.declared.judge.Verdict.the-variants as verdict
+use Rattle.memory.specs.declared.Settings.{Settings}
+use Rattle.machine.specs.declared.State.{State}
+use Rattle.effects.specs.declared.AluEffect.{AluEffect}
+use Rattle.effects.specs.declared.Effect.{Effect}
+use Rattle.effects.specs.declared.Effect.the-variants as effect
+use Rattle.memory.specs.declared.Verdict.the-variants as verdict
 use Rattle.memory.specs.Answer.{done}
 use Rattle.memory.specs.SettingsLaws.{area-ordered}
 use Rattle.machine.specs.State.{noneWaits}
-use Rattle.memory.specs.Access.{Buffers, stored, storeScale, Test, verdict as verdictOf, mainOpen, mainWritable, accessOpen}
-use Rattle.effects.specs.Effect.{onTransfer, onStack, isUndecodable}
-use Rattle.machine.specs.Refusal.{effectTests, outsideCode, isException, isMisaligned, isBadStack, isOutside}
+use Rattle.memory.specs.Access.{Buffers, stored, storeScale, Test, verdict as verdictOf, mainOpen, mainWritable, accessOpen, accessTests}
+use Rattle.effects.specs.Effect.{isUndecodable}
+use Rattle.machine.specs.Refusal.{effectTests, outsideCode}
 use Rattle.machine.specs.Bundle.{area, withArea, stackMoved, buffersAfter, writeOne, written, bundleAt, bundle, lent, step}
 use Rattle.machine_laws.specs.StepCases.{effectAt, judged, bundle-cases, bundle-fine, bundle-done-as, step-cases}
 use Rattle.machine_laws.specs.KeptLaws.{writeAlu-cases, onward-cases}
@@ -154,14 +154,9 @@ module _ (g : Settings) (s : State) (c : StackControl) (n : ℕ) (b : Buffers) w
     stackMoved-outside i (inl h) = same-take (g .lo) _ _ i h stackMoved-below
     stackMoved-outside i (inr h) = same-drop (g .hi) _ _ i h stackMoved-above
 
--- What an effect that no test refuses has.
-pub record Passed (g : Settings) (s : State) (e : Effect) : Type 0 where
-  pub no-exception : isException e ≡ false
-  pub no-transfer : onTransfer false (λ d t. not (noneWaits (s .transfer))) e ≡ false
-  pub aligned : isMisaligned e ≡ false
-  pub stack : isBadStack g s e ≡ false
-  pub moves : onStack false (λ c n m. movedOutside c (g .words) (g .lo) (g .hi) (s .specials .st) (s .specials .ss) n) e ≡ false
-  pub access : isOutside g s e ≡ false
+-- No test refuses an effect.
+abbrev pub Passed : Settings → State → Effect → Type 0
+Passed g s e = verdictOf (effectTests g s e) ≡ verdict.Fine
 
 -- Of tests that refuse nothing the first does not apply, nor does one of the others.
 fine-first : (t : Test) (ts : List Test) → verdictOf (t ∷ ts) ≡ verdict.Fine → (t .applies ≡ false) × (verdictOf ts ≡ verdict.Fine)
@@ -172,15 +167,10 @@ fine-first t ts = go (t .applies)
     go true e = (cc, cc)
     go false e = (refl, e)
 
--- An effect that its tests judge fine has all that.
-pub fine-passed : (g : Settings) (s : State) (e : Effect) → verdictOf (effectTests g s e) ≡ verdict.Fine → Passed g s e
-fine-passed g s e v =
-    let a = fine-first _ _ v in
-    let b = fine-first _ _ (a .1) in
-    let c = fine-first _ _ (b .1) in
-    let d = fine-first _ _ (c .1) in
-    let f = fine-first _ _ (d .1) in
-    record { no-exception = a .0; no-transfer = b .0; aligned = c .0; stack = d .0; moves = f .0; access = fine-first _ _ (f .1) .0 }
+-- An access that no test refuses is open.
+pub passed-open : (main : Settings → ℕ → ℕ → Bool) (g : Settings) (st ss : ℕ) (k : AccessKind) (a n : ℕ) → verdictOf (accessTests main g st ss k a n) ≡ verdict.Fine
+    → accessOpen main g st ss k a n ≡ true
+passed-open main g st ss k a n p = not-false _ (fine-first _ _ (fine-first _ _ (fine-first _ _ p .1) .1) .0)
 
 -- A bundle judged fine.
 module _ (g : Settings) (code : List ℕ) (s : State) (fine : judged g code s ≡ verdict.Fine) where
@@ -194,7 +184,7 @@ module _ (g : Settings) (code : List ℕ) (s : State) (fine : judged g code s �
 
   -- No test refuses slot one's effect.
   pub fine-effect : (e : Effect) → effectAt code s ≡ e → Passed g s e
-  fine-effect e p = subst (λ (x : Effect). Passed g s x) p (fine-passed g s (effectAt code s) (fine-first _ _ (fine-first _ _ fine .1) .1))
+  fine-effect e p = subst (λ (x : Effect). Passed g s x) p (fine-first _ _ (fine-first _ _ fine .1) .1)
 
 -- No test refuses slot one's effect in a bundle that answers Done.
 pub done-passed : (g : Settings) (code : List ℕ) (s : State) (b : Buffers) → bundle g code s b .answer ≡ done → (e : Effect) → effectAt code s ≡ e → Passed g s e
@@ -204,13 +194,17 @@ done-passed g code s b d = fine-effect g code s (bundle-fine g code s b d)
 module _ (g : Settings) (s : State) (c : StackControl) (n : ℕ) (m : Bool) (p : Passed g s (effect.Stack c n m)) where
   -- Its window and its amount are good.
   pub stack-accepted : Accepted c (g .words) (s .specials .st) (s .specials .ss) n
-  stack-accepted = p .stack
+  stack-accepted = fine-first _ _ (fine-first _ _ p .1) .0
+
+  -- The words it moves lie in the stack area.
+  moves-inside : movedOutside c (g .words) (g .lo) (g .hi) (s .specials .st) (s .specials .ss) n ≡ false
+  moves-inside = fine-first _ _ (fine-first _ _ (fine-first _ _ p .1) .1) .0
 
   -- Its plan is to move.
   pub stack-planned : planned c (g .words) (g .lo) (g .hi) (s .specials .st) (s .specials .ss) n
       ≡ Moves (topAfter c (s .specials .st) n) (spillAfter c (g .words) (s .specials .st) (s .specials .ss) n) (length (spills c (g .words) (s .specials .st) (s .specials .ss) n)) (length (fills c (s .specials .st) (s .specials .ss) n))
   unfolding planned
-  stack-planned = rw (p .stack, p .moves)
+  stack-planned = rw (stack-accepted, moves-inside)
 
   -- Each word it spills lies in the window before it.
   pub spills-from-window : s .specials .ss < 2 ^ 32 → (i : ℕ) → i < length (spills c (g .words) (s .specials .st) (s .specials .ss) n)
@@ -222,12 +216,12 @@ module _ (g : Settings) (s : State) (c : StackControl) (n : ℕ) (m : Bool) (p :
   -- Every word it spills may be spilled.
   pub spills-open : every (spillOpen (g .lo) (g .hi)) (spills c (g .words) (s .specials .st) (s .specials .ss) n) ≡ true
   unfolding movedOutside
-  spills-open = and-left (every (spillOpen (g .lo) (g .hi)) (spills c (g .words) (s .specials .st) (s .specials .ss) n)) _ (not-false _ (p .moves))
+  spills-open = and-left (every (spillOpen (g .lo) (g .hi)) (spills c (g .words) (s .specials .st) (s .specials .ss) n)) _ (not-false _ moves-inside)
 
   -- Every word it fills may be filled.
   pub fills-open : every (fillOpen (g .lo) (g .hi)) (fills c (s .specials .st) (s .specials .ss) n) ≡ true
   unfolding movedOutside
-  fills-open = and-right (every (spillOpen (g .lo) (g .hi)) (spills c (g .words) (s .specials .st) (s .specials .ss) n)) _ (not-false _ (p .moves))
+  fills-open = and-right (every (spillOpen (g .lo) (g .hi)) (spills c (g .words) (s .specials .st) (s .specials .ss) n)) _ (not-false _ moves-inside)
 
   -- Each word it spills lies in the stack area.
   pub spills-in-area : (i : ℕ) → i < length (spills c (g .words) (s .specials .st) (s .specials .ss) n)
@@ -288,7 +282,7 @@ module _ (g : Settings) (s : State) (k : AccessKind) (w : StoreWidth) (a v : ℕ
   -- It leaves every byte of the stack area as it was.
   pub store-area-byte : (i : ℕ) → g .lo ≤ i → i < g .hi → getD (buffersAfter g s (effect.Store k w a v) b .main) i 0 ≡ getD (b .main) i 0
   unfolding buffersAfter stored accessOpen
-  store-area-byte i q r = go k (not-false _ (p .access))
+  store-area-byte i q r = go k (passed-open mainWritable g (s .specials .st) (s .specials .ss) k a (2 ^ storeScale w) p)
     where
       go : (k : AccessKind) → accessOpen mainWritable g (s .specials .st) (s .specials .ss) k a (2 ^ storeScale w) ≡ true → getD (stored b k (2 ^ storeScale w) a v .main) i 0 ≡ getD (b .main) i 0
       go kind.Stack e = refl

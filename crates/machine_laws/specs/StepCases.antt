@@ -4,12 +4,12 @@ use mathlib.Core.Bool.{Bool, true, false, not, cond}
 use mathlib.Core.List.{List}
 use mathlib.Core.Path.{_≡_, refl, ap, _∙_}
 use lib.ListN.{length}
-use Rattle.memory.specs.declared.settings.Settings.{Settings}
-use Rattle.machine.specs.declared.state.State.{State}
-use Rattle.effects.specs.declared.effect.Effect.{Effect}
-use Rattle.memory.specs.declared.judge.Verdict.{Verdict}
-use Rattle.memory.specs.declared.judge.Verdict.the-variants as verdict
-use Rattle.machine.specs.declared.step.Readiness.the-variants as ready
+use Rattle.memory.specs.declared.Settings.{Settings}
+use Rattle.machine.specs.declared.State.{State}
+use Rattle.effects.specs.declared.Effect.{Effect}
+use Rattle.memory.specs.declared.Verdict.{Verdict}
+use Rattle.memory.specs.declared.Verdict.the-variants as verdict
+use Rattle.machine.specs.declared.Readiness.the-variants as ready
 use Rattle.memory.specs.Answer.{Returned, accepted, done, ended, spent, refused}
 use Rattle.memory.specs.Settings.{admits, settingsOf}
 use Rattle.memory.specs.Access.{Buffers, verdict as verdictOf}

@@ -5,16 +5,16 @@ use mathlib.Core.List.{List, [], _∷_}
 use lib.Dec.{eqb, ltb, leb}
 use Rattle.word.specs.Word.{signExtend}
 use Rattle.word.specs.Bytes.{numberAt, putNumber}
-use Rattle.decoder.specs.declared.instruction.AccessKind.{AccessKind}
-use Rattle.decoder.specs.declared.instruction.AccessKind.the-variants.{Stack, Local, Cached, Main}
-use Rattle.decoder.specs.declared.instruction.LoadWidth.{LoadWidth}
-use Rattle.decoder.specs.declared.instruction.LoadWidth.the-variants.{Word, Half, Byte, HalfUnsigned, ByteUnsigned}
-use Rattle.decoder.specs.declared.instruction.StoreWidth.{StoreWidth}
-use Rattle.decoder.specs.declared.instruction.StoreWidth.the-variants as store
+use Rattle.decoder.specs.declared.AccessKind.{AccessKind}
+use Rattle.decoder.specs.declared.AccessKind.the-variants.{Stack, Local, Cached, Main}
+use Rattle.decoder.specs.declared.LoadWidth.{LoadWidth}
+use Rattle.decoder.specs.declared.LoadWidth.the-variants.{Word, Half, Byte, HalfUnsigned, ByteUnsigned}
+use Rattle.decoder.specs.declared.StoreWidth.{StoreWidth}
+use Rattle.decoder.specs.declared.StoreWidth.the-variants as store
 use Rattle.stack_cache.specs.Stack.{badWindow, cacheNumber, putCacheNumber}
-use Rattle.memory.specs.declared.settings.Settings.{Settings}
-use Rattle.memory.specs.declared.judge.Verdict.{Verdict}
-use Rattle.memory.specs.declared.judge.Verdict.the-variants.{Fine, Refused}
+use Rattle.memory.specs.declared.Settings.{Settings}
+use Rattle.memory.specs.declared.Verdict.{Verdict}
+use Rattle.memory.specs.declared.Verdict.the-variants.{Fine, Refused}
 
 -- The bytes of an access are 2 ^ scale, and its immediate counts in them.
 unfoldable pub loadScale : LoadWidth → ℕ
@@ -102,7 +102,11 @@ accessOpen main g st ss Local a n = leb (a + n) (g .local)
 accessOpen main g st ss Cached a n = main g a n
 accessOpen main g st ss Main a n = main g a n
 
--- The tests of an access of n bytes: 5, 7, 6. 5 is "address not a multiple of the access width".
+-- The tests of an access of n bytes, in their order: 5, 7, 6. 5 is "address not a multiple of the access width". `main` tells which
+-- bytes of main memory are open to it.
+abbrev pub accessTests : (Settings → ℕ → ℕ → Bool) → Settings → ℕ → ℕ → AccessKind → ℕ → ℕ → List Test
+accessTests main g st ss k a n =
+    test 5 (not (eqb (a % n) 0)) ∷ test 7 (badAccess g st ss k) ∷ test 6 (not (accessOpen main g st ss k a n)) ∷ []
+
 unfoldable pub accessVerdict : Settings → ℕ → ℕ → AccessKind → ℕ → ℕ → Verdict
-accessVerdict g st ss k a n =
-    verdict (test 5 (not (eqb (a % n) 0)) ∷ test 7 (badAccess g st ss k) ∷ test 6 (not (accessOpen mainOpen g st ss k a n)) ∷ [])
+accessVerdict g st ss k a n = verdict (accessTests mainOpen g st ss k a n)

@@ -6,9 +6,9 @@ use lib.Dec.{leb}
 use lib.ListN.{length}
 use Rattle.word.specs.Word.{isMultipleOf4}
 use Rattle.stack_cache.specs.Stack.{isCacheSize}
-use Rattle.memory.specs.declared.settings.Settings.{Settings}
-use Rattle.memory.specs.declared.settings.Acceptance.{Acceptance}
-use Rattle.memory.specs.declared.settings.Acceptance.the-variants.{Accepted, Refused}
+use Rattle.memory.specs.declared.Settings.{Settings}
+use Rattle.memory.specs.declared.Acceptance.{Acceptance}
+use Rattle.memory.specs.declared.Acceptance.the-variants.{Accepted, Refused}
 use Rattle.memory.specs.Answer.{Returned, accepted, refused}
 
 -- The greatest length of code and of each memory.

@@ -8,7 +8,7 @@ use Rattle.stack_cache.specs.Stack.{isCacheSize, makeCache}
 use Rattle.stack_cache.specs.declared.StackCache.{StackCache}
 use Rattle.stack_cache.specs.declared.Made.the-variants as made
 use Rattle.stack_cache.specs.RangeLaws.{and-left, and-right}
-use Rattle.memory.specs.declared.settings.Settings.{Settings}
+use Rattle.memory.specs.declared.Settings.{Settings}
 use Rattle.word.specs.Word.{isMultipleOf4}
 use Rattle.memory.specs.Settings.{admits, greatestLength, codeLengthOk, areaOk}
 

@@ -2,18 +2,13 @@
 ghost use mathlib.Core.Path.{_≡_};
 ghost use Prim.Native.Nat.{_<_, _^_};
 ghost use Rattle.memory.specs.Access.{loadScale, storeScale, isStack, mainOpen, accessOpen, accessVerdict};
-use crate::settings::Settings;
+use crate::Settings;
+use crate::Verdict;
 use crate::width::load_size;
 use crate::width::store_size;
-use decoder::instruction::AccessKind;
-use decoder::instruction::LoadWidth;
-use decoder::instruction::StoreWidth;
-
-// Whether a bundle may be done, or the number that it is refused with.
-pub enum Verdict {
-    Fine,
-    Refused(u32),
-}
+use decoder::AccessKind;
+use decoder::LoadWidth;
+use decoder::StoreWidth;
 
 // Whether an access of n bytes lies wholly inside main memory and touches no byte of the stack area.
 fn main_open(g: Settings, a: u32, n: u32) -> bool

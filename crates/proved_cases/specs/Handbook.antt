@@ -6,15 +6,15 @@ use mathlib.Core.List.{List, [], _∷_}
 use mathlib.Core.Path.{refl}
 use Rattle.decoder.specs.Format.{reading, row}
 use Rattle.decoder.specs.Decode.{guardOf, slotOne, slotTwo, decode}
-use Rattle.decoder.specs.declared.instruction.AluFunction.the-variants.{Add, Sub, Nor}
-use Rattle.decoder.specs.declared.instruction.CompareFunction.the-variants.{Cmpneq, Btest}
-use Rattle.decoder.specs.declared.instruction.PredicateFunction.the-variants.{Por, Pxor}
-use Rattle.decoder.specs.declared.instruction.Op2.the-variants.{Register, Immediate, Long}
-use Rattle.decoder.specs.declared.instruction.AluOperation.{AluOperation}
-use Rattle.decoder.specs.declared.instruction.AluOperation.the-variants.{Arithmetic, Compare, Predicate, BitCopy}
-use Rattle.decoder.specs.declared.instruction.Operation.the-variants.{Alu}
-use Rattle.decoder.specs.declared.instruction.Bundle.{Bundle}
-use Rattle.decoder.specs.declared.instruction.Bundle.the-variants as bundle
+use Rattle.decoder.specs.declared.AluFunction.the-variants.{Add, Sub, Nor}
+use Rattle.decoder.specs.declared.CompareFunction.the-variants.{Cmpneq, Btest}
+use Rattle.decoder.specs.declared.PredicateFunction.the-variants.{Por, Pxor}
+use Rattle.decoder.specs.declared.Op2.the-variants.{Register, Immediate, Long}
+use Rattle.decoder.specs.declared.AluOperation.{AluOperation}
+use Rattle.decoder.specs.declared.AluOperation.the-variants.{Arithmetic, Compare, Predicate, BitCopy}
+use Rattle.decoder.specs.declared.Operation.the-variants.{Alu}
+use Rattle.decoder.specs.declared.Bundle.{Bundle}
+use Rattle.decoder.specs.declared.Bundle.the-variants as bundle
 use Rattle.proved_cases.specs.Case.{Case, AllHold}
 use Rattle.proved_cases.specs.Words.{Pair, decoded, _is_, p, not-p, always}
 

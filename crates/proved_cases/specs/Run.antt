@@ -11,14 +11,14 @@ use Rattle.decoder.specs.Decode as decoder
 use Rattle.decoder.specs.Decode.{bundleWords, guardOf, slotTwo, decode}
 use Rattle.stack_cache.specs.Stack.{isCacheSize, cacheWord, putCacheWord, partOf, putPart, cacheNumber, putCacheNumber, below, spillWhile, fillWhile}
 use Rattle.stack_cache.specs.Stack.{topAfter, spills, fills, spillAfter, badWindow, badAmount, every, movedOutside, spilled, filled}
-use Rattle.machine.specs.declared.state.State.{State}
-use Rattle.machine.specs.declared.state.WaitingTransfer.{WaitingTransfer}
+use Rattle.machine.specs.declared.State.{State}
+use Rattle.machine.specs.declared.WaitingTransfer.{WaitingTransfer}
 use Rattle.memory.specs.Answer.{Returned, accepted, done, ended, spent, refused}
-use Rattle.machine.specs.declared.step.Counts.{Counts}
+use Rattle.machine.specs.declared.Counts.{Counts}
 use Rattle.memory.specs.Settings.{admits}
 use Rattle.memory.specs.Access.{Buffers, buffers, loadScale, storeScale, readNumber, extended, loadedValue, stored, mainOpen, accessOpen, verdict}
 use Rattle.effects.specs.Effect.{predicatesWord, special, op2Value, aluEffect, accessAddress, amountWords, amountAligned, stackEffect, transferOf, effectOf}
-use Rattle.effects.specs.Effect.{slotOneEffect, slotTwoEffect, slotOne, onStack}
+use Rattle.effects.specs.Effect.{slotOneEffect, slotTwoEffect, slotOne, onEffect}
 use Rattle.machine.specs.State.{startOf, withRegister, withPredicate, predicatesOf, withSpecial, withStack, landed, goingOn, transferred, wellFormed, ended as hasEnded, fresh}
 use Rattle.machine.specs.Refusal.{outsideCode}
 use Rattle.machine.specs.Bundle.{stackMoved, buffersAfter, writeAlu, writeOne, delaySlots, written, Outcome, outcome, bundleAt, bundle, readiness, step}
@@ -82,8 +82,8 @@ seen code s b =
     let one = slotOne (startOf s) (bundleAt code (s .fetch)) in
     record {
       outcome = o;
-      spilled = ifDone (o .answer) (onStack [] (λ c n m. spills c (length (b .cache)) (s .specials .st) (s .specials .ss) n) one);
-      filled = ifDone (o .answer) (onStack [] (λ c n m. fills c (s .specials .st) (s .specials .ss) n) one);
+      spilled = ifDone (o .answer) (onEffect [] (λ c n m. spills c (length (b .cache)) (s .specials .st) (s .specials .ss) n) (λ d t. []) one);
+      filled = ifDone (o .answer) (onEffect [] (λ c n m. fills c (s .specials .st) (s .specials .ss) n) (λ d t. []) one);
     }
 
 -- Each step goes on with the state and the buffers that the one before left.

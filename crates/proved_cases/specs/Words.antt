@@ -7,14 +7,14 @@ use lib.IntN.{negsuc}
 use Rattle.word.specs.Word.{signed}
 use Rattle.decoder.specs.Format.{reading, row}
 use Rattle.decoder.specs.Decode.{guardOf, slotOne, decode}
-use Rattle.decoder.specs.declared.instruction.PredicateOperand.{PredicateOperand}
-use Rattle.decoder.specs.declared.instruction.StackAmount.the-variants.{Words, Register}
-use Rattle.decoder.specs.declared.instruction.StackOperation.the-variants.{Sres, Sens, Sfree, Sspill}
-use Rattle.decoder.specs.declared.instruction.Target.the-variants.{Call, CallRegister, Br, Ret}
-use Rattle.decoder.specs.declared.instruction.Operation.{Operation}
-use Rattle.decoder.specs.declared.instruction.Operation.the-variants.{StackControl, Transfer}
-use Rattle.decoder.specs.declared.instruction.Bundle.{Bundle}
-use Rattle.decoder.specs.declared.instruction.Bundle.the-variants.{Undecodable, One}
+use Rattle.decoder.specs.declared.PredicateOperand.{PredicateOperand}
+use Rattle.decoder.specs.declared.StackAmount.the-variants.{Words, Register}
+use Rattle.decoder.specs.declared.StackOperation.the-variants.{Sres, Sens, Sfree, Sspill}
+use Rattle.decoder.specs.declared.Target.the-variants.{Call, CallRegister, Br, Ret}
+use Rattle.decoder.specs.declared.Operation.{Operation}
+use Rattle.decoder.specs.declared.Operation.the-variants.{StackControl, Transfer}
+use Rattle.decoder.specs.declared.Bundle.{Bundle}
+use Rattle.decoder.specs.declared.Bundle.the-variants.{Undecodable, One}
 use Rattle.proved_cases.specs.Case.{Case, AllHold}
 
 infix 70 _is_

@@ -4,10 +4,10 @@ use mathlib.Core.Bool.{cond}
 use mathlib.Core.List.{List, [], _∷_}
 use Rattle.memory.specs.Answer.{Returned, accepted, done, ended, spent, refused}
 use Rattle.memory.specs.Access.{Buffers}
-use Rattle.machine.specs.declared.state.State.{State}
-use Rattle.machine.specs.declared.step.Counts.{Counts}
-use Rattle.machine.specs.declared.step.Readiness.{Readiness}
-use Rattle.machine.specs.declared.step.Readiness.the-variants.{Ready, Ended, Refused}
+use Rattle.machine.specs.declared.State.{State}
+use Rattle.machine.specs.declared.Counts.{Counts}
+use Rattle.machine.specs.declared.Readiness.{Readiness}
+use Rattle.machine.specs.declared.Readiness.the-variants.{Ready, Ended, Refused}
 use Rattle.run.specs.declared.RunAnswer.{RunAnswer}
 use Rattle.run.specs.declared.RunAnswer.the-variants as answer
 use Rattle.run.specs.declared.Ran.{Ran}

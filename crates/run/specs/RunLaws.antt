@@ -9,10 +9,10 @@ use native.Mathlib.Nat.{add-zero, zero-add, add-assoc}
 use lib.ListN.{length}
 use Rattle.memory.specs.Answer.{Returned, accepted, done, ended, spent, refused}
 use Rattle.memory.specs.Access.{Buffers}
-use Rattle.machine.specs.declared.state.State.{State}
-use Rattle.machine.specs.declared.step.Counts.{Counts}
-use Rattle.machine.specs.declared.step.Readiness.{Readiness}
-use Rattle.machine.specs.declared.step.Readiness.the-variants.{Ready, Ended, Refused}
+use Rattle.machine.specs.declared.State.{State}
+use Rattle.machine.specs.declared.Counts.{Counts}
+use Rattle.machine.specs.declared.Readiness.{Readiness}
+use Rattle.machine.specs.declared.Readiness.the-variants.{Ready, Ended, Refused}
 use Rattle.machine.specs.Bundle.{Outcome, outcome, noCounts, bundle, readiness, readyOr, lent, step}
 use Rattle.machine_laws.specs.StepCases.{isDone, step-cases, step-unchanged}
 use Rattle.machine_laws.specs.CountLaws.{Small}

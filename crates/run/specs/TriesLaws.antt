@@ -6,10 +6,10 @@ use mathlib.Core.Path.{_≡_, refl, sym, ap, _∙_}
 use native.Mathlib.Omega.{arith}
 use Rattle.memory.specs.Answer.{Returned, accepted, done, ended, spent, refused}
 use Rattle.memory.specs.Access.{Buffers}
-use Rattle.machine.specs.declared.state.State.{State}
-use Rattle.machine.specs.declared.step.Counts.{Counts}
-use Rattle.machine.specs.declared.step.Readiness.{Readiness}
-use Rattle.machine.specs.declared.step.Readiness.the-variants.{Ready, Ended, Refused}
+use Rattle.machine.specs.declared.State.{State}
+use Rattle.machine.specs.declared.Counts.{Counts}
+use Rattle.machine.specs.declared.Readiness.{Readiness}
+use Rattle.machine.specs.declared.Readiness.the-variants.{Ready, Ended, Refused}
 use Rattle.machine.specs.Bundle.{Outcome, outcome, noCounts, bundle, readiness, readyOr, lent, step}
 use Rattle.machine_laws.specs.StepCases.{isDone, bundle-cases, step-cases}
 use Rattle.run.specs.Run.{plus, ifDone, counted, stopped, run, Tried, triedAt, whenReady, tries, endOf, doneIn}

@@ -6,12 +6,12 @@ ghost use Rattle.machine.specs.Bundle.{noCounts, outcome, readyOr};
 ghost use Rattle.machine.specs.Core.{joined};
 ghost use Rattle.memory.specs.Answer.{spent};
 ghost use Rattle.run.specs.Run.{plus, run, returned, whole};
-use machine::core::Core;
-use machine::state::State;
-use machine::step::Answer;
-use machine::step::Counts;
-use machine::step::Readiness;
-use memory::settings::Settings;
+use machine::Answer;
+use machine::Core;
+use machine::Counts;
+use machine::Readiness;
+use machine::State;
+use memory::Settings;
 
 // What a run answers; Refused holds document 01's number.
 pub enum RunAnswer {

@@ -5,34 +5,32 @@ use mathlib.Core.List.{List}
 use mathlib.Core.Path.{_≡_}
 use lib.Dec.{leb}
 use lib.ListN.{length}
-use Rattle.memory.specs.declared.settings.Settings.{Settings}
+use Rattle.memory.specs.declared.Settings.{Settings}
 use Rattle.memory.specs.Settings.{admits}
 use Rattle.effects.specs.Effect.{isUndecodable}
 use Rattle.machine.specs.Refusal.{outsideCode}
 use Rattle.machine.specs.Bundle.{bundleAt, followingAt}
-use Rattle.single_path.specs.declared.Marking.{Marking}
+use Rattle.marking_rules.specs.declared.Marking.{Marking}
+use Rattle.marking_rules.specs.Marking.{markingOk}
+use Rattle.marking_rules.specs.Rules.{breaks, keeps}
 use Rattle.single_path.specs.declared.Checked.{Checked}
 use Rattle.single_path.specs.declared.Checked.the-variants as enum
-use Rattle.single_path.specs.Marking.{markingOk}
-use Rattle.single_path.specs.Rules.{breaks, keeps}
 
 -- "An address is walked if it is below the code length and either is 0 or follows a bundle at a walked address."
 pub data Walked (code : List ℕ) : ℕ → Type 0 where
   first : 0 < length code → Walked code 0
   later : {a b : ℕ} → Walked code a → b ≡ followingAt code a → b < length code → Walked code b
 
--- What the check answers: accepted; a refusal's number and the bundle's address; or, as refusal 9, the address of a bundle that
--- breaks a rule. The letter is left free.
+-- What the check returns: accepted, or a refusal's number and the bundle's address. Of refusal 9 the rule's letter is left free.
 pub data CheckAnswer : Type 0 where
   accepted : CheckAnswer
   refused : ℕ → ℕ → CheckAnswer
-  broken : ℕ → CheckAnswer
 
--- What the function's answer says but for its letter, and that a letter is one that the bundle breaks.
-abbrev pub withoutLetter : Checked → CheckAnswer
-withoutLetter enum.Accepted = accepted
-withoutLetter (enum.Refused n a) = refused n a
-withoutLetter (enum.Broken a r) = broken a
+-- What each answer of the function returns, but for its letter; and that a letter is one that the bundle breaks.
+abbrev pub returned : Checked → CheckAnswer
+returned enum.Accepted = accepted
+returned (enum.Refused n a) = refused n a
+returned (enum.Broken a r) = refused 9 a
 
 abbrev pub letterBroken : Marking → List ℕ → Checked → Bool
 letterBroken m code enum.Accepted = true
@@ -47,7 +45,7 @@ walkFrom m code (suc most) a =
     cond (leb (length code) a) accepted
     (cond (outsideCode code a) (refused 2 a)
     (cond (isUndecodable (bundleAt code a)) (refused 3 a)
-    (cond (keeps m (bundleAt code a)) rest (broken a))))
+    (cond (keeps m (bundleAt code a)) rest (refused 9 a))))
 
 -- "Settings are the lengths of code and memories, W, lo and hi"; and whether refusal 1 lets them and the marking pass.
 abbrev pub settings : List ℕ → ℕ → ℕ → ℕ → ℕ → ℕ → Settings

@@ -1,57 +1,22 @@
 -- What the check's answer tells: accepted if and only if every walked bundle can be read and keeps the rules; otherwise the first
 -- that does not.
 use Prim.Native.Nat.{ℕ, zero, suc, _+_, _*_, _/_, _<_}
-use mathlib.Core.Bool.{Bool, true, false, cond, _||_, false≢true}
+use mathlib.Core.Bool.{Bool, true, false, cond, false≢true}
 use mathlib.Core.List.{List}
 use mathlib.Core.Logic.{_⊎_, inl, inr, _↔_}
 use mathlib.Core.Path.{_≡_, refl, sym, ap, subst, _∙_}
 use native.Mathlib.Omega.{arith}
 use native.Mathlib.Decide.{decLt}
-use borrow.Author.Tests.{leb-false, lt-leb, not-true, not-false}
+use borrow.Author.Tests.{leb-false, lt-leb}
 use lib.Dec.{leb}
 use lib.ListN.{length}
-use Rattle.decoder.specs.declared.instruction.Bundle.{Bundle}
-use Rattle.stack_cache.specs.RangeLaws.{or-left, or-right}
 use Rattle.effects.specs.Effect.{isUndecodable}
 use Rattle.machine.specs.Refusal.{outsideCode}
 use Rattle.machine.specs.Bundle.{bundleAt, followingAt}
-use Rattle.single_path.specs.declared.Marking.{Marking}
-use Rattle.single_path.specs.declared.Rule.{Rule}
-use Rattle.single_path.specs.declared.Rule.the-variants.{A, B, C, D, E}
-use Rattle.single_path.specs.Rules.{breaks, keeps}
-use Rattle.single_path.specs.Check.{Walked, first, later, CheckAnswer, accepted, refused, broken, walkFrom, passes, checked}
+use Rattle.marking_rules.specs.declared.Marking.{Marking}
+use Rattle.marking_rules.specs.Rules.{keeps}
+use Rattle.single_path.specs.Check.{Walked, first, later, CheckAnswer, accepted, refused, walkFrom, passes, checked}
 use Rattle.single_path.specs.WalkLaws.{following-above, walked-inside, walked-gap}
-
--- A bundle that keeps the rules breaks none, and one that does not breaks some.
-pub keeps-each : (m : Marking) (b : Bundle) → keeps m b ≡ true → (r : Rule) → breaks m b r ≡ false
-unfolding keeps
-keeps-each m b e r =
-    let p = not-true _ e in
-    let q = or-right (breaks m b A) _ p in
-    let s = or-right (breaks m b B) _ q in
-    let t = or-right (breaks m b C) _ s in
-    go r (or-left (breaks m b A) _ p) (or-left (breaks m b B) _ q) (or-left (breaks m b C) _ s) (or-left (breaks m b D) (breaks m b E) t) (or-right (breaks m b D) (breaks m b E) t)
-  where
-    go : (r : Rule) → breaks m b A ≡ false → breaks m b B ≡ false → breaks m b C ≡ false → breaks m b D ≡ false → breaks m b E ≡ false
-        → breaks m b r ≡ false
-    go A x y z u v = x
-    go B x y z u v = y
-    go C x y z u v = z
-    go D x y z u v = u
-    go E x y z u v = v
-
-pub breaks-some : (m : Marking) (b : Bundle) → keeps m b ≡ false → (r : Rule) × (breaks m b r ≡ true)
-unfolding keeps
-breaks-some m b e = go (breaks m b A) (breaks m b B) (breaks m b C) (breaks m b D) (breaks m b E) refl refl refl refl refl (not-false _ e)
-  where
-    go : (x y z u v : Bool) → breaks m b A ≡ x → breaks m b B ≡ y → breaks m b C ≡ z → breaks m b D ≡ u → breaks m b E ≡ v
-        → x || (y || (z || (u || v))) ≡ true → (r : Rule) × (breaks m b r ≡ true)
-    go true y z u v i j k l n f = (A, i)
-    go false true z u v i j k l n f = (B, j)
-    go false false true u v i j k l n f = (C, k)
-    go false false false true v i j k l n f = (D, l)
-    go false false false false true i j k l n f = (E, n)
-    go false false false false false i j k l n f = absurd (false≢true f)
 
 -- The bundle at an address can be read and keeps the rules.
 pub record Fine (m : Marking) (code : List ℕ) (a : ℕ) : Type 0 where
@@ -64,7 +29,7 @@ pub data Fails (m : Marking) (code : List ℕ) : CheckAnswer → ℕ → Type 0 
   outside : {a : ℕ} → outsideCode code a ≡ true → Fails m code (refused 2 a) a
   undecodable : {a : ℕ} → outsideCode code a ≡ false → isUndecodable (bundleAt code a) ≡ true → Fails m code (refused 3 a) a
   breaking : {a : ℕ} → outsideCode code a ≡ false → isUndecodable (bundleAt code a) ≡ false → keeps m (bundleAt code a) ≡ false
-      → Fails m code (broken a) a
+      → Fails m code (refused 9 a) a
 
 -- What an answer other than accepted tells: a walked address at which the code fails so, before which it does not fail.
 pub record FirstFailure (m : Marking) (code : List ℕ) (v : CheckAnswer) : Type 0 where
@@ -76,7 +41,6 @@ pub record FirstFailure (m : Marking) (code : List ℕ) (v : CheckAnswer) : Type
 abbrev pub isAccepted : CheckAnswer → Bool
 isAccepted accepted = true
 isAccepted (refused n a) = false
-isAccepted (broken a) = false
 
 module _ (m : Marking) (code : List ℕ) where
   -- The answer from a walked address on, before which all is fine.
@@ -88,7 +52,7 @@ module _ (m : Marking) (code : List ℕ) where
       go (leb (length code) a) (outsideCode code a) (isUndecodable (bundleAt code a)) (keeps m (bundleAt code a)) refl refl refl refl (walk-first most (followingAt code a))
     where
       answer : Bool → Bool → Bool → Bool → CheckAnswer
-      answer t u v x = cond t accepted (cond u (refused 2 a) (cond v (refused 3 a) (cond x (walkFrom m code most (followingAt code a)) (broken a))))
+      answer t u v x = cond t accepted (cond u (refused 2 a) (cond v (refused 3 a) (cond x (walkFrom m code most (followingAt code a)) (refused 9 a))))
 
       go : (t u v x : Bool) → leb (length code) a ≡ t → outsideCode code a ≡ u → isUndecodable (bundleAt code a) ≡ v → keeps m (bundleAt code a) ≡ x
           → ((followingAt code a < length code → Walked code (followingAt code a)) → ((b : ℕ) → Walked code b → b < followingAt code a → Fine m code b)
@@ -118,7 +82,7 @@ module _ (m : Marking) (code : List ℕ) where
   walk-here (suc most) a p h e = go (outsideCode code a) (isUndecodable (bundleAt code a)) (keeps m (bundleAt code a)) refl refl refl (rw (lt-leb _ _ p) at e)
     where
       go : (u v x : Bool) → outsideCode code a ≡ u → isUndecodable (bundleAt code a) ≡ v → keeps m (bundleAt code a) ≡ x
-          → cond u (refused 2 a) (cond v (refused 3 a) (cond x (walkFrom m code most (followingAt code a)) (broken a))) ≡ accepted
+          → cond u (refused 2 a) (cond v (refused 3 a) (cond x (walkFrom m code most (followingAt code a)) (refused 9 a))) ≡ accepted
           → Fine m code a × ((n : ℕ) × (length code < followingAt code a + 4 * n) × (walkFrom m code n (followingAt code a) ≡ accepted))
       go true v x j k l f = absurd (false≢true (ap isAccepted f))
       go false true x j k l f = absurd (false≢true (ap isAccepted f))

@@ -1,7 +1,5 @@
-pub mod Marking
-pub mod Rules
 pub mod Check
 pub mod WalkLaws
 pub mod CheckLaws
+pub mod FoundLaws
 pub mod LoopLaws
-pub mod Found

@@ -13,9 +13,9 @@ use Rattle.stack_cache.specs.RangeLaws.{or-right}
 use Rattle.effects.specs.Effect.{isUndecodable}
 use Rattle.machine.specs.Refusal.{outsideCode}
 use Rattle.machine.specs.Bundle.{bundleAt, followingAt}
-use Rattle.single_path.specs.declared.Marking.{Marking}
-use Rattle.single_path.specs.Rules.{keeps}
-use Rattle.single_path.specs.Check.{accepted, refused, broken, walkFrom}
+use Rattle.marking_rules.specs.declared.Marking.{Marking}
+use Rattle.marking_rules.specs.Rules.{keeps}
+use Rattle.single_path.specs.Check.{accepted, refused, walkFrom}
 
 -- A bundle that lies in the code ends there.
 pub inside-end : (code : List ℕ) (a : ℕ) → outsideCode code a ≡ false → followingAt code a ≤ length code
@@ -46,7 +46,7 @@ module _ (m : Marking) (code : List ℕ) where
 
   pub walk-broken : (most a : ℕ) → 0 < most → a < length code → outsideCode code a ≡ false → isUndecodable (bundleAt code a) ≡ false
       → keeps m (bundleAt code a) ≡ false
-      → walkFrom m code most a ≡ broken a
+      → walkFrom m code most a ≡ refused 9 a
   unfolding walkFrom
   walk-broken zero a p q e f h = absurd (omega arith)
   walk-broken (suc most) a p q e f h = rw (lt-leb _ _ q, e, f, h)

@@ -3,15 +3,15 @@ ghost use Prim.Native.Nat.{_≤_};
 
 mod workload;
 
-use case_file::field::same;
-use case_file::number::Number;
-use case_file::number::decimal;
 use libc::STDERR_FILENO;
 use libc::STDOUT_FILENO;
-use machine::open::Opening;
-use machine::state::State;
+use machine::Opening;
+use machine::State;
 use run::Ran;
 use run::RunAnswer;
+use text::Number;
+use text::fields::same;
+use text::numbers::decimal;
 
 // What is handed in beside the workload's name.
 pub struct Setting {

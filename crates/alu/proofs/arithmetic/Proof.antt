@@ -4,52 +4,52 @@ use Rattle.alu.proofs.arithmetic.Statement.{statement}
 use Rattle.alu.proofs.arithmetic.Tie as tie
 
 enum-told : tie.Need-enum-told
-enum-told c = search needs
+enum-told c = c .match .keys1
 
 add-requires : tie.Need-add-requires
 add-requires c κs = tt
 
 enum-told-2 : tie.Need-enum-told-2
-enum-told-2 c = search needs
+enum-told-2 c = c .match .keys2
 
 sub-requires : tie.Need-sub-requires
 sub-requires c κs = tt
 
 enum-told-3 : tie.Need-enum-told-3
-enum-told-3 c = search needs
+enum-told-3 c = c .match .keys3
 
 enum-told-4 : tie.Need-enum-told-4
-enum-told-4 c = search needs
+enum-told-4 c = c .match .keys4
 
 shift-left-requires : tie.Need-shift-left-requires
 shift-left-requires c κs = tt
 
 enum-told-5 : tie.Need-enum-told-5
-enum-told-5 c = search needs
+enum-told-5 c = c .match .keys5
 
 shift-right-requires : tie.Need-shift-right-requires
 shift-right-requires c κs = tt
 
 enum-told-6 : tie.Need-enum-told-6
-enum-told-6 c = search needs
+enum-told-6 c = c .match .keys6
 
 shift-right-signed-requires : tie.Need-shift-right-signed-requires
 shift-right-signed-requires c κs = tt
 
 enum-told-7 : tie.Need-enum-told-7
-enum-told-7 c = search needs
+enum-told-7 c = c .match .keys7
 
 enum-told-8 : tie.Need-enum-told-8
-enum-told-8 c = search needs
+enum-told-8 c = c .match .keys8
 
 enum-told-9 : tie.Need-enum-told-9
-enum-told-9 c = search needs
+enum-told-9 c = c .match .keys9
 
 nor-requires : tie.Need-nor-requires
 nor-requires c κs = tt
 
 enum-told-10 : tie.Need-enum-told-10
-enum-told-10 c = search needs
+enum-told-10 c = c .match .keys10
 
 shift-left-requires-2 : tie.Need-shift-left-requires-2
 shift-left-requires-2 c κs = tt
@@ -58,7 +58,7 @@ add-requires-2 : tie.Need-add-requires-2
 add-requires-2 c κs = tt
 
 enum-told-11 : tie.Need-enum-told-11
-enum-told-11 c = search needs
+enum-told-11 c = c .match .keys11
 
 shift-left-requires-3 : tie.Need-shift-left-requires-3
 shift-left-requires-3 c κs = tt

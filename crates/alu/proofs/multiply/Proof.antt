@@ -4,13 +4,13 @@ use Rattle.alu.proofs.multiply.Statement.{statement}
 use Rattle.alu.proofs.multiply.Tie as tie
 
 enum-told : tie.Need-enum-told
-enum-told c = search needs
+enum-told c = c .match .keys1
 
 product-signed-requires : tie.Need-product-signed-requires
 product-signed-requires c κs = tt
 
 enum-told-2 : tie.Need-enum-told-2
-enum-told-2 c = search needs
+enum-told-2 c = c .match .keys2
 
 product-requires : tie.Need-product-requires
 product-requires c κs = tt

@@ -9,7 +9,7 @@ long-requires : tie.Need-long-requires
 long-requires c κs = tt
 
 enum-known-operation : tie.Need-enum-known-operation
-enum-known-operation c = search needs
+enum-known-operation c = c .match .keys1
 
 guard-of-requires : tie.Need-guard-of-requires
 guard-of-requires c κs = tt
@@ -18,16 +18,16 @@ returns : tie.Need-returns
 returns c = rw (decode-by-long (c .before .before .before .before .before .args .first) (c .before .before .before .before .before .args .second) _ (sym (c .before .before .before .before .long .ensures)), c .before .before .operation .given .1, c .guard-of .ensures)
 
 enum-told : tie.Need-enum-told
-enum-told c = search needs
+enum-told c = c .match .keys2
 
 slot-one-requires : tie.Need-slot-one-requires
 slot-one-requires c κs = tt
 
 enum-known-operation-2 : tie.Need-enum-known-operation-2
-enum-known-operation-2 c = search needs
+enum-known-operation-2 c = c .match2 .keys1
 
 enum-told-2 : tie.Need-enum-told-2
-enum-told-2 c = search needs
+enum-told-2 c = c .match2 .keys2
 
 returns-2 : tie.Need-returns-2
 returns-2 c = rw (decode-by-long (c .before .before .before .before .before .before .args .first) (c .before .before .before .before .before .before .args .second) _ (sym (c .before .before .before .before .before .long .ensures)), c .before .before .before .enum-told .given .1, ← c .before .before .slot-one .ensures, c .enum-told2 .given .1) (sym (either-way (isTwoWords (c .before .before .before .before .before .before .args .first)) _))
@@ -45,10 +45,10 @@ slot-two-requires : tie.Need-slot-two-requires
 slot-two-requires c κs = tt
 
 enum-known-other : tie.Need-enum-known-other
-enum-known-other c = search needs
+enum-known-other c = c .match3 .keys1
 
 enum-told-3 : tie.Need-enum-told-3
-enum-told-3 c = search needs
+enum-told-3 c = c .match3 .keys2
 
 returns-4 : tie.Need-returns-4
 returns-4 c = rw (decode-by-long (c .before .before .before .before .before .before .before .before .before .before .before .before .before .args .first) (c .before .before .before .before .before .before .before .before .before .before .before .before .before .args .second) _ (sym (c .before .before .before .before .before .before .before .before .before .before .before .before .long .ensures)), c .before .before .before .before .before .before .before .before .before .before .enum-told .given .1, ← c .before .before .before .before .before .before .before .before .before .slot-one .ensures, c .before .before .before .before .before .before .before .operation2 .given .1, words-two (c .before .before .before .before .before .before .before .before .before .before .before .before .before .args .first) (rw (c .before .before .before .before .bundle-words .ensures) at (c .before .before .before .if1 .left)), ← c .before .before .slot-two .ensures, c .enum-told3 .given .1)

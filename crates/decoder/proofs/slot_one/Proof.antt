@@ -7,14 +7,14 @@ read-alu-requires : tie.Need-read-alu-requires
 read-alu-requires c κs = tt
 
 enum-known-operation : tie.Need-enum-known-operation
-enum-known-operation c = search needs
+enum-known-operation c = c .match .keys1
 
 returns : tie.Need-returns
 unfolding slotOne
 returns c = rw (← c .before .before .before .read-alu .ensures, c .before .operation .given .1)
 
 enum-told : tie.Need-enum-told
-enum-told c = search needs
+enum-told c = c .match .keys2
 
 read-first-requires : tie.Need-read-first-requires
 read-first-requires c κs = tt

@@ -1,5 +1,5 @@
 use mathlib.Core.Path.{ap}
-use Rattle.machine.specs.declared.state.State.{State}
+use Rattle.machine.specs.declared.State.{State}
 use Rattle.machine.specs.Bundle.{outcome}
 use Rattle.run.specs.Run.{returned}
 use borrow.Author.Needs.{needs}

@@ -4,7 +4,7 @@ use native.Mathlib.Omega.{arith}
 use borrow.Author.Needs.{needs}
 use lib.ListN.{length}
 use Rattle.memory.specs.Access.{buffers}
-use Rattle.machine.specs.declared.state.State.{State}
+use Rattle.machine.specs.declared.State.{State}
 use Rattle.machine.specs.Core.{joined, steppedAs}
 use Rattle.run.specs.Run.{counted, run}
 use Rattle.run.specs.RunLaws.{Few, few-none, few-more, few-fit, counted-none}

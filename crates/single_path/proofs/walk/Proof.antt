@@ -1,13 +1,11 @@
-use Rattle.single_path.specs.Rules.{keeps}
 use Rattle.single_path.specs.LoopLaws.{inside-end, walk-none, walk-end, walk-outside, walk-undecodable, walk-broken, walk-next}
-use Rattle.single_path.specs.Found.{right, found-keeps, found-breaks}
+use Rattle.single_path.specs.FoundLaws.{found-undecodable, found-keeps, found-breaks}
 use Prim.Native.Nat.{_≤_, _/_, _+_, _-_}
 use mathlib.Core.Bool.{true, false}
 use mathlib.Core.Path.{_≡_, refl, sym, _∙_}
 use native.Mathlib.Omega.{arith}
 use borrow.Author.Needs.{needs}
 use lib.ListN.{length}
-use Rattle.effects.specs.Effect.{isUndecodable}
 use Rattle.machine.specs.Refusal.{outsideCode}
 use Rattle.machine.specs.Bundle.{bundleAt}
 use Rattle.single_path.specs.Check.{walkFrom}
@@ -49,7 +47,7 @@ cast-if2 : tie.Need-cast-if2 Inv-loop μ-loop
 cast-if2 c = search needs
 
 returns-2 : tie.Need-returns-2 Inv-loop μ-loop
-unfolding outsideCode right
+unfolding outsideCode
 returns-2 c = let l = c .before .before .before .before .before .loop in
     let k = c .before .before .before .before .before .before .before .args .code .now in
     let m = c .before .before .before .before .before .before .before .args .marking in
@@ -62,56 +60,51 @@ add-read-word c = omega (arith, c .before .before .before .before .before .loop 
 read-word-requires-2 : tie.Need-read-word-requires-2 Inv-loop μ-loop
 read-word-requires-2 c κs = tt
 
-decode-requires : tie.Need-decode-requires Inv-loop μ-loop
-decode-requires c κs = tt
-
-is-undecodable-requires : tie.Need-is-undecodable-requires Inv-loop μ-loop
-is-undecodable-requires c κs = tt
-
-returns-3 : tie.Need-returns-3 Inv-loop μ-loop
-unfolding outsideCode right
-returns-3 c = let l = c .before .before .before .before .before .before .before .before .before .loop in
-    let k = c .before .before .before .before .before .before .before .before .before .before .before .args .code .now in
-    let m = c .before .before .before .before .before .before .before .before .before .before .before .args .marking in
-    let o : outsideCode k (l .address) ≡ false = rw (← c .before .before .before .before .before .before .read-word .ensures, ← c .before .before .before .before .before .bundle-bytes .ensures .0) (c .before .before .before .before .if2 .left) in
-    let u : isUndecodable (bundleAt k (l .address)) ≡ true = rw (← c .before .before .before .before .before .before .read-word .ensures, ← c .before .before .before .read-word2 .ensures, ← c .before .before .decode .ensures, ← c .before .is-undecodable .ensures) (c .if3 .taken) in
-    (sym (walk-undecodable m k (l .left) (l .address) (c .before .before .before .before .before .before .before .before .loop-test .taken) (c .before .before .before .before .before .before .before .if1 .left) o u) ∙ l .inv .2, refl)
-
-broken-rule-requires : tie.Need-broken-rule-requires Inv-loop μ-loop
-broken-rule-requires c κs = tt
-
-enum-known-rule : tie.Need-enum-known-rule Inv-loop μ-loop
-enum-known-rule c = search needs
-
-returns-4 : tie.Need-returns-4 Inv-loop μ-loop
-unfolding outsideCode right
-returns-4 c = let l = c .before .before .before .before .before .before .before .before .before .before .before .before .before .loop in
-    let k = c .before .before .before .before .before .before .before .before .before .before .before .before .before .before .before .args .code .now in
-    let m = c .before .before .before .before .before .before .before .before .before .before .before .before .before .before .before .args .marking in
-    let o : outsideCode k (l .address) ≡ false = rw (← c .before .before .before .before .before .before .before .before .before .before .read-word .ensures, ← c .before .before .before .before .before .before .before .before .before .bundle-bytes .ensures .0) (c .before .before .before .before .before .before .before .before .if2 .left) in
-    let u : isUndecodable (bundleAt k (l .address)) ≡ false = rw (← c .before .before .before .before .before .before .before .before .before .before .read-word .ensures, ← c .before .before .before .before .before .before .before .read-word2 .ensures, ← c .before .before .before .before .before .before .decode .ensures, ← c .before .before .before .before .before .is-undecodable .ensures) (c .before .before .before .before .if3 .left) in
-    let r = rw (c .before .rule .given .1, c .before .before .before .before .before .before .decode .ensures, c .before .before .before .before .before .before .before .read-word2 .ensures, c .before .before .before .before .before .before .before .before .before .before .read-word .ensures) at (c .before .before .before .broken-rule .ensures) in
-    (sym (walk-broken m k (l .left) (l .address) (c .before .before .before .before .before .before .before .before .before .before .before .before .loop-test .taken) (c .before .before .before .before .before .before .before .before .before .before .before .if1 .left) o u (found-breaks m (bundleAt k (l .address)) _ r)) ∙ l .inv .2, r)
+judge-requires : tie.Need-judge-requires Inv-loop μ-loop
+judge-requires c κs = tt
 
 enum-told : tie.Need-enum-told Inv-loop μ-loop
 enum-told c = search needs
 
+enum-known-rule : tie.Need-enum-known-rule Inv-loop μ-loop
+enum-known-rule c = search needs
+
+returns-3 : tie.Need-returns-3 Inv-loop μ-loop
+unfolding outsideCode
+returns-3 c = let l = c .before .before .before .before .before .before .before .before .before .before .loop in
+    let k = c .before .before .before .before .before .before .before .before .before .before .before .before .args .code .now in
+    let m = c .before .before .before .before .before .before .before .before .before .before .before .before .args .marking in
+    let o : outsideCode k (l .address) ≡ false = rw (← c .before .before .before .before .before .before .before .read-word .ensures, ← c .before .before .before .before .before .before .bundle-bytes .ensures .0) (c .before .before .before .before .before .if2 .left) in
+    let f = found-breaks m (bundleAt k (l .address)) _ (rw (c .before .rule .given .1, c .before .before .before .before .read-word2 .ensures, c .before .before .before .before .before .before .before .read-word .ensures) at (c .before .before .before .judge .ensures)) in
+    (sym (walk-broken m k (l .left) (l .address) (c .before .before .before .before .before .before .before .before .before .loop-test .taken) (c .before .before .before .before .before .before .before .before .if1 .left) o (f .0) (f .1)) ∙ l .inv .2, f .2)
+
+enum-told-2 : tie.Need-enum-told-2 Inv-loop μ-loop
+enum-told-2 c = search needs
+
+returns-4 : tie.Need-returns-4 Inv-loop μ-loop
+unfolding outsideCode
+returns-4 c = let l = c .before .before .before .before .before .before .before .before .before .loop in
+    let k = c .before .before .before .before .before .before .before .before .before .before .before .args .code .now in
+    let m = c .before .before .before .before .before .before .before .before .before .before .before .args .marking in
+    let o : outsideCode k (l .address) ≡ false = rw (← c .before .before .before .before .before .before .read-word .ensures, ← c .before .before .before .before .before .bundle-bytes .ensures .0) (c .before .before .before .before .if2 .left) in
+    let f = found-undecodable m (bundleAt k (l .address)) (rw (c .enum-told2 .given .1, c .before .before .before .read-word2 .ensures, c .before .before .before .before .before .before .read-word .ensures) at (c .before .before .judge .ensures)) in
+    (sym (walk-undecodable m k (l .left) (l .address) (c .before .before .before .before .before .before .before .before .loop-test .taken) (c .before .before .before .before .before .before .before .if1 .left) o f) ∙ l .inv .2, refl)
+
 sub-left : tie.Need-sub-left Inv-loop μ-loop
-sub-left c = omega (arith, c .before .before .before .before .before .before .before .before .before .before .before .loop-test .taken)
+sub-left c = omega (arith, c .before .before .before .before .before .before .before .before .loop-test .taken)
 
 loop-less : tie.Need-loop-less Inv-loop μ-loop
-loop-less c = omega (arith, c .before .before .before .before .before .before .before .before .before .before .before .loop-test .taken)
+loop-less c = omega (arith, c .before .before .before .before .before .before .before .before .loop-test .taken)
 
 loop-again : tie.Need-loop-again Inv-loop μ-loop
-unfolding outsideCode right
-loop-again c = let l = c .before .before .before .before .before .before .before .before .before .before .before .before .loop in
-    let k = c .before .before .before .before .before .before .before .before .before .before .before .before .before .before .args .code .now in
-    let m = c .before .before .before .before .before .before .before .before .before .before .before .before .before .before .args .marking in
-    let o : outsideCode k (l .address) ≡ false = rw (← c .before .before .before .before .before .before .before .before .before .read-word .ensures, ← c .before .before .before .before .before .before .before .before .bundle-bytes .ensures .0) (c .before .before .before .before .before .before .before .if2 .left) in
-    let u : isUndecodable (bundleAt k (l .address)) ≡ false = rw (← c .before .before .before .before .before .before .before .before .before .read-word .ensures, ← c .before .before .before .before .before .before .read-word2 .ensures, ← c .before .before .before .before .before .decode .ensures, ← c .before .before .before .before .is-undecodable .ensures) (c .before .before .before .if3 .left) in
-    let r : keeps m (bundleAt k (l .address)) ≡ true = found-keeps m (bundleAt k (l .address)) (rw (← c .before .before .before .before .before .before .before .before .before .read-word .ensures, ← c .before .before .before .before .before .before .read-word2 .ensures, ← c .before .before .before .before .before .decode .ensures) (rw (c .enum-told .given .1) at (c .before .before .broken-rule .ensures))) in
-    let n = walk-next m k (l .left) (l .address) (c .before .before .before .before .before .before .before .before .before .before .before .loop-test .taken) (c .before .before .before .before .before .before .before .before .before .before .if1 .left) o u r in
-    (omega (arith, l .inv .0), rw (c .before .before .before .before .before .before .before .before .bundle-bytes .ensures .0, c .before .before .before .before .before .before .before .before .before .read-word .ensures) (inside-end k (l .address) o), rw (c .before .before .before .before .before .before .before .before .bundle-bytes .ensures .0, c .before .before .before .before .before .before .before .before .before .read-word .ensures) (sym n) ∙ l .inv .2)
+unfolding outsideCode
+loop-again c = let l = c .before .before .before .before .before .before .before .before .before .loop in
+    let k = c .before .before .before .before .before .before .before .before .before .before .before .args .code .now in
+    let m = c .before .before .before .before .before .before .before .before .before .before .before .args .marking in
+    let o : outsideCode k (l .address) ≡ false = rw (← c .before .before .before .before .before .before .read-word .ensures, ← c .before .before .before .before .before .bundle-bytes .ensures .0) (c .before .before .before .before .if2 .left) in
+    let f = found-keeps m (bundleAt k (l .address)) (rw (c .enum-told .given .1, c .before .before .before .read-word2 .ensures, c .before .before .before .before .before .before .read-word .ensures) at (c .before .before .judge .ensures)) in
+    let n = walk-next m k (l .left) (l .address) (c .before .before .before .before .before .before .before .before .loop-test .taken) (c .before .before .before .before .before .before .before .if1 .left) o (f .0) (f .1) in
+    (omega (arith, l .inv .0), rw (c .before .before .before .before .before .bundle-bytes .ensures .0, c .before .before .before .before .before .before .read-word .ensures) (inside-end k (l .address) o), rw (c .before .before .before .before .before .bundle-bytes .ensures .0, c .before .before .before .before .before .before .read-word .ensures) (sym n) ∙ l .inv .2)
 
 returns-5 : tie.Need-returns-5 Inv-loop μ-loop
 returns-5 c = let l = c .before .loop in
@@ -136,13 +129,12 @@ walk-spec =
     returns-2
     add-read-word
     read-word-requires-2
-    decode-requires
-    is-undecodable-requires
-    returns-3
-    broken-rule-requires
-    enum-known-rule
-    returns-4
+    judge-requires
     enum-told
+    enum-known-rule
+    returns-3
+    enum-told-2
+    returns-4
     sub-left
     loop-less
     loop-again

@@ -1,15 +1,13 @@
 use borrow.Author.Needs.{needs}
-use Prim.Native.Nat.{_≤_, _-_}
-use mathlib.Core.Path.{_≡_, refl}
-use lib.ListN.{length}
+use Prim.Native.Nat.{_-_}
 use Rattle.cases.proofs.changes.put_cache.Statement.{statement}
 use Rattle.cases.proofs.changes.put_cache.Tie as tie
 
 abbrev Inv-loop : tie.InvT-loop
-Inv-loop out₀ used now copy₀ n at₀ i₀ out copy at i = (length out ≡ length out₀) × (length copy ≡ length copy₀)
+Inv-loop cache₀ n i₀ cache i = Unit {0}
 
 abbrev μ-loop : tie.MeasureT-loop
-μ-loop out₀ used now copy₀ n at₀ i₀ out copy at i = n - i
+μ-loop cache₀ n i₀ cache i = n - i
 
 loop-holds : tie.Need-loop-holds Inv-loop μ-loop
 loop-holds c = search needs
@@ -26,12 +24,6 @@ loop-less c = search needs
 loop-again : tie.Need-loop-again Inv-loop μ-loop
 loop-again c = search needs
 
-same-length : tie.Need-same-length Inv-loop μ-loop
-same-length c = search needs
-
-same-length-2 : tie.Need-same-length-2 Inv-loop μ-loop
-same-length-2 c = search needs
-
 returns : tie.Need-returns Inv-loop μ-loop
 returns c = search needs
 
@@ -46,6 +38,4 @@ put-cache-spec =
     add-i
     loop-less
     loop-again
-    same-length
-    same-length-2
     returns)

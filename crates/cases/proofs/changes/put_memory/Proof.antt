@@ -1,33 +1,22 @@
 use borrow.Author.Needs.{needs}
-use Prim.Native.Nat.{_≤_, _-_}
-use mathlib.Core.Path.{_≡_, refl}
-use lib.ListN.{length}
+use Prim.Native.Nat.{_-_}
 use Rattle.cases.proofs.changes.put_memory.Statement.{statement}
 use Rattle.cases.proofs.changes.put_memory.Tie as tie
 
 abbrev Inv-loop : tie.InvT-loop
-Inv-loop out₀ used label now copy₀ n end at₀ i₀ out copy at i = (length out ≡ length out₀) × (length copy ≡ length copy₀)
+Inv-loop label memory₀ n end i₀ memory i = Unit {0}
 
 abbrev μ-loop : tie.MeasureT-loop
-μ-loop out₀ used label now copy₀ n end at₀ i₀ out copy at i = end - i
+μ-loop label memory₀ n end i₀ memory i = end - i
 
 least-requires : tie.Need-least-requires Inv-loop μ-loop
 least-requires c κs = tt
-
-least-requires-2 : tie.Need-least-requires-2 Inv-loop μ-loop
-least-requires-2 c κs = tt
 
 loop-holds : tie.Need-loop-holds Inv-loop μ-loop
 loop-holds c = search needs
 
 first-difference-requires : tie.Need-first-difference-requires Inv-loop μ-loop
 first-difference-requires c κs = tt
-
-same-length : tie.Need-same-length Inv-loop μ-loop
-same-length c = search needs
-
-same-length-2 : tie.Need-same-length-2 Inv-loop μ-loop
-same-length-2 c = search needs
 
 returns : tie.Need-returns Inv-loop μ-loop
 returns c = search needs
@@ -38,8 +27,8 @@ mul-start c = search needs
 add-least : tie.Need-add-least Inv-loop μ-loop
 add-least c = search needs
 
-least-requires-3 : tie.Need-least-requires-3 Inv-loop μ-loop
-least-requires-3 c κs = tt
+least-requires-2 : tie.Need-least-requires-2 Inv-loop μ-loop
+least-requires-2 c κs = tt
 
 put-change-requires : tie.Need-put-change-requires Inv-loop μ-loop
 put-change-requires c κs = tt
@@ -53,12 +42,6 @@ loop-less c = search needs
 loop-again : tie.Need-loop-again Inv-loop μ-loop
 loop-again c = search needs
 
-same-length-3 : tie.Need-same-length-3 Inv-loop μ-loop
-same-length-3 c = search needs
-
-same-length-4 : tie.Need-same-length-4 Inv-loop μ-loop
-same-length-4 c = search needs
-
 returns-2 : tie.Need-returns-2 Inv-loop μ-loop
 returns-2 c = search needs
 
@@ -69,19 +52,14 @@ put-memory-spec =
     Inv-loop
     μ-loop
     least-requires
-    least-requires-2
     loop-holds
     first-difference-requires
-    same-length
-    same-length-2
     returns
     mul-start
     add-least
-    least-requires-3
+    least-requires-2
     put-change-requires
     add-i
     loop-less
     loop-again
-    same-length-3
-    same-length-4
     returns-2)

@@ -1,15 +1,14 @@
 use borrow.Author.Needs.{needs}
-use Prim.Native.Nat.{_≤_, _-_}
-use mathlib.Core.Path.{_≡_, refl}
+use Prim.Native.Nat.{_-_}
 use lib.ListN.{length}
 use Rattle.cases.proofs.output.put.Statement.{statement}
 use Rattle.cases.proofs.output.put.Tie as tie
 
 abbrev Inv-loop : tie.InvT-loop
-Inv-loop out₀ used s at₀ i₀ out at i = (i ≤ length s) × (length out ≡ length out₀)
+Inv-loop text₀ used s at₀ i₀ text at i = Unit {0}
 
 abbrev μ-loop : tie.MeasureT-loop
-μ-loop out₀ used s at₀ i₀ out at i = length s - i
+μ-loop text₀ used s at₀ i₀ text at i = length s - i
 
 loop-holds : tie.Need-loop-holds Inv-loop μ-loop
 loop-holds c = search needs
@@ -29,9 +28,6 @@ loop-less c = search needs
 loop-again : tie.Need-loop-again Inv-loop μ-loop
 loop-again c = search needs
 
-same-length : tie.Need-same-length Inv-loop μ-loop
-same-length c = search needs
-
 returns : tie.Need-returns Inv-loop μ-loop
 returns c = search needs
 
@@ -47,5 +43,4 @@ put-spec =
     add-i
     loop-less
     loop-again
-    same-length
     returns)

@@ -4,46 +4,46 @@ use Rattle.cases.proofs.places.first_outside.Statement.{statement}
 use Rattle.cases.proofs.places.first_outside.Tie as tie
 
 abbrev Inv-loop : tie.InvT-loop
-Inv-loop notes count main local words most i₀ i = Unit {0}
+Inv-loop kept noted i₀ i = Unit {0}
 
 abbrev μ-loop : tie.MeasureT-loop
-μ-loop notes count main local words most i₀ i = most - i
+μ-loop kept noted i₀ i = noted - i
 
-least-requires : tie.Need-least-requires Inv-loop μ-loop
-least-requires c κs = tt
+number-requires : tie.Need-number-requires Inv-loop μ-loop
+number-requires c κs = tt
 
 loop-holds : tie.Need-loop-holds Inv-loop μ-loop
 loop-holds c = search needs
 
-mul-number-at : tie.Need-mul-number-at Inv-loop μ-loop
-mul-number-at c = search needs
-
-number-at-requires : tie.Need-number-at-requires Inv-loop μ-loop
-number-at-requires c κs = tt
-
-mul-number-at-2 : tie.Need-mul-number-at-2 Inv-loop μ-loop
-mul-number-at-2 c = search needs
-
-add-number-at : tie.Need-add-number-at Inv-loop μ-loop
-add-number-at c = search needs
-
-number-at-requires-2 : tie.Need-number-at-requires-2 Inv-loop μ-loop
-number-at-requires-2 c κs = tt
-
-size-requires : tie.Need-size-requires Inv-loop μ-loop
-size-requires c κs = tt
-
-mul-number-at-3 : tie.Need-mul-number-at-3 Inv-loop μ-loop
-mul-number-at-3 c = search needs
-
-add-number-at-2 : tie.Need-add-number-at-2 Inv-loop μ-loop
-add-number-at-2 c = search needs
-
-number-at-requires-3 : tie.Need-number-at-requires-3 Inv-loop μ-loop
-number-at-requires-3 c κs = tt
-
 returns : tie.Need-returns Inv-loop μ-loop
 returns c = search needs
+
+mul-at : tie.Need-mul-at Inv-loop μ-loop
+mul-at c = search needs
+
+add-at : tie.Need-add-at Inv-loop μ-loop
+add-at c = search needs
+
+number-requires-2 : tie.Need-number-requires-2 Inv-loop μ-loop
+number-requires-2 c κs = tt
+
+number-requires-3 : tie.Need-number-requires-3 Inv-loop μ-loop
+number-requires-3 c κs = tt
+
+add-number : tie.Need-add-number Inv-loop μ-loop
+add-number c = search needs
+
+number-requires-4 : tie.Need-number-requires-4 Inv-loop μ-loop
+number-requires-4 c κs = tt
+
+add-number-2 : tie.Need-add-number-2 Inv-loop μ-loop
+add-number-2 c = search needs
+
+number-requires-5 : tie.Need-number-requires-5 Inv-loop μ-loop
+number-requires-5 c κs = tt
+
+returns-2 : tie.Need-returns-2 Inv-loop μ-loop
+returns-2 c = search needs
 
 add-i : tie.Need-add-i Inv-loop μ-loop
 add-i c = search needs
@@ -54,8 +54,8 @@ loop-less c = search needs
 loop-again : tie.Need-loop-again Inv-loop μ-loop
 loop-again c = search needs
 
-returns-2 : tie.Need-returns-2 Inv-loop μ-loop
-returns-2 c = search needs
+returns-3 : tie.Need-returns-3 Inv-loop μ-loop
+returns-3 c = search needs
 
 pub first-outside-spec : {M : Type 1} → statement M
 first-outside-spec =
@@ -63,19 +63,19 @@ first-outside-spec =
     (tie.spec
     Inv-loop
     μ-loop
-    least-requires
+    number-requires
     loop-holds
-    mul-number-at
-    number-at-requires
-    mul-number-at-2
-    add-number-at
-    number-at-requires-2
-    size-requires
-    mul-number-at-3
-    add-number-at-2
-    number-at-requires-3
     returns
+    mul-at
+    add-at
+    number-requires-2
+    number-requires-3
+    add-number
+    number-requires-4
+    add-number-2
+    number-requires-5
+    returns-2
     add-i
     loop-less
     loop-again
-    returns-2)
+    returns-3)

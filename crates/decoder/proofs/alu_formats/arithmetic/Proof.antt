@@ -7,10 +7,10 @@ alu-function-requires : tie.Need-alu-function-requires
 alu-function-requires c κs = tt
 
 enum-known-function : tie.Need-enum-known-function
-enum-known-function c = search needs
+enum-known-function c = c .match .keys1
 
 enum-told : tie.Need-enum-told
-enum-told c = search needs
+enum-told c = c .match .keys2
 
 returns : tie.Need-returns
 returns c = rw (row-then, ← c .before .before .alu-function .ensures, c .enum-told .given .1)

@@ -17,10 +17,10 @@ multiply-function-requires : tie.Need-multiply-function-requires
 multiply-function-requires c κs = tt
 
 enum-known-function : tie.Need-enum-known-function
-enum-known-function c = search needs
+enum-known-function c = c .match .keys1
 
 enum-told : tie.Need-enum-told
-enum-told c = search needs
+enum-told c = c .match .keys2
 
 returns-2 : tie.Need-returns-2
 unfolding reading

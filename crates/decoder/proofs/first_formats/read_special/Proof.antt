@@ -13,10 +13,10 @@ special-requires : tie.Need-special-requires
 special-requires c κs = tt
 
 enum-known-special : tie.Need-enum-known-special
-enum-known-special c = search needs
+enum-known-special c = c .match .keys1
 
 enum-told : tie.Need-enum-told
-enum-told c = search needs
+enum-told c = c .match .keys2
 
 returns : tie.Need-returns
 unfolding reading
@@ -30,10 +30,10 @@ special-requires-2 : tie.Need-special-requires-2
 special-requires-2 c κs = tt
 
 enum-known-special-2 : tie.Need-enum-known-special-2
-enum-known-special-2 c = search needs
+enum-known-special-2 c = c .match2 .keys1
 
 enum-told-2 : tie.Need-enum-told-2
-enum-told-2 c = search needs
+enum-told-2 c = c .match2 .keys2
 
 returns-3 : tie.Need-returns-3
 unfolding reading

@@ -13,10 +13,10 @@ store-width-requires : tie.Need-store-width-requires
 store-width-requires c κs = tt
 
 enum-known-width : tie.Need-enum-known-width
-enum-known-width c = search needs
+enum-known-width c = c .match .keys1
 
 enum-told : tie.Need-enum-told
-enum-told c = search needs
+enum-told c = c .match .keys2
 
 returns : tie.Need-returns
 unfolding reading

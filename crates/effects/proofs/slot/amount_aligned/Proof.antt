@@ -4,10 +4,10 @@ use Rattle.effects.proofs.slot.amount_aligned.Statement.{statement}
 use Rattle.effects.proofs.slot.amount_aligned.Tie as tie
 
 enum-told : tie.Need-enum-told
-enum-told c = search needs
+enum-told c = c .match .keys1
 
 enum-known-a : tie.Need-enum-known-a
-enum-known-a c = search needs
+enum-known-a c = c .match .keys2
 
 register-requires : tie.Need-register-requires
 register-requires c κs = tt

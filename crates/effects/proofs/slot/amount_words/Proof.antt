@@ -4,10 +4,10 @@ use Rattle.effects.proofs.slot.amount_words.Statement.{statement}
 use Rattle.effects.proofs.slot.amount_words.Tie as tie
 
 enum-known-a : tie.Need-enum-known-a
-enum-known-a c = search needs
+enum-known-a c = c .match .keys1
 
 enum-known-a-2 : tie.Need-enum-known-a-2
-enum-known-a-2 c = search needs
+enum-known-a-2 c = c .match .keys2
 
 register-requires : tie.Need-register-requires
 register-requires c κs = tt

@@ -4,7 +4,7 @@ use Rattle.effects.proofs.slot.effect.Statement.{statement}
 use Rattle.effects.proofs.slot.effect.Tie as tie
 
 enum-known-o : tie.Need-enum-known-o
-enum-known-o c = search needs
+enum-known-o c = c .match .keys1
 
 slice-aggregate-alu-effect : tie.Need-slice-aggregate-alu-effect
 slice-aggregate-alu-effect c = search needs
@@ -13,7 +13,7 @@ alu-effect-requires : tie.Need-alu-effect-requires
 alu-effect-requires c κs = tt
 
 enum-known-o-2 : tie.Need-enum-known-o-2
-enum-known-o-2 c = search needs
+enum-known-o-2 c = c .match .keys2
 
 register-requires : tie.Need-register-requires
 register-requires c κs = tt
@@ -31,19 +31,19 @@ cast-t34 : tie.Need-cast-t34
 cast-t34 c = search needs
 
 enum-known-o-3 : tie.Need-enum-known-o-3
-enum-known-o-3 c = search needs
+enum-known-o-3 c = c .match .keys3
 
 register-requires-3 : tie.Need-register-requires-3
 register-requires-3 c κs = tt
 
 enum-known-o-4 : tie.Need-enum-known-o-4
-enum-known-o-4 c = search needs
+enum-known-o-4 c = c .match .keys4
 
 read-special-requires : tie.Need-read-special-requires
 read-special-requires c κs = tt
 
 enum-known-o-5 : tie.Need-enum-known-o-5
-enum-known-o-5 c = search needs
+enum-known-o-5 c = c .match .keys5
 
 load-scale-requires : tie.Need-load-scale-requires
 load-scale-requires c κs = tt
@@ -52,7 +52,7 @@ address-requires : tie.Need-address-requires
 address-requires c κs = tt
 
 enum-known-o-6 : tie.Need-enum-known-o-6
-enum-known-o-6 c = search needs
+enum-known-o-6 c = c .match .keys6
 
 store-scale-requires : tie.Need-store-scale-requires
 store-scale-requires c κs = tt
@@ -64,22 +64,22 @@ register-requires-4 : tie.Need-register-requires-4
 register-requires-4 c κs = tt
 
 enum-known-o-7 : tie.Need-enum-known-o-7
-enum-known-o-7 c = search needs
+enum-known-o-7 c = c .match .keys7
 
 stack-effect-requires : tie.Need-stack-effect-requires
 stack-effect-requires c κs = tt
 
 enum-known-o-8 : tie.Need-enum-known-o-8
-enum-known-o-8 c = search needs
+enum-known-o-8 c = c .match .keys8
 
 transfer-of-requires : tie.Need-transfer-of-requires
 transfer-of-requires c κs = tt
 
 enum-told : tie.Need-enum-told
-enum-told c = search needs
+enum-told c = c .match .keys9
 
 enum-told-2 : tie.Need-enum-told-2
-enum-told-2 c = search needs
+enum-told-2 c = c .match .keys10
 
 returns : tie.Need-returns
 unfolding effectOf

@@ -9,10 +9,10 @@ first-slot-requires : tie.Need-first-slot-requires
 first-slot-requires c κs = tt
 
 enum-told : tie.Need-enum-told
-enum-told c = search needs
+enum-told c = c .match .keys1
 
 enum-known-i : tie.Need-enum-known-i
-enum-known-i c = search needs
+enum-known-i c = c .match .keys2
 
 slot-one-requires : tie.Need-slot-one-requires
 slot-one-requires c κs = tt

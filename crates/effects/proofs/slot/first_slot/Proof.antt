@@ -3,16 +3,16 @@ use Rattle.effects.proofs.slot.first_slot.Statement.{statement}
 use Rattle.effects.proofs.slot.first_slot.Tie as tie
 
 enum-told : tie.Need-enum-told
-enum-told c = search needs
+enum-told c = c .match .keys1
 
 enum-known-b : tie.Need-enum-known-b
-enum-known-b c = search needs
+enum-known-b c = c .match .keys2
 
 enum-known-b-2 : tie.Need-enum-known-b-2
-enum-known-b-2 c = search needs
+enum-known-b-2 c = c .match .keys3
 
 enum-known-b-3 : tie.Need-enum-known-b-3
-enum-known-b-3 c = search needs
+enum-known-b-3 c = c .match .keys4
 
 returns : tie.Need-returns
 returns c = rw (c .enum-told .given .1)

@@ -3,19 +3,19 @@ use Rattle.effects.proofs.slot.second.Statement.{statement}
 use Rattle.effects.proofs.slot.second.Tie as tie
 
 enum-told : tie.Need-enum-told
-enum-told c = search needs
+enum-told c = c .match .keys1
 
 enum-told-2 : tie.Need-enum-told-2
-enum-told-2 c = search needs
+enum-told-2 c = c .match .keys2
 
 enum-known-b : tie.Need-enum-known-b
-enum-known-b c = search needs
+enum-known-b c = c .match .keys3
 
 slot-two-requires : tie.Need-slot-two-requires
 slot-two-requires c κs = tt
 
 enum-told-3 : tie.Need-enum-told-3
-enum-told-3 c = search needs
+enum-told-3 c = c .match .keys4
 
 returns : tie.Need-returns
 returns c = λ x f. rw (c .enum-told .given .1)

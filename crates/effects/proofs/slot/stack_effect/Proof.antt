@@ -4,10 +4,10 @@ use Rattle.effects.proofs.slot.stack_effect.Statement.{statement}
 use Rattle.effects.proofs.slot.stack_effect.Tie as tie
 
 enum-known-o : tie.Need-enum-known-o
-enum-known-o c = search needs
+enum-known-o c = c .match .keys1
 
 enum-known-o-2 : tie.Need-enum-known-o-2
-enum-known-o-2 c = search needs
+enum-known-o-2 c = c .match .keys2
 
 amount-words-requires : tie.Need-amount-words-requires
 amount-words-requires c κs = tt
@@ -16,10 +16,10 @@ amount-aligned-requires : tie.Need-amount-aligned-requires
 amount-aligned-requires c κs = tt
 
 enum-known-o-3 : tie.Need-enum-known-o-3
-enum-known-o-3 c = search needs
+enum-known-o-3 c = c .match .keys3
 
 enum-known-o-4 : tie.Need-enum-known-o-4
-enum-known-o-4 c = search needs
+enum-known-o-4 c = c .match .keys4
 
 amount-words-requires-2 : tie.Need-amount-words-requires-2
 amount-words-requires-2 c κs = tt

@@ -6,19 +6,19 @@ use Rattle.effects.proofs.slot.transfer_of.Statement.{statement}
 use Rattle.effects.proofs.slot.transfer_of.Tie as tie
 
 enum-known-t : tie.Need-enum-known-t
-enum-known-t c = search needs
+enum-known-t c = c .match .keys1
 
 shift-left-requires : tie.Need-shift-left-requires
 shift-left-requires c κs = tt
 
 enum-known-t-2 : tie.Need-enum-known-t-2
-enum-known-t-2 c = search needs
+enum-known-t-2 c = c .match .keys2
 
 register-requires : tie.Need-register-requires
 register-requires c κs = tt
 
 enum-known-t-3 : tie.Need-enum-known-t-3
-enum-known-t-3 c = search needs
+enum-known-t-3 c = c .match .keys3
 
 unsigned-requires : tie.Need-unsigned-requires
 unsigned-requires c κs = tt
@@ -30,19 +30,19 @@ add-requires : tie.Need-add-requires
 add-requires c κs = tt
 
 enum-known-t-4 : tie.Need-enum-known-t-4
-enum-known-t-4 c = search needs
+enum-known-t-4 c = c .match .keys4
 
 register-requires-2 : tie.Need-register-requires-2
 register-requires-2 c κs = tt
 
 enum-known-t-5 : tie.Need-enum-known-t-5
-enum-known-t-5 c = search needs
+enum-known-t-5 c = c .match .keys5
 
 shift-left-requires-3 : tie.Need-shift-left-requires-3
 shift-left-requires-3 c κs = tt
 
 enum-known-t-6 : tie.Need-enum-known-t-6
-enum-known-t-6 c = search needs
+enum-known-t-6 c = c .match .keys6
 
 register-requires-3 : tie.Need-register-requires-3
 register-requires-3 c κs = tt
@@ -54,7 +54,7 @@ add-requires-2 : tie.Need-add-requires-2
 add-requires-2 c κs = tt
 
 enum-told : tie.Need-enum-told
-enum-told c = search needs
+enum-told c = c .match .keys7
 
 add-requires-3 : tie.Need-add-requires-3
 add-requires-3 c κs = tt

@@ -3,10 +3,10 @@ use Rattle.machine.proofs.bundle.load_ok.Statement.{statement}
 use Rattle.machine.proofs.bundle.load_ok.Tie as tie
 
 enum-told : tie.Need-enum-told
-enum-told c = search needs
+enum-told c = c .match .keys1
 
 enum-known-l : tie.Need-enum-known-l
-enum-known-l c = search needs
+enum-known-l c = c .match .keys2
 
 returns : tie.Need-returns
 returns c = search needs

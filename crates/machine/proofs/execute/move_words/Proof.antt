@@ -1,4 +1,4 @@
-use mathlib.Core.Path.{_≡_, sym}
+use mathlib.Core.Path.{refl, _≡_, sym}
 use Prim.Native.Nat.{_-_}
 use borrow.Rule.Slice.PartMut.{post-is, put-same}
 use Rattle.stack_cache.specs.Stack.{below, above, spilled, filled}
@@ -22,7 +22,7 @@ same-length : tie.Need-same-length
 same-length c = search needs
 
 same-length-2 : tie.Need-same-length-2
-same-length-2 c = search needs
+same-length-2 c = refl
 
 returns : tie.Need-returns
 unfolding below above spilled filled
@@ -41,7 +41,7 @@ fill-requires : tie.Need-fill-requires
 fill-requires c κs = tt
 
 same-length-3 : tie.Need-same-length-3
-same-length-3 c = search needs
+same-length-3 c = refl
 
 same-length-4 : tie.Need-same-length-4
 same-length-4 c = search needs

@@ -4,13 +4,13 @@ use Rattle.machine.proofs.step.delay_slots.Statement.{statement}
 use Rattle.machine.proofs.step.delay_slots.Tie as tie
 
 enum-told : tie.Need-enum-told
-enum-told c = search needs
+enum-told c = c .match .keys1
 
 enum-told-2 : tie.Need-enum-told-2
-enum-told-2 c = search needs
+enum-told-2 c = c .match .keys2
 
 enum-told-3 : tie.Need-enum-told-3
-enum-told-3 c = search needs
+enum-told-3 c = c .match .keys3
 
 returns : tie.Need-returns
 unfolding delaySlots

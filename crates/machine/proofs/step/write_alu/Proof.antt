@@ -10,16 +10,16 @@ use Rattle.machine.proofs.step.write_alu.Statement.{statement}
 use Rattle.machine.proofs.step.write_alu.Tie as tie
 
 enum-told : tie.Need-enum-told
-enum-told c = search needs
+enum-told c = c .match .keys1
 
 enum-known-e : tie.Need-enum-known-e
-enum-known-e c = search needs
+enum-known-e c = c .match .keys2
 
 write-register-requires : tie.Need-write-register-requires
 write-register-requires c κs = tt
 
 enum-known-e-2 : tie.Need-enum-known-e-2
-enum-known-e-2 c = search needs
+enum-known-e-2 c = c .match .keys3
 
 write-predicate-requires : tie.Need-write-predicate-requires
 write-predicate-requires c κs = tt

@@ -4,25 +4,25 @@ use Rattle.memory.proofs.access.load.Statement.{statement}
 use Rattle.memory.proofs.access.load.Tie as tie
 
 enum-told : tie.Need-enum-told
-enum-told c = search needs
+enum-told c = c .match .keys1
 
 load-cache-requires : tie.Need-load-cache-requires
 load-cache-requires c κs = tt
 
 enum-told-2 : tie.Need-enum-told-2
-enum-told-2 c = search needs
+enum-told-2 c = c .match .keys2
 
 load-bytes-requires : tie.Need-load-bytes-requires
 load-bytes-requires c κs = tt
 
 enum-told-3 : tie.Need-enum-told-3
-enum-told-3 c = search needs
+enum-told-3 c = c .match .keys3
 
 load-bytes-requires-2 : tie.Need-load-bytes-requires-2
 load-bytes-requires-2 c κs = tt
 
 enum-told-4 : tie.Need-enum-told-4
-enum-told-4 c = search needs
+enum-told-4 c = c .match .keys4
 
 load-bytes-requires-3 : tie.Need-load-bytes-requires-3
 load-bytes-requires-3 c κs = tt

@@ -5,13 +5,13 @@ use Rattle.memory.proofs.access.load_bytes.Statement.{statement}
 use Rattle.memory.proofs.access.load_bytes.Tie as tie
 
 enum-told : tie.Need-enum-told
-enum-told c = search needs
+enum-told c = c .match .keys1
 
 read-word-requires : tie.Need-read-word-requires
 read-word-requires c κs = tt
 
 enum-told-2 : tie.Need-enum-told-2
-enum-told-2 c = search needs
+enum-told-2 c = c .match .keys2
 
 read-half-requires : tie.Need-read-half-requires
 read-half-requires c κs = tt
@@ -20,7 +20,7 @@ sign-extend-16-requires : tie.Need-sign-extend-16-requires
 sign-extend-16-requires c κs = tt
 
 enum-told-3 : tie.Need-enum-told-3
-enum-told-3 c = search needs
+enum-told-3 c = c .match .keys3
 
 read-byte-requires : tie.Need-read-byte-requires
 read-byte-requires c κs = tt
@@ -29,13 +29,13 @@ sign-extend-8-requires : tie.Need-sign-extend-8-requires
 sign-extend-8-requires c κs = tt
 
 enum-told-4 : tie.Need-enum-told-4
-enum-told-4 c = search needs
+enum-told-4 c = c .match .keys4
 
 read-half-requires-2 : tie.Need-read-half-requires-2
 read-half-requires-2 c κs = tt
 
 enum-told-5 : tie.Need-enum-told-5
-enum-told-5 c = search needs
+enum-told-5 c = c .match .keys5
 
 read-byte-requires-2 : tie.Need-read-byte-requires-2
 read-byte-requires-2 c κs = tt

@@ -1,28 +1,29 @@
+use mathlib.Core.Path.{refl}
 use Rattle.memory.specs.Access.{stored}
 use borrow.Author.Needs.{needs}
 use Rattle.memory.proofs.access.store.Statement.{statement}
 use Rattle.memory.proofs.access.store.Tie as tie
 
 enum-told : tie.Need-enum-told
-enum-told c = search needs
+enum-told c = c .match .keys1
 
 store-cache-requires : tie.Need-store-cache-requires
 store-cache-requires c κs = tt
 
 enum-told-2 : tie.Need-enum-told-2
-enum-told-2 c = search needs
+enum-told-2 c = c .match .keys2
 
 store-bytes-requires : tie.Need-store-bytes-requires
 store-bytes-requires c κs = tt
 
 enum-told-3 : tie.Need-enum-told-3
-enum-told-3 c = search needs
+enum-told-3 c = c .match .keys3
 
 store-bytes-requires-2 : tie.Need-store-bytes-requires-2
 store-bytes-requires-2 c κs = tt
 
 enum-told-4 : tie.Need-enum-told-4
-enum-told-4 c = search needs
+enum-told-4 c = c .match .keys4
 
 store-bytes-requires-3 : tie.Need-store-bytes-requires-3
 store-bytes-requires-3 c κs = tt

@@ -1,22 +1,23 @@
+use mathlib.Core.Path.{refl}
 use Rattle.memory.specs.Access.{storeScale}
 use borrow.Author.Needs.{needs}
 use Rattle.memory.proofs.access.store_bytes.Statement.{statement}
 use Rattle.memory.proofs.access.store_bytes.Tie as tie
 
 enum-told : tie.Need-enum-told
-enum-told c = search needs
+enum-told c = c .match .keys1
 
 write-word-requires : tie.Need-write-word-requires
 write-word-requires c κs = tt
 
 enum-told-2 : tie.Need-enum-told-2
-enum-told-2 c = search needs
+enum-told-2 c = c .match .keys2
 
 write-half-requires : tie.Need-write-half-requires
 write-half-requires c κs = tt
 
 enum-told-3 : tie.Need-enum-told-3
-enum-told-3 c = search needs
+enum-told-3 c = c .match .keys3
 
 write-byte-requires : tie.Need-write-byte-requires
 write-byte-requires c κs = tt

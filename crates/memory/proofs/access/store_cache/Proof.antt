@@ -1,22 +1,23 @@
+use mathlib.Core.Path.{refl}
 use Rattle.memory.specs.Access.{storeScale}
 use borrow.Author.Needs.{needs}
 use Rattle.memory.proofs.access.store_cache.Statement.{statement}
 use Rattle.memory.proofs.access.store_cache.Tie as tie
 
 enum-told : tie.Need-enum-told
-enum-told c = search needs
+enum-told c = c .match .keys1
 
 store-word-requires : tie.Need-store-word-requires
 store-word-requires c κs = tt
 
 enum-told-2 : tie.Need-enum-told-2
-enum-told-2 c = search needs
+enum-told-2 c = c .match .keys2
 
 store-half-requires : tie.Need-store-half-requires
 store-half-requires c κs = tt
 
 enum-told-3 : tie.Need-enum-told-3
-enum-told-3 c = search needs
+enum-told-3 c = c .match .keys3
 
 store-byte-requires : tie.Need-store-byte-requires
 store-byte-requires c κs = tt

@@ -7,19 +7,19 @@ add-end : tie.Need-add-end
 add-end c = search needs
 
 enum-told : tie.Need-enum-told
-enum-told c = search needs
+enum-told c = c .match .keys1
 
 enum-told-2 : tie.Need-enum-told-2
-enum-told-2 c = search needs
+enum-told-2 c = c .match .keys2
 
 enum-told-3 : tie.Need-enum-told-3
-enum-told-3 c = search needs
+enum-told-3 c = c .match .keys3
 
 main-open-requires : tie.Need-main-open-requires
 main-open-requires c κs = tt
 
 enum-told-4 : tie.Need-enum-told-4
-enum-told-4 c = search needs
+enum-told-4 c = c .match .keys4
 
 main-open-requires-2 : tie.Need-main-open-requires-2
 main-open-requires-2 c κs = tt

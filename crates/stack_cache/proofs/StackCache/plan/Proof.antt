@@ -16,28 +16,28 @@ unfolding planned
 returns c = rw (sym (c .before .bad-window .ensures) ∙ c .if1 .taken)
 
 enum-told : tie.Need-enum-told
-enum-told c = search needs
+enum-told c = c .match .keys1
 
 sres-requires : tie.Need-sres-requires
 sres-requires c κs = let a = c .before .before .before .before .args in
     window (a .self .words) (a .st) (a .ss) (sym (c .before .before .before .bad-window .ensures) ∙ c .before .before .if1 .left)
 
 enum-told-2 : tie.Need-enum-told-2
-enum-told-2 c = search needs
+enum-told-2 c = c .match .keys2
 
 sens-requires : tie.Need-sens-requires
 sens-requires c κs = let a = c .before .before .before .before .args in
     window (a .self .words) (a .st) (a .ss) (sym (c .before .before .before .bad-window .ensures) ∙ c .before .before .if1 .left)
 
 enum-told-3 : tie.Need-enum-told-3
-enum-told-3 c = search needs
+enum-told-3 c = c .match .keys3
 
 sfree-requires : tie.Need-sfree-requires
 sfree-requires c κs = let a = c .before .before .before .before .args in
     window (a .self .words) (a .st) (a .ss) (sym (c .before .before .before .bad-window .ensures) ∙ c .before .before .if1 .left)
 
 enum-told-4 : tie.Need-enum-told-4
-enum-told-4 c = search needs
+enum-told-4 c = c .match .keys4
 
 sspill-requires : tie.Need-sspill-requires
 sspill-requires c κs = let a = c .before .before .before .before .args in

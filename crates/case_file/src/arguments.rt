@@ -1,0 +1,67 @@
+// The fields after a line's keyword.
+use crate::Argument;
+use crate::CodeEntry;
+use crate::Item;
+use crate::PrivateEntry;
+use crate::Reason;
+use crate::keywords::marking_item;
+use text::Number;
+use text::fields::next_field;
+use text::numbers::decimal;
+use text::numbers::word;
+
+// Whether no field is left.
+pub(crate) fn ended(line: &[u8], at: usize) -> bool {
+    let f = next_field(line, at);
+    f.start == f.end
+}
+
+pub(crate) fn number_at(line: &[u8], at: usize) -> Argument {
+    let f = next_field(line, at);
+    let start = f.start;
+    let end = f.end;
+    if start == end {
+        return Argument::Mistake(Reason::FieldMissing);
+    }
+    match decimal(&line[start..end]) {
+        Number::Value(value) => Argument::Value { value, next: end },
+        Number::Bad => Argument::Mistake(Reason::NotANumber),
+    }
+}
+
+pub(crate) fn word_at(line: &[u8], at: usize) -> Argument {
+    let f = next_field(line, at);
+    let start = f.start;
+    let end = f.end;
+    if start == end {
+        return Argument::Mistake(Reason::FieldMissing);
+    }
+    match word(&line[start..end]) {
+        Number::Value(value) => Argument::Value { value, next: end },
+        Number::Bad => Argument::Mistake(Reason::NotAWord),
+    }
+}
+
+pub fn code_entry(line: &[u8], at: usize) -> CodeEntry {
+    if ended(line, at) {
+        return CodeEntry::End;
+    }
+    match word_at(line, at) {
+        Argument::Value { value, next } => CodeEntry::Word { word: value, next },
+        Argument::Mistake(r) => CodeEntry::Mistake(r),
+    }
+}
+
+pub fn private_entry(line: &[u8], at: usize) -> PrivateEntry {
+    let f = next_field(line, at);
+    let start = f.start;
+    let end = f.end;
+    if start == end {
+        return PrivateEntry::End;
+    }
+    let item = marking_item(&line[start..end]);
+    if let Item::Unknown = item {
+        return PrivateEntry::Mistake(Reason::NoSuchItem);
+    }
+    PrivateEntry::Item { item, next: end }
+}

@@ -1,0 +1,18 @@
+// The buffers that are lent from function to function.
+
+// The code, and a piece of the file.
+pub type Bytes = [u8; 65536];
+
+// The bytes of a line.
+pub type LineBytes = [u8; 4000];
+
+// A memory, and from COPY on what it held before the operation.
+pub type Memory = [u8; 131072];
+
+pub const COPY: usize = 65536;
+
+// The stack cache, and from CACHE_COPY on what it held before the operation. There is one word more than the greatest stack
+// cache has, so that a case with more words is lent a cache that is refused.
+pub type Cache = [u32; 1026];
+
+pub const CACHE_COPY: usize = 513;

@@ -1,0 +1,49 @@
+// How much of the buffers a case has.
+use crate::buffers::CACHE_COPY;
+use crate::buffers::COPY;
+use crate::kept::CODE;
+use crate::kept::HI;
+use crate::kept::Kept;
+use crate::kept::LO;
+use crate::kept::LOCAL;
+use crate::kept::MAIN;
+use crate::kept::WORDS;
+use crate::kept::word;
+use crate::output::least;
+ghost use Prim.Native.Nat.{_≤_};
+
+// The bytes of the code and the memories, how many words of the cache are lent, and the stack area.
+pub struct Extents {
+    pub code: usize,
+    pub main: usize,
+    pub local: usize,
+    pub words: usize,
+    pub lo: u32,
+    pub hi: u32,
+}
+
+fn bytes_of(kept: &Kept, length: usize) -> usize
+    ensures { λ r. ⌜ r ≤ 65536 ⌝ }
+{
+    least(word(kept, length) as usize, COPY)
+}
+
+// More than 512 words are refused, whatever their number.
+fn words_of(kept: &Kept) -> usize
+    ensures { λ r. ⌜ r ≤ 513 ⌝ }
+{
+    least(word(kept, WORDS) as usize, CACHE_COPY)
+}
+
+pub fn extents_of(kept: &Kept) -> Extents
+    ensures { λ r. ⌜ (r .code ≤ 65536) × (r .main ≤ 65536) × (r .local ≤ 65536) × (r .words ≤ 513) ⌝ }
+{
+    Extents {
+        code: bytes_of(kept, CODE),
+        main: bytes_of(kept, MAIN),
+        local: bytes_of(kept, LOCAL),
+        words: words_of(kept),
+        lo: word(kept, LO),
+        hi: word(kept, HI),
+    }
+}

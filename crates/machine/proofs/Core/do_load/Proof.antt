@@ -1,0 +1,62 @@
+use Prim.Native.Nat.{ℕ}
+use mathlib.Core.List.{List}
+use mathlib.Core.Bool.{Bool}
+use mathlib.Core.Path.{_≡_, refl, sym, ap, _∙_}
+use Rattle.machine.specs.Bundle.{written, writeOne, buffersAfter, writeAlu, nearer, full}
+use Rattle.machine.specs.Execute.{executed, doneWith}
+use Rattle.machine.specs.declared.Stepped.{Stepped}
+use Rattle.machine.specs.declared.State.{State}
+use Rattle.machine.specs.State.{withLoad, landed, withSpecial, withProduct}
+use Rattle.machine.specs.Core.{joined}
+use Rattle.machine.specs.declared.WaitingLoad.the-variants.{Waits}
+use Rattle.machine.specs.ExecuteLaws.{load-tests, full-same}
+use borrow.Author.Needs.{needs}
+use Rattle.machine.proofs.Core.do_load.Statement.{statement}
+use Rattle.machine.proofs.Core.do_load.Tie as tie
+
+judge-load-requires : tie.Need-judge-load-requires
+judge-load-requires c κs = tt
+
+enum-known-number : tie.Need-enum-known-number
+enum-known-number c = c .match .keys1
+
+refused-requires : tie.Need-refused-requires
+refused-requires c κs = tt
+
+returns : tie.Need-returns
+unfolding executed written writeOne buffersAfter
+returns c = rw (load-tests (c .before .before .before .before .before .before .before .before .args .g) (joined (c .before .before .before .before .before .before .before .before .args .registers .now) (c .before .before .before .before .before .before .before .before .args .predicates .now) (c .before .before .before .before .before .before .before .before .args .self)) (c .before .before .before .before .before .before .before .before .args .kind) (c .before .before .before .before .before .before .before .before .args .width) (c .before .before .before .before .before .before .before .before .args .rd) (c .before .before .before .before .before .before .before .before .args .address), ← c .before .before .before .before .judge-load .ensures, c .before .before .number .given .1) (full-same _ _ _ (c .refused .ensures _ _))
+
+enum-told : tie.Need-enum-told
+enum-told c = c .match .keys2
+
+load-requires : tie.Need-load-requires
+load-requires c κs = tt
+
+land-load-requires : tie.Need-land-load-requires
+land-load-requires c κs = tt
+
+with-load-requires : tie.Need-with-load-requires
+with-load-requires c κs = tt
+
+finish-requires : tie.Need-finish-requires
+finish-requires c κs = tt
+
+returns-2 : tie.Need-returns-2
+unfolding executed written writeOne buffersAfter
+returns-2 c = rw (load-tests (c .before .before .before .before .before .before .before .before .before .before .before .before .before .args .g) (joined (c .before .before .before .before .before .before .before .before .before .before .before .before .before .args .registers .now) (c .before .before .before .before .before .before .before .before .before .before .before .before .before .args .predicates .now) (c .before .before .before .before .before .before .before .before .before .before .before .before .before .args .self)) (c .before .before .before .before .before .before .before .before .before .before .before .before .before .args .kind) (c .before .before .before .before .before .before .before .before .before .before .before .before .before .args .width) (c .before .before .before .before .before .before .before .before .before .before .before .before .before .args .rd) (c .before .before .before .before .before .before .before .before .before .before .before .before .before .args .address), ← c .before .before .before .before .before .before .before .before .before .judge-load .ensures, c .before .before .before .before .before .before .before .enum-told .given .1, ← c .before .before .before .before .before .before .load .ensures) (full-same _ _ _ (c .finish .ensures ∙ ap (λ (s : State). doneWith (nearer (c .before .before .before .before .before .before .before .before .before .before .before .before .before .args .self .transfer) (c .before .before .before .before .before .before .before .before .before .before .before .before .before .args .following) (writeAlu (c .before .before .before .before .before .before .before .before .before .before .before .before .before .args .two) s)) 1 0 0) (c .before .before .before .with-load .ensures _ _ ∙ ap (λ (s : State). withLoad s (Waits (c .before .before .before .before .before .before .before .before .before .before .before .before .before .args .rd) (c .before .before .before .before .before .before .load .result))) (c .before .before .before .before .land-load .ensures _))))
+
+pub do-load-spec : {M : Type 1} → statement M
+do-load-spec =
+    tie.close
+    (tie.spec
+    judge-load-requires
+    enum-known-number
+    refused-requires
+    returns
+    enum-told
+    load-requires
+    land-load-requires
+    with-load-requires
+    finish-requires
+    returns-2)

@@ -1,0 +1,45 @@
+use Prim.Native.Nat.{ℕ}
+use mathlib.Core.List.{List}
+use mathlib.Core.Bool.{Bool}
+use mathlib.Core.Path.{_≡_, refl, sym, ap, _∙_}
+use Rattle.machine.specs.declared.State.{State}
+use Rattle.machine.specs.declared.Stepped.{Stepped}
+use Rattle.machine.specs.Bundle.{step, full, outcome, returned}
+use Rattle.machine.specs.ExecuteLaws.{full-same}
+use Rattle.memory.specs.Access.{buffers}
+use borrow.Author.Needs.{needs}
+use Rattle.machine.proofs.State.step.Statement.{statement}
+use Rattle.machine.proofs.State.step.Tie as tie
+
+core-requires : tie.Need-core-requires
+core-requires c κs = tt
+
+step-requires : tie.Need-step-requires
+step-requires c κs = tt
+
+join-requires : tie.Need-join-requires
+join-requires c κs = tt
+
+same-length : tie.Need-same-length
+same-length c = search needs
+
+same-length-2 : tie.Need-same-length-2
+same-length-2 c = search needs
+
+same-length-3 : tie.Need-same-length-3
+same-length-3 c = search needs
+
+returns : tie.Need-returns
+returns c = let a = c .before .before .before .before .before .before .before .before .before .before .before .before .before .before .before .before .before .before .before .before .before .before .args in rw (c .join .ensures) (c .before .before .before .before .before .before .before .before .before .step .ensures ∙ ap (λ (s : State). step (a .code .now) (a .lo) (a .hi) s (buffers (a .main .now) (a .local .now) (a .cache .now))) (c .before .before .before .before .before .before .before .before .before .before .before .before .before .before .before .core .ensures))
+
+pub step-spec : {M : Type 1} → statement M
+step-spec =
+    tie.close
+    (tie.spec
+    core-requires
+    step-requires
+    join-requires
+    same-length
+    same-length-2
+    same-length-3
+    returns)

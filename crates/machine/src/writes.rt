@@ -1,0 +1,107 @@
+// The state beside registers and predicates, by value, and what is done to it. The two arrays are lent.
+ghost use mathlib.Core.Path.{_≡_};
+ghost use mathlib.Core.Bool.{Bool};
+ghost use mathlib.Core.List.{List};
+ghost use Prim.Native.Nat.{ℕ};
+ghost use Rattle.machine.specs.State.{withLoad, landed, goingOn, transferred};
+ghost use Rattle.machine.specs.Core.{joined, putLater};
+use crate::Core;
+use crate::WaitingLoad;
+use crate::WaitingTransfer;
+use effects::Specials;
+use effects::Transfer;
+
+// A register written; r0 stays zero.
+pub(crate) fn write_register(registers: &mut [u32], r: u32, v: u32)
+    ensures { λ _. ⌜ now (registers .exit) ≡ putLater (now (registers .entry)) r v ⌝ }
+{
+    if r == 0 {
+        return;
+    }
+    let k = r as usize;
+    if k < registers.len() {
+        registers[k] = v;
+        return;
+    }
+}
+
+// A predicate written; p0 stays true.
+pub(crate) fn write_predicate(predicates: &mut [bool], p: u32, v: bool)
+    ensures { λ _. ⌜ now (predicates .exit) ≡ putLater (now (predicates .entry)) p v ⌝ }
+{
+    if p == 0 {
+        return;
+    }
+    let k = p as usize;
+    if k < predicates.len() {
+        predicates[k] = v;
+        return;
+    }
+}
+
+impl Core {
+    // The waiting load replaced.
+    pub(crate) fn with_load(self, load: WaitingLoad) -> Core
+        ensures { λ x. ⌜ ((rs : List ℕ) (ps : List Bool) → joined rs ps x ≡ withLoad (joined rs ps self) load) ⌝ }
+    {
+        let specials = self.specials;
+        let transfer = self.transfer;
+        Core {
+            specials,
+            fetch: self.fetch,
+            base: self.base,
+            transfer,
+            load,
+        }
+    }
+
+    // The load waiting from the bundle before is written, and waits no more.
+    pub(crate) fn land_load(self, registers: &mut [u32; 32]) -> Core
+        ensures { λ x. ⌜ ((ps : List Bool) → joined (now (registers .exit)) ps x ≡ landed (joined (now (registers .entry)) ps self)) ⌝ }
+    {
+        let load = self.load;
+        match load {
+            WaitingLoad::Nothing => self,
+            WaitingLoad::Waits { register, value } => {
+                write_register(&mut *registers, register, value);
+                self.with_load(WaitingLoad::Nothing)
+            }
+        }
+    }
+
+    // Going on at an address, with a transfer that waits or none.
+    pub(crate) fn go_on(self, fetch: u32, transfer: WaitingTransfer) -> Core
+        ensures { λ x. ⌜ ((rs : List ℕ) (ps : List Bool) → joined rs ps x ≡ goingOn (joined rs ps self) fetch transfer) ⌝ }
+    {
+        let specials = self.specials;
+        let load = self.load;
+        Core {
+            specials,
+            fetch,
+            base: self.base,
+            transfer,
+            load,
+        }
+    }
+
+    // A transfer carried out at the end of a bundle, whose following address a call keeps, relative to the old base.
+    pub(crate) fn transfer(mut self, transfer: Transfer, following: u32) -> Core
+        ensures { λ x. ⌜ ((rs : List ℕ) (ps : List Bool) → joined rs ps x ≡ transferred (joined rs ps self) transfer following) ⌝ }
+    {
+        match transfer {
+            Transfer::Br { target } => self.go_on(target, WaitingTransfer::Nothing),
+            Transfer::Call { target } => {
+                let base = self.base;
+                let offset = word::arithmetic::sub(following, base);
+                self.specials.srb = base;
+                self.specials.sro = offset;
+                self.base = target;
+                self.go_on(target, WaitingTransfer::Nothing)
+            }
+            Transfer::Block { target, base } => {
+                self.base = base;
+                self.go_on(target, WaitingTransfer::Nothing)
+            }
+        }
+    }
+}

@@ -1,0 +1,25 @@
+use borrow.Author.Needs.{needs}
+use Rattle.marking_rules.proofs.rules.first_found.Statement.{statement}
+use Rattle.marking_rules.proofs.rules.first_found.Tie as tie
+
+enum-told : tie.Need-enum-told
+enum-told c = search needs
+
+enum-known-one : tie.Need-enum-known-one
+enum-known-one c = search needs
+
+enum-told-2 : tie.Need-enum-told-2
+enum-told-2 c = search needs
+
+returns : tie.Need-returns
+returns c = search needs
+
+returns-2 : tie.Need-returns-2
+returns-2 c = rw (c .before .one .given .1)
+
+returns-3 : tie.Need-returns-3
+returns-3 c = search needs
+
+pub first-found-spec : {M : Type 1} → statement M
+first-found-spec =
+    tie.close (tie.spec enum-told enum-known-one enum-told-2 returns returns-2 returns-3)

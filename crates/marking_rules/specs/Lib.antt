@@ -1,0 +1,4 @@
+pub mod Marking
+pub mod Rules
+pub mod RuleLaws
+pub mod Found
