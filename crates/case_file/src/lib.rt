@@ -130,5 +130,4 @@ pub enum Reason {
     TooMuchCode,
     TooMuchMemory,
     PlaceOutside,
-    NoCheck,
 }

@@ -5,7 +5,6 @@ use crate::buffers::LineBytes;
 use crate::buffers::Memory;
 use crate::description_line::describe;
 use crate::input::Found;
-use crate::input::Input;
 use crate::input::look;
 use crate::input::no_input;
 use crate::kept::DESCRIBED;

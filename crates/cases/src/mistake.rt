@@ -44,7 +44,6 @@ pub fn row_of(r: Reason) -> usize {
         Reason::TooMuchCode => TOO_MUCH_CODE,
         Reason::TooMuchMemory => TOO_MUCH_MEMORY,
         Reason::PlaceOutside => PLACE_OUTSIDE,
-        Reason::NoCheck => 20,
     }
 }
 
@@ -86,8 +85,7 @@ fn tell_mistake(row: usize) {
         this line stands once in a case\n\
         code is at most 65536 bytes long\n\
         a memory is at most 65536 bytes long\n\
-        no whole word lies at this place\n\
-        this build has no check\n";
+        no whole word lies at this place\n";
     tell_row(rows, row);
 }
 
