@@ -1,23 +1,11 @@
 // Runs the cases of a case file and writes their report to standard output. Where there is nothing to read, it says so on
 // standard error.
-mod buffers;
-mod changes;
 mod check_code;
-mod clearing;
-mod description;
-mod description_line;
-mod extent;
-mod input;
-mod kept;
 mod kept_state;
 mod lines;
-mod marking;
-mod mistake;
 mod opening;
 mod operation;
-mod output;
 mod perform;
-mod places;
 mod report;
 
 use libc::STDERR_FILENO;

@@ -1,17 +1,17 @@
 // The operations that change the state, on the parts of the buffers that a case has, and their reports.
-use crate::buffers::Bytes;
-use crate::buffers::Cache;
-use crate::buffers::Memory;
-use crate::changes::put_changes;
-use crate::extent::Extents;
-use crate::extent::extents_of;
-use crate::kept::Kept;
 use crate::kept_state::keep_state;
 use crate::kept_state::state_of;
-use crate::output::say;
-use crate::output::tell;
 use crate::report::put_counts;
 use crate::report::put_state;
+use case_notes::buffers::Bytes;
+use case_notes::buffers::Cache;
+use case_notes::buffers::Memory;
+use case_notes::changes::put_changes;
+use case_notes::extent::Extents;
+use case_notes::extent::extents_of;
+use case_notes::kept::Kept;
+use case_notes::output::say;
+use case_notes::output::tell;
 use machine::Answer;
 use machine::State;
 use machine::Stepped;

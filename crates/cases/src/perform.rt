@@ -1,12 +1,12 @@
 // An operation line of an open case.
-use crate::buffers::Bytes;
-use crate::buffers::Cache;
-use crate::buffers::Memory;
 use crate::check_code::do_check;
-use crate::kept::Kept;
 use crate::operation::do_run;
 use crate::operation::do_step;
 use case_file::Line;
+use case_notes::buffers::Bytes;
+use case_notes::buffers::Cache;
+use case_notes::buffers::Memory;
+use case_notes::kept::Kept;
 
 // What an operation line asks for.
 enum Operation {

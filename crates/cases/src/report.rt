@@ -1,21 +1,21 @@
 // The lines on a state, and the counts of an operation.
-use crate::kept::FETCH;
-use crate::kept::Kept;
-use crate::kept::LOAD;
-use crate::kept::LOADED;
-use crate::kept::PREDICATES;
-use crate::kept::REGISTERS;
-use crate::kept::SPECIALS;
-use crate::kept::TARGET;
-use crate::kept::TRANSFER;
-use crate::kept::is_set;
-use crate::kept::number;
-use crate::kept_state::BLOCK;
-use crate::kept_state::BR;
-use crate::kept_state::CALL;
-use crate::output::say;
-use crate::output::say_kept;
-use crate::output::tell;
+use case_notes::kept::FETCH;
+use case_notes::kept::Kept;
+use case_notes::kept::LOAD;
+use case_notes::kept::LOADED;
+use case_notes::kept::PREDICATES;
+use case_notes::kept::REGISTERS;
+use case_notes::kept::SPECIALS;
+use case_notes::kept::TARGET;
+use case_notes::kept::TRANSFER;
+use case_notes::kept::is_set;
+use case_notes::kept::number;
+use case_notes::kept_parts::BLOCK;
+use case_notes::kept_parts::BR;
+use case_notes::kept_parts::CALL;
+use case_notes::output::say;
+use case_notes::output::say_kept;
+use case_notes::output::tell;
 use machine::Counts;
 
 pub fn put_counts(c: Counts) {

@@ -1,5 +1,5 @@
--- The eighteen instruction formats of section 2.5, one entry to a format. `fields` are in the order in which the format's
--- figure has them, and `meaning` takes their numbers in that order. `unused` are the bits without a meaning, which are ignored.
+-- The eighteen instruction formats of section 2.5, one entry to a format: the bits that it fixes, its fields in the order of its
+-- figure, its bits without a meaning, which are ignored, and what the fields' numbers say, taken in the same order.
 -- Bit 31 and the guard, bits 30 to 27, belong to the bundle (Decode).
 use Prim.Native.Nat.{ℕ, _/_, _%_}
 use mathlib.Core.Bool.{Bool}

@@ -1,11 +1,12 @@
 -- The state: changing its parts, what is well formed, and the fresh state.
 use Prim.Native.Nat.{ℕ, zero, suc, _/_, _%_}
-use mathlib.Core.Bool.{Bool, true, false, cond, _&&_}
+use mathlib.Core.Bool.{Bool, true, false, _&&_}
 use mathlib.Core.List.{List, [], _∷_}
 use mathlib.Core.Path.{_≡_}
 use lib.Dec.{eqb, leb}
-use lib.ListN.{length, getD, set, replicate}
+use lib.ListN.{length, getD, replicate}
 use Rattle.word.specs.Word.{sub}
+use Rattle.registers.specs.Registers.{putLater}
 use Rattle.decoder.specs.declared.Special.{Special}
 use Rattle.decoder.specs.declared.Special.the-variants.{S0, Sl, Sh, Ss, St, Srb, Sro, Sxb, Sxo}
 use Rattle.effects.specs.declared.Specials.{Specials}
@@ -38,14 +39,14 @@ startOf s = start (s .registers) (s .predicates) (s .specials) (s .fetch)
 -- Registers and predicates. r0 and p0 are never written.
 unfoldable pub withRegister : State → ℕ → ℕ → State
 withRegister s r v =
-    state (cond (eqb r 0) (s .registers) (set (s .registers) r v)) (s .predicates) (s .specials) (s .fetch) (s .base) (s .transfer) (s .load)
+    state (putLater (s .registers) r v) (s .predicates) (s .specials) (s .fetch) (s .base) (s .transfer) (s .load)
 
 abbrev pub withPredicates : State → List Bool → State
 withPredicates s ps =
     state (s .registers) ps (s .specials) (s .fetch) (s .base) (s .transfer) (s .load)
 
 unfoldable pub withPredicate : State → ℕ → Bool → State
-withPredicate s p b = withPredicates s (cond (eqb p 0) (s .predicates) (set (s .predicates) p b))
+withPredicate s p b = withPredicates s (putLater (s .predicates) p b)
 
 -- The k lowest bits of a word as predicates.
 unfoldable pub predicatesOf : ℕ → ℕ → List Bool

@@ -12,10 +12,10 @@ use crate::Core;
 use crate::Counts;
 use crate::State;
 use crate::WaitingTransfer;
-use crate::writes::write_predicate;
-use crate::writes::write_register;
 use effects::AluEffect;
 use effects::Transfer;
+use registers::write_predicate;
+use registers::write_register;
 
 // How many bundles a delayed transfer waits.
 fn delay_slots(t: Transfer) -> u32

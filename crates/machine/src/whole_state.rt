@@ -4,9 +4,9 @@ ghost use Rattle.machine.specs.State.{withRegister, landed, transferred}
 ghost use Rattle.machine.specs.Core.{joined};
 use crate::Core;
 use crate::State;
-use crate::writes::write_register;
 use effects::Specials;
 use effects::Transfer;
+use registers::write_register;
 
 impl State {
     // The state beside registers and predicates.

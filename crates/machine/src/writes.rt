@@ -4,40 +4,13 @@ ghost use mathlib.Core.Bool.{Bool};
 ghost use mathlib.Core.List.{List};
 ghost use Prim.Native.Nat.{ℕ};
 ghost use Rattle.machine.specs.State.{withLoad, landed, goingOn, transferred};
-ghost use Rattle.machine.specs.Core.{joined, putLater};
+ghost use Rattle.machine.specs.Core.{joined};
 use crate::Core;
 use crate::WaitingLoad;
 use crate::WaitingTransfer;
 use effects::Specials;
 use effects::Transfer;
-
-// A register written; r0 stays zero.
-pub(crate) fn write_register(registers: &mut [u32], r: u32, v: u32)
-    ensures { λ _. ⌜ now (registers .exit) ≡ putLater (now (registers .entry)) r v ⌝ }
-{
-    if r == 0 {
-        return;
-    }
-    let k = r as usize;
-    if k < registers.len() {
-        registers[k] = v;
-        return;
-    }
-}
-
-// A predicate written; p0 stays true.
-pub(crate) fn write_predicate(predicates: &mut [bool], p: u32, v: bool)
-    ensures { λ _. ⌜ now (predicates .exit) ≡ putLater (now (predicates .entry)) p v ⌝ }
-{
-    if p == 0 {
-        return;
-    }
-    let k = p as usize;
-    if k < predicates.len() {
-        predicates[k] = v;
-        return;
-    }
-}
+use registers::write_register;
 
 impl Core {
     // The waiting load replaced.

@@ -1,0 +1,53 @@
+use borrow.Author.Needs.{needs}
+use Prim.Native.Nat.{_-_}
+use Rattle.case_notes.proofs.clearing.copy_memory.Statement.{statement}
+use Rattle.case_notes.proofs.clearing.copy_memory.Tie as tie
+
+abbrev Inv-loop : tie.InvT-loop
+Inv-loop memory₀ n end i₀ memory i = Unit {0}
+
+abbrev μ-loop : tie.MeasureT-loop
+μ-loop memory₀ n end i₀ memory i = end - i
+
+least-requires : tie.Need-least-requires Inv-loop μ-loop
+least-requires c κs = tt
+
+loop-holds : tie.Need-loop-holds Inv-loop μ-loop
+loop-holds c = search needs
+
+element-copy-out-memory : tie.Need-element-copy-out-memory Inv-loop μ-loop
+element-copy-out-memory c = search needs
+
+add-memory : tie.Need-add-memory Inv-loop μ-loop
+add-memory c = search needs
+
+element-write-memory : tie.Need-element-write-memory Inv-loop μ-loop
+element-write-memory c = search needs
+
+add-i : tie.Need-add-i Inv-loop μ-loop
+add-i c = search needs
+
+loop-less : tie.Need-loop-less Inv-loop μ-loop
+loop-less c = search needs
+
+loop-again : tie.Need-loop-again Inv-loop μ-loop
+loop-again c = search needs
+
+returns : tie.Need-returns Inv-loop μ-loop
+returns c = search needs
+
+pub copy-memory-spec : {M : Type 1} → statement M
+copy-memory-spec =
+    tie.close
+    (tie.spec
+    Inv-loop
+    μ-loop
+    least-requires
+    loop-holds
+    element-copy-out-memory
+    add-memory
+    element-write-memory
+    add-i
+    loop-less
+    loop-again
+    returns)

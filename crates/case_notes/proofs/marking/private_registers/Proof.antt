@@ -1,0 +1,49 @@
+use borrow.Author.Needs.{needs}
+use Prim.Native.Nat.{_-_}
+use Rattle.case_notes.proofs.marking.private_registers.Statement.{statement}
+use Rattle.case_notes.proofs.marking.private_registers.Tie as tie
+
+abbrev Inv-loop : tie.InvT-loop
+Inv-loop kept registers₀ i₀ registers i = Unit {0}
+
+abbrev μ-loop : tie.MeasureT-loop
+μ-loop kept registers₀ i₀ registers i = 32 - i
+
+loop-holds : tie.Need-loop-holds Inv-loop μ-loop
+loop-holds c = search needs
+
+add-is-set : tie.Need-add-is-set Inv-loop μ-loop
+add-is-set c = search needs
+
+is-set-requires : tie.Need-is-set-requires Inv-loop μ-loop
+is-set-requires c κs = tt
+
+array-write-registers : tie.Need-array-write-registers Inv-loop μ-loop
+array-write-registers c = search needs
+
+add-i : tie.Need-add-i Inv-loop μ-loop
+add-i c = search needs
+
+loop-less : tie.Need-loop-less Inv-loop μ-loop
+loop-less c = search needs
+
+loop-again : tie.Need-loop-again Inv-loop μ-loop
+loop-again c = search needs
+
+returns : tie.Need-returns Inv-loop μ-loop
+returns c = search needs
+
+pub private-registers-spec : {M : Type 1} → statement M
+private-registers-spec =
+    tie.close
+    (tie.spec
+    Inv-loop
+    μ-loop
+    loop-holds
+    add-is-set
+    is-set-requires
+    array-write-registers
+    add-i
+    loop-less
+    loop-again
+    returns)

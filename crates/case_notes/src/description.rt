@@ -1,0 +1,161 @@
+// What the description lines of a case say of its numbers, gathered in any order. Each function answers the row of the mistake.
+use crate::kept::BASE;
+use crate::kept::ENTRY;
+use crate::kept::FETCH;
+use crate::kept::GIVEN;
+use crate::kept::HI;
+use crate::kept::Kept;
+use crate::kept::LO;
+use crate::kept::LOAD;
+use crate::kept::LOCAL;
+use crate::kept::MAIN;
+use crate::kept::PREDICATES;
+use crate::kept::REGISTERS;
+use crate::kept::SPECIALS;
+use crate::kept::TRANSFER;
+use crate::kept::WORDS;
+use crate::kept::is_set;
+use crate::kept::keep;
+use crate::kept::keep_flag;
+use crate::kept::keep_word;
+use crate::kept_parts::BLOCK;
+use crate::kept_parts::BR;
+use crate::kept_parts::CALL;
+use crate::kept_parts::keep_load;
+use crate::kept_parts::keep_transfer;
+use crate::mistake::NO_MISTAKE;
+use crate::mistake::REPEATED;
+use crate::mistake::TOO_MUCH_MEMORY;
+use case_file::Line;
+use case_file::SpecialName;
+
+const GREATEST: u32 = 65536;
+
+// Whether a line gave the number at a place.
+pub fn is_given(kept: &Kept, place: usize) -> bool {
+    if place < GIVEN {
+        return is_set(kept, GIVEN + place);
+    }
+    false
+}
+
+fn mark_given(kept: &mut Kept, place: usize) {
+    if place < GIVEN {
+        keep(&mut *kept, GIVEN + place, 1);
+    }
+}
+
+// A number that a case gives once.
+fn give_once(kept: &mut Kept, place: usize, n: u32) -> usize {
+    if is_given(&*kept, place) {
+        return REPEATED;
+    }
+    mark_given(&mut *kept, place);
+    keep_word(&mut *kept, place, n);
+    NO_MISTAKE
+}
+
+// The length of a memory.
+fn give_length(kept: &mut Kept, place: usize, n: u32) -> usize {
+    if is_given(&*kept, place) {
+        return REPEATED;
+    }
+    if GREATEST < n {
+        return TOO_MUCH_MEMORY;
+    }
+    give_once(&mut *kept, place, n)
+}
+
+fn give_stack(kept: &mut Kept, words: u32, lo: u32, hi: u32) -> usize {
+    if is_given(&*kept, WORDS) {
+        return REPEATED;
+    }
+    kept[LO] = lo as u64;
+    kept[HI] = hi as u64;
+    give_once(&mut *kept, WORDS, words)
+}
+
+fn give_register(kept: &mut Kept, r: u32, w: u32) -> usize {
+    if r < 32 {
+        keep_word(&mut *kept, REGISTERS + (r as usize), w);
+    }
+    NO_MISTAKE
+}
+
+fn give_predicate(kept: &mut Kept, p: u32, v: bool) -> usize {
+    if p < 8 {
+        keep_flag(&mut *kept, PREDICATES + (p as usize), v);
+    }
+    NO_MISTAKE
+}
+
+// The place of a special register in the list of them.
+fn special_place(name: SpecialName) -> usize {
+    match name {
+        SpecialName::Sl => 0,
+        SpecialName::Sh => 1,
+        SpecialName::Ss => 2,
+        SpecialName::St => 3,
+        SpecialName::Srb => 4,
+        SpecialName::Sro => 5,
+        SpecialName::Sxb => 6,
+        SpecialName::Sxo => 7,
+        SpecialName::Unknown => 8,
+    }
+}
+
+fn give_special(kept: &mut Kept, name: SpecialName, w: u32) -> usize {
+    let k = special_place(name);
+    if k < 8 {
+        mark_given(&mut *kept, SPECIALS + k);
+        keep_word(&mut *kept, SPECIALS + k, w);
+    }
+    NO_MISTAKE
+}
+
+fn give_transfer(kept: &mut Kept, kind: u64, a: u32, b: u32, c: u32) -> usize {
+    if is_given(&*kept, TRANSFER) {
+        return REPEATED;
+    }
+    mark_given(&mut *kept, TRANSFER);
+    keep_transfer(&mut *kept, kind, a, b, c);
+    NO_MISTAKE
+}
+
+fn give_load(kept: &mut Kept, register: u32, value: u32) -> usize {
+    if is_given(&*kept, LOAD) {
+        return REPEATED;
+    }
+    mark_given(&mut *kept, LOAD);
+    keep_load(&mut *kept, register, value);
+    NO_MISTAKE
+}
+
+// A line that is put into the state.
+fn give_state(kept: &mut Kept, said: Line) -> usize {
+    match said {
+        Line::Reg { number, word } => give_register(&mut *kept, number, word),
+        Line::Pred { number, value } => give_predicate(&mut *kept, number, value),
+        Line::Special { name, word } => give_special(&mut *kept, name, word),
+        Line::Load { number, word } => give_load(&mut *kept, number, word),
+        Line::Br { target, wait } => give_transfer(&mut *kept, BR, target, wait, 0),
+        Line::Call { target, wait } => give_transfer(&mut *kept, CALL, target, wait, 0),
+        Line::Block { target, base, wait } => {
+            give_transfer(&mut *kept, BLOCK, target, base, wait)
+        }
+        _ => NO_MISTAKE,
+    }
+}
+
+// A line that needs nothing but its own numbers.
+pub fn give(kept: &mut Kept, said: Line) -> usize {
+    match said {
+        Line::Main(n) => give_length(&mut *kept, MAIN, n),
+        Line::Local(n) => give_length(&mut *kept, LOCAL, n),
+        Line::Stack { words, lo, hi } => give_stack(&mut *kept, words, lo, hi),
+        Line::Entry(a) => give_once(&mut *kept, ENTRY, a),
+        Line::Fetch(a) => give_once(&mut *kept, FETCH, a),
+        Line::Base(a) => give_once(&mut *kept, BASE, a),
+        _ => give_state(&mut *kept, said),
+    }
+}
