@@ -3,6 +3,7 @@ mod bundle;
 mod execute;
 pub mod open;
 mod special;
+mod stack_moves;
 pub mod step;
 pub mod whole_state;
 pub mod writes;
