@@ -9,7 +9,6 @@ use crate::kept::TARGET;
 use crate::kept::TRANSFER;
 use crate::kept::keep_flag;
 use crate::kept::keep_word;
-use crate::kept::number;
 use crate::kept::word;
 use effects::Specials;
 use effects::Transfer;

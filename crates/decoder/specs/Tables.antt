@@ -23,7 +23,6 @@ use Rattle.decoder.specs.declared.StoreWidth.the-variants as store
 use Rattle.decoder.specs.declared.StackAmount.the-variants as amount
 use Rattle.decoder.specs.declared.StackOperation.{StackOperation}
 use Rattle.decoder.specs.declared.StackOperation.the-variants.{Sres, Sens, Sfree, Sspill}
-use Rattle.decoder.specs.declared.Target.{Target}
 use Rattle.decoder.specs.declared.Target.the-variants.{Call, CallRegister, Br, BrRegister, Brcf, BrcfRegister, Ret}
 use Rattle.decoder.specs.declared.Operation.{Operation}
 use Rattle.decoder.specs.declared.Operation.the-variants.{Transfer, Trap, Xret}

@@ -2,7 +2,6 @@
 use Prim.Native.Nat.{ℕ, _^_}
 use mathlib.Core.Bool.{Bool, true, false}
 use mathlib.Core.Path.{_≡_, refl, sym, ap, _∙_}
-use borrow.Author.Tests.{not-false}
 use lib.ListN.{length, getD}
 use Rattle.decoder.specs.declared.Special.{Special}
 use Rattle.decoder.specs.declared.AccessKind.{AccessKind}

@@ -3,7 +3,6 @@ use Prim.Native.Nat.{ℕ, _^_, _≤_}
 use mathlib.Core.Bool.{Bool, true, false}
 use mathlib.Core.List.{List, []}
 use mathlib.Core.Path.{_≡_, refl, sym, ap, subst, _∙_}
-use borrow.Author.Tests.{not-false}
 use lib.ListN.{length, getD}
 use Rattle.stack_cache.specs.declared.StackControl.{StackControl}
 use Rattle.memory.specs.declared.Settings.{Settings}

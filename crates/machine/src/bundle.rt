@@ -19,8 +19,6 @@ use crate::State;
 use crate::Stepped;
 use crate::WaitingLoad;
 use crate::WaitingTransfer;
-use effects::AluEffect;
-use effects::Effect;
 use effects::Effects;
 use memory::Settings;
 use word::bytes::read_word;

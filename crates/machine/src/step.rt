@@ -10,7 +10,6 @@ use crate::Advanced;
 use crate::Answer;
 use crate::Core;
 use crate::Counts;
-use crate::State;
 use crate::WaitingTransfer;
 use effects::AluEffect;
 use effects::Transfer;

@@ -4,7 +4,6 @@ ghost use Rattle.machine.specs.State.{withRegister, landed, transferred}
 ghost use Rattle.machine.specs.Core.{joined};
 use crate::Core;
 use crate::State;
-use effects::Specials;
 use effects::Transfer;
 use registers::write_register;
 

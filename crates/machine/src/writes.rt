@@ -8,7 +8,6 @@ ghost use Rattle.machine.specs.Core.{joined};
 use crate::Core;
 use crate::WaitingLoad;
 use crate::WaitingTransfer;
-use effects::Specials;
 use effects::Transfer;
 use registers::write_register;
 

@@ -1,8 +1,8 @@
 -- The counts of one step are small: sums over a run of 2 ^ 32 bundles fit 64 bits.
 use Prim.Native.Nat.{ℕ, zero, suc, _-_, _*_, _/_, _≤_, min}
-use mathlib.Core.Bool.{Bool, true, false, cond, _||_}
+use mathlib.Core.Bool.{Bool, true, false, cond}
 use mathlib.Core.List.{List, [], _∷_}
-use mathlib.Core.Path.{_≡_, refl}
+use mathlib.Core.Path.{refl}
 use native.Mathlib.Omega.{arith}
 use native.Mathlib.Nat.{le-trans}
 use borrow.Author.Tests.{ltb-false}
@@ -25,7 +25,7 @@ use Rattle.effects.specs.declared.Effect.{Effect}
 use Rattle.effects.specs.declared.Effect.the-variants as effect
 use Rattle.machine.specs.declared.State.{State}
 use Rattle.machine.specs.declared.Counts.{Counts}
-use Rattle.machine.specs.Bundle.{undelayedCycles, cyclesOf, spilledBy, filledBy, noCounts, countsOf, lent, step}
+use Rattle.machine.specs.Bundle.{undelayedCycles, noCounts, countsOf, lent, step}
 use Rattle.machine_laws.specs.StepCases.{effectAt, step-cases}
 use Rattle.machine_laws.specs.StackKept.{Passed, fine-effect, stack-accepted}
 

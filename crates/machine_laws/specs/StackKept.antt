@@ -32,7 +32,6 @@ use Rattle.effects.specs.declared.Effect.the-variants as effect
 use Rattle.memory.specs.declared.Verdict.the-variants as verdict
 use Rattle.memory.specs.Answer.{done}
 use Rattle.memory.specs.SettingsLaws.{area-ordered}
-use Rattle.machine.specs.State.{noneWaits}
 use Rattle.memory.specs.Access.{Buffers, stored, storeScale, Test, verdict as verdictOf, mainOpen, mainWritable, accessOpen, accessTests}
 use Rattle.effects.specs.Effect.{isUndecodable}
 use Rattle.machine.specs.Refusal.{effectTests, outsideCode}

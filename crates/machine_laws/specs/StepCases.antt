@@ -11,7 +11,7 @@ use Rattle.memory.specs.declared.Verdict.{Verdict}
 use Rattle.memory.specs.declared.Verdict.the-variants as verdict
 use Rattle.machine.specs.declared.Readiness.the-variants as ready
 use Rattle.memory.specs.Answer.{Returned, accepted, done, ended, spent, refused}
-use Rattle.memory.specs.Settings.{admits, settingsOf}
+use Rattle.memory.specs.Settings.{admits}
 use Rattle.memory.specs.Access.{Buffers, verdict as verdictOf}
 use Rattle.effects.specs.Effect.{slotOne, slotTwo}
 use Rattle.machine.specs.State.{startOf, wellFormed, ended as hasEnded}

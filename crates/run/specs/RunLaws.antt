@@ -1,22 +1,19 @@
 -- A run, bundle by bundle, and the list of the bundles that it tries.
 use Prim.Native.Nat.{ℕ, zero, suc, _+_, _-_, _*_, _^_, _≤_, _<_}
-use mathlib.Core.Bool.{Bool, true, false}
-use mathlib.Core.List.{List, [], _∷_}
+use mathlib.Core.Bool.{false}
+use mathlib.Core.List.{List}
 use mathlib.Core.Path.{_≡_, refl, sym, ap, _∙_}
 use native.Mathlib.Omega.{arith}
 use native.Mathlib.Numerals.{add-one}
 use native.Mathlib.Nat.{add-zero, zero-add, add-assoc}
-use lib.ListN.{length}
 use Rattle.memory.specs.Answer.{Returned, accepted, done, ended, spent, refused}
 use Rattle.memory.specs.Access.{Buffers}
 use Rattle.machine.specs.declared.State.{State}
 use Rattle.machine.specs.declared.Counts.{Counts}
-use Rattle.machine.specs.declared.Readiness.{Readiness}
-use Rattle.machine.specs.declared.Readiness.the-variants.{Ready, Ended, Refused}
-use Rattle.machine.specs.Bundle.{Outcome, outcome, noCounts, bundle, readiness, readyOr, lent, step}
-use Rattle.machine_laws.specs.StepCases.{isDone, step-cases, step-unchanged}
+use Rattle.machine.specs.Bundle.{Outcome, outcome, noCounts, bundle, step}
+use Rattle.machine_laws.specs.StepCases.{isDone, step-unchanged}
 use Rattle.machine_laws.specs.CountLaws.{Small}
-use Rattle.run.specs.Run.{plus, ifDone, counted, stopped, run, Tried, triedAt, whenReady, tries, endOf, doneIn}
+use Rattle.run.specs.Run.{plus, ifDone, counted, stopped, run}
 
 -- Sums of counts.
 pub plus-none : (c : Counts) → plus c noCounts ≡ c

@@ -1,6 +1,6 @@
 -- A run is what its list of tried bundles says: answer, contents, counts, and the number of bundles done.
-use Prim.Native.Nat.{ℕ, zero, suc, _+_, _≤_}
-use mathlib.Core.Bool.{Bool, true, false}
+use Prim.Native.Nat.{ℕ, zero, suc, _+_}
+use mathlib.Core.Bool.{false}
 use mathlib.Core.List.{List, [], _∷_}
 use mathlib.Core.Path.{_≡_, refl, sym, ap, _∙_}
 use native.Mathlib.Omega.{arith}
@@ -12,7 +12,7 @@ use Rattle.machine.specs.declared.Readiness.{Readiness}
 use Rattle.machine.specs.declared.Readiness.the-variants.{Ready, Ended, Refused}
 use Rattle.machine.specs.Bundle.{Outcome, outcome, noCounts, bundle, readiness, readyOr, lent, step}
 use Rattle.machine_laws.specs.StepCases.{isDone, bundle-cases, step-cases}
-use Rattle.run.specs.Run.{plus, ifDone, counted, stopped, run, Tried, triedAt, whenReady, tries, endOf, doneIn}
+use Rattle.run.specs.Run.{plus, ifDone, counted, run, Tried, triedAt, whenReady, tries, endOf, doneIn}
 use Rattle.run.specs.RunLaws.{counted-counted, counted-none}
 
 -- How many bundles a step counts: 1 where it is done.

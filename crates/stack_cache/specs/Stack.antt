@@ -2,12 +2,11 @@
 -- are the byte addresses between which the window lies, and an amount n is in words.
 use Prim.Native.Nat.{ℕ, zero, suc, _+_, _-_, _*_, _/_, _%_, _^_, min, max}
 use mathlib.Core.Bool.{Bool, true, false, not, cond, _&&_, _||_}
-use mathlib.Core.List.{List, [], _∷_, _++_}
+use mathlib.Core.List.{List, [], _∷_}
 use lib.Dec.{eqb, ltb, leb}
 use lib.ListN.{length, getD, set}
 use Rattle.word.specs.Word.{add, sub}
 use Rattle.word.specs.Bytes.{wordAt, putWord}
-use Rattle.stack_cache.specs.declared.StackCache.{StackCache}
 use Rattle.stack_cache.specs.declared.StackControl.{StackControl}
 use Rattle.stack_cache.specs.declared.StackControl.the-variants.{Sres, Sens, Sfree, Sspill}
 use Rattle.stack_cache.specs.declared.Plan.{Plan}

@@ -1,5 +1,4 @@
 use Rattle.alu.specs.Alu.{arithmetic}
-use borrow.Author.Needs.{needs}
 use Rattle.alu.proofs.arithmetic.Statement.{statement}
 use Rattle.alu.proofs.arithmetic.Tie as tie
 

@@ -1,5 +1,4 @@
 use Rattle.alu.specs.Alu.{combine}
-use borrow.Author.Needs.{needs}
 use Rattle.alu.proofs.combine.Statement.{statement}
 use Rattle.alu.proofs.combine.Tie as tie
 

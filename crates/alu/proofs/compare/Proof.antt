@@ -1,5 +1,4 @@
 use Rattle.alu.specs.Alu.{compare}
-use borrow.Author.Needs.{needs}
 use Rattle.alu.proofs.compare.Statement.{statement}
 use Rattle.alu.proofs.compare.Tie as tie
 

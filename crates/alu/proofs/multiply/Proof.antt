@@ -1,5 +1,4 @@
 use Rattle.alu.specs.Alu.{multiply}
-use borrow.Author.Needs.{needs}
 use Rattle.alu.proofs.multiply.Statement.{statement}
 use Rattle.alu.proofs.multiply.Tie as tie
 

@@ -1,7 +1,6 @@
 use Rattle.decoder.specs.Decode.{isTwoWords}
 use mathlib.Core.Path.{sym}
 use Rattle.decoder.specs.DecodeLaws.{words-one, words-two, decode-by-long, either-way}
-use borrow.Author.Needs.{needs}
 use Rattle.decoder.proofs.decode.Statement.{statement}
 use Rattle.decoder.proofs.decode.Tie as tie
 

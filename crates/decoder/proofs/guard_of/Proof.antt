@@ -1,5 +1,4 @@
 use Rattle.decoder.specs.Decode.{guardOf}
-use borrow.Author.Needs.{needs}
 use Rattle.decoder.proofs.guard_of.Statement.{statement}
 use Rattle.decoder.proofs.guard_of.Tie as tie
 

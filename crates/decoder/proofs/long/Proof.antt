@@ -1,5 +1,4 @@
 use Rattle.decoder.specs.DecodeLaws.{words-one, words-two}
-use borrow.Author.Needs.{needs}
 use Rattle.decoder.proofs.long.Statement.{statement}
 use Rattle.decoder.proofs.long.Tie as tie
 

@@ -1,5 +1,4 @@
 use Rattle.decoder.specs.Decode.{slotOne}
-use borrow.Author.Needs.{needs}
 use Rattle.decoder.proofs.slot_one.Statement.{statement}
 use Rattle.decoder.proofs.slot_one.Tie as tie
 

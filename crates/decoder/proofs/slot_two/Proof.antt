@@ -1,6 +1,5 @@
 use borrow.Author.Tests.{ne-eqb}
 use Rattle.decoder.specs.Decode.{slotTwo}
-use borrow.Author.Needs.{needs}
 use Rattle.decoder.proofs.slot_two.Statement.{statement}
 use Rattle.decoder.proofs.slot_two.Tie as tie
 

@@ -1,4 +1,4 @@
-use mathlib.Core.Path.{refl, sym}
+use mathlib.Core.Path.{sym}
 use borrow.Author.Tests.{ne-eqb}
 use lib.Seq.{set-out}
 use borrow.Author.Needs.{needs}

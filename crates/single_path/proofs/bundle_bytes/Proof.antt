@@ -1,4 +1,3 @@
-use Prim.Native.Nat.{_*_}
 use native.Mathlib.Omega.{arith}
 use Rattle.decoder.specs.Decode.{bundleWords}
 use Rattle.decoder.specs.DecodeLaws.{words-two}

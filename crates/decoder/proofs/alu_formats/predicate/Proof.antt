@@ -1,4 +1,3 @@
-use borrow.Author.Needs.{needs}
 use Rattle.decoder.specs.TableLaws.{row-then}
 use Rattle.decoder.proofs.alu_formats.predicate.Statement.{statement}
 use Rattle.decoder.proofs.alu_formats.predicate.Tie as tie

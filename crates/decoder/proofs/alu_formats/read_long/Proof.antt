@@ -1,11 +1,9 @@
-use Prim.Native.Nat.{ℕ}
-use borrow.Author.Tests.{ne-eqb, eq-eqb}
+use borrow.Author.Tests.{ne-eqb}
 use native.Mathlib.Nat.{div-one}
 use Rattle.decoder.specs.Format.{reading}
 use Rattle.decoder.specs.TableLaws.{row-applied}
 use Rattle.decoder.specs.Tables.{aluTable}
 use mathlib.Core.Path.{sym, _∙_}
-use borrow.Author.Needs.{needs}
 use Rattle.decoder.proofs.alu_formats.read_long.Statement.{statement}
 use Rattle.decoder.proofs.alu_formats.read_long.Tie as tie
 

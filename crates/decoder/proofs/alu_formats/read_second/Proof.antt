@@ -1,7 +1,6 @@
-use borrow.Author.Tests.{ne-eqb, eq-eqb}
+use borrow.Author.Tests.{ne-eqb}
 use native.Mathlib.Nat.{div-one}
 use Rattle.decoder.specs.Format.{reading}
-use borrow.Author.Needs.{needs}
 use Rattle.decoder.proofs.alu_formats.read_second.Statement.{statement}
 use Rattle.decoder.proofs.alu_formats.read_second.Tie as tie
 

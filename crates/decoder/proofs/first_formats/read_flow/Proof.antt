@@ -3,7 +3,6 @@ use Rattle.decoder.specs.Format.{row}
 use Rattle.decoder.specs.FlowLaws.{flow-first}
 use mir.Syntax.{w32}
 use mir.ValLaws.{toZ-ofZ}
-use borrow.Author.Needs.{needs}
 use Rattle.decoder.proofs.first_formats.read_flow.Statement.{statement}
 use Rattle.decoder.proofs.first_formats.read_flow.Tie as tie
 

@@ -1,11 +1,7 @@
-use borrow.Author.Tests.{ne-eqb, eq-eqb}
+use borrow.Author.Tests.{ne-eqb}
 use native.Mathlib.Nat.{div-one}
 use Rattle.decoder.specs.Format.{reading, row}
 use Rattle.decoder.specs.TableLaws.{upper-opcode, flow-opcode, row-then}
-use mathlib.Core.Path.{_≡_, sym, ap, _∙_}
-use native.Mathlib.Omega.{arith}
-use Prim.Native.Nat.{ℕ, _/_, _%_}
-use borrow.Author.Needs.{needs}
 use Rattle.decoder.proofs.first_formats.read_special.Statement.{statement}
 use Rattle.decoder.proofs.first_formats.read_special.Tie as tie
 

@@ -1,5 +1,4 @@
 use Rattle.effects.specs.Effect.{op2Value}
-use borrow.Author.Needs.{needs}
 use Rattle.effects.proofs.either_slot.op2_value.Statement.{statement}
 use Rattle.effects.proofs.either_slot.op2_value.Tie as tie
 

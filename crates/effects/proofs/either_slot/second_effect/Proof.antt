@@ -1,5 +1,4 @@
 use Rattle.effects.specs.Effect.{aluEffect}
-use borrow.Author.Needs.{needs}
 use Rattle.effects.proofs.either_slot.second_effect.Statement.{statement}
 use Rattle.effects.proofs.either_slot.second_effect.Tie as tie
 

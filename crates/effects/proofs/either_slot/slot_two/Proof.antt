@@ -1,6 +1,5 @@
 use Rattle.effects.specs.Effect.{slotTwoEffect}
-use mathlib.Core.Path.{_≡_, sym, _∙_}
-use borrow.Author.Needs.{needs}
+use mathlib.Core.Path.{sym, _∙_}
 use Rattle.effects.proofs.either_slot.slot_two.Statement.{statement}
 use Rattle.effects.proofs.either_slot.slot_two.Tie as tie
 

@@ -1,5 +1,4 @@
 use Rattle.effects.specs.Effect.{accessAddress}
-use borrow.Author.Needs.{needs}
 use Rattle.effects.proofs.slot.access_address.Statement.{statement}
 use Rattle.effects.proofs.slot.access_address.Tie as tie
 

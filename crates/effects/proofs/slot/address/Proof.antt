@@ -1,4 +1,3 @@
-use borrow.Author.Needs.{needs}
 use Rattle.effects.proofs.slot.address.Statement.{statement}
 use Rattle.effects.proofs.slot.address.Tie as tie
 

@@ -1,5 +1,4 @@
 use Rattle.effects.specs.Effect.{amountAligned}
-use borrow.Author.Needs.{needs}
 use Rattle.effects.proofs.slot.amount_aligned.Statement.{statement}
 use Rattle.effects.proofs.slot.amount_aligned.Tie as tie
 

@@ -1,5 +1,4 @@
 use Rattle.effects.specs.Effect.{amountWords}
-use borrow.Author.Needs.{needs}
 use Rattle.effects.proofs.slot.amount_words.Statement.{statement}
 use Rattle.effects.proofs.slot.amount_words.Tie as tie
 

@@ -1,4 +1,3 @@
-use borrow.Author.Needs.{needs}
 use Rattle.effects.proofs.slot.first_slot.Statement.{statement}
 use Rattle.effects.proofs.slot.first_slot.Tie as tie
 

@@ -1,4 +1,3 @@
-use borrow.Author.Needs.{needs}
 use Rattle.effects.proofs.slot.read.Statement.{statement}
 use Rattle.effects.proofs.slot.read.Tie as tie
 

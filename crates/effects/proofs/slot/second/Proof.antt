@@ -1,4 +1,3 @@
-use borrow.Author.Needs.{needs}
 use Rattle.effects.proofs.slot.second.Statement.{statement}
 use Rattle.effects.proofs.slot.second.Tie as tie
 

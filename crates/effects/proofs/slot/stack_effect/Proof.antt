@@ -1,5 +1,4 @@
 use Rattle.effects.specs.Effect.{stackEffect}
-use borrow.Author.Needs.{needs}
 use Rattle.effects.proofs.slot.stack_effect.Statement.{statement}
 use Rattle.effects.proofs.slot.stack_effect.Tie as tie
 

@@ -1,7 +1,6 @@
 use Rattle.effects.specs.Effect.{transferOf}
 use mir.ValLaws.{toZ-ofZ}
 use mir.Syntax.{w32}
-use borrow.Author.Needs.{needs}
 use Rattle.effects.proofs.slot.transfer_of.Statement.{statement}
 use Rattle.effects.proofs.slot.transfer_of.Tie as tie
 

@@ -1,5 +1,4 @@
 use Rattle.effects.specs.Effect.{special}
-use borrow.Author.Needs.{needs}
 use Rattle.effects.proofs.special.read_special.Statement.{statement}
 use Rattle.effects.proofs.special.read_special.Tie as tie
 

@@ -1,4 +1,3 @@
-use borrow.Author.Needs.{needs}
 use Rattle.machine.proofs.Core.begin.Statement.{statement}
 use Rattle.machine.proofs.Core.begin.Tie as tie
 

@@ -1,12 +1,8 @@
-use Prim.Native.Nat.{ℕ}
-use mathlib.Core.List.{List}
-use mathlib.Core.Bool.{Bool}
-use mathlib.Core.Path.{_≡_, refl, sym, ap, _∙_}
+use mathlib.Core.Path.{sym, _∙_}
 use Rattle.machine.specs.Core.{joined}
 use Rattle.machine.specs.BundleLaws.{bundle-refused, bundle-slots}
 use Rattle.machine.specs.ExecuteLaws.{full-same}
 use Rattle.memory.specs.SettingsLaws.{code-small}
-use native.Mathlib.Omega.{arith}
 use borrow.Author.Needs.{needs}
 use Rattle.machine.proofs.Core.bundle.Statement.{statement}
 use Rattle.machine.proofs.Core.bundle.Tie as tie

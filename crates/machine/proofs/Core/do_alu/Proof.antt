@@ -1,11 +1,9 @@
-use mathlib.Core.Path.{_≡_, ap, _∙_}
+use mathlib.Core.Path.{ap, _∙_}
 use Rattle.machine.specs.Bundle.{written, writeOne, buffersAfter, writeAlu, nearer, full}
 use Rattle.machine.specs.Execute.{executed, doneWith}
 use Rattle.machine.specs.declared.State.{State}
-use Rattle.machine.specs.State.{landed}
 use Rattle.memory.specs.Access.{verdict}
 use Rattle.machine.specs.ExecuteLaws.{full-same}
-use borrow.Author.Needs.{needs}
 use Rattle.machine.proofs.Core.do_alu.Statement.{statement}
 use Rattle.machine.proofs.Core.do_alu.Tie as tie
 

@@ -1,16 +1,11 @@
-use Prim.Native.Nat.{ℕ}
-use mathlib.Core.List.{List}
-use mathlib.Core.Bool.{Bool}
-use mathlib.Core.Path.{_≡_, refl, sym, ap, _∙_}
+use mathlib.Core.Path.{ap, _∙_}
 use Rattle.machine.specs.Bundle.{written, writeOne, buffersAfter, writeAlu, nearer, full}
 use Rattle.machine.specs.Execute.{executed, doneWith}
-use Rattle.machine.specs.declared.Stepped.{Stepped}
 use Rattle.machine.specs.declared.State.{State}
-use Rattle.machine.specs.State.{withLoad, landed, withSpecial, withProduct}
+use Rattle.machine.specs.State.{withLoad}
 use Rattle.machine.specs.Core.{joined}
 use Rattle.machine.specs.declared.WaitingLoad.the-variants.{Waits}
 use Rattle.machine.specs.ExecuteLaws.{load-tests, full-same}
-use borrow.Author.Needs.{needs}
 use Rattle.machine.proofs.Core.do_load.Statement.{statement}
 use Rattle.machine.proofs.Core.do_load.Tie as tie
 

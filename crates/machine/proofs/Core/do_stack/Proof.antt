@@ -1,21 +1,14 @@
-use Prim.Native.Nat.{ℕ}
-use mathlib.Core.List.{List}
-use mathlib.Core.Bool.{Bool}
-use mathlib.Core.Path.{_≡_, refl, sym, ap, _∙_}
+use mathlib.Core.Path.{sym, ap, _∙_}
 use Rattle.machine.specs.Bundle.{written, writeOne, buffersAfter, writeAlu, nearer, full}
 use Rattle.machine.specs.Execute.{executed, doneWith}
-use Rattle.machine.specs.declared.Stepped.{Stepped}
 use Rattle.machine.specs.declared.State.{State}
-use Rattle.machine.specs.State.{withLoad, landed, withSpecial, withProduct}
 use Rattle.machine.specs.Core.{joined}
-use Rattle.machine.specs.declared.WaitingLoad.the-variants.{Waits}
 use native.Mathlib.Omega.{arith}
 use Rattle.memory.specs.SettingsLaws.{words-small, area-ordered, area-inside}
 use Rattle.stack_cache.specs.PlanLaws.{planned-told}
 use Rattle.machine.specs.Bundle.{stackMoved}
 use Rattle.machine.specs.State.{withStack}
 use Rattle.machine.specs.ExecuteLaws.{stack-tests, one-way, stack-done, full-same, full-then}
-use borrow.Author.Needs.{needs}
 use Rattle.machine.proofs.Core.do_stack.Statement.{statement}
 use Rattle.machine.proofs.Core.do_stack.Tie as tie
 

@@ -1,13 +1,6 @@
-use Prim.Native.Nat.{ℕ}
-use mathlib.Core.List.{List}
-use mathlib.Core.Bool.{Bool}
-use mathlib.Core.Path.{_≡_, refl, sym, ap, _∙_}
-use Rattle.machine.specs.Bundle.{written, writeOne, buffersAfter, writeAlu, nearer, full}
-use Rattle.machine.specs.Execute.{executed, doneWith}
-use Rattle.machine.specs.declared.Stepped.{Stepped}
-use Rattle.machine.specs.declared.State.{State}
-use Rattle.machine.specs.State.{withLoad, landed, withSpecial, withProduct}
-use Rattle.machine.specs.Core.{joined}
+use mathlib.Core.Path.{refl}
+use Rattle.machine.specs.Bundle.{written, writeOne, buffersAfter, full}
+use Rattle.machine.specs.Execute.{executed}
 use Rattle.memory.specs.Access.{verdict}
 use Rattle.machine.specs.ExecuteLaws.{full-same}
 use borrow.Author.Needs.{needs}

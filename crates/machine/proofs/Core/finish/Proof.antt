@@ -1,11 +1,7 @@
-use Prim.Native.Nat.{ℕ}
-use mathlib.Core.List.{List}
-use mathlib.Core.Bool.{Bool}
-use mathlib.Core.Path.{_≡_, sym, ap, _∙_}
+use mathlib.Core.Path.{ap, _∙_}
 use Rattle.machine.specs.declared.State.{State}
 use Rattle.machine.specs.Bundle.{nearer}
 use Rattle.machine.specs.Execute.{doneWith}
-use borrow.Author.Needs.{needs}
 use Rattle.machine.proofs.Core.finish.Statement.{statement}
 use Rattle.machine.proofs.Core.finish.Tie as tie
 

@@ -1,12 +1,10 @@
 use Prim.Native.Nat.{ℕ}
 use mathlib.Core.List.{List}
-use mathlib.Core.Bool.{Bool}
-use mathlib.Core.Path.{_≡_, refl, sym, ap, _∙_}
+use mathlib.Core.Path.{sym, ap, _∙_}
 use Rattle.machine.specs.declared.WaitingLoad.{WaitingLoad}
 use Rattle.machine.specs.declared.WaitingLoad.the-variants.{Nothing}
 use Rattle.machine.specs.State.{landed, landing, withLoad, withRegister}
 use Rattle.machine.specs.Core.{joined}
-use borrow.Author.Needs.{needs}
 use Rattle.machine.proofs.Core.land_load.Statement.{statement}
 use Rattle.machine.proofs.Core.land_load.Tie as tie
 

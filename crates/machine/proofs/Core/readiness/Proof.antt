@@ -1,5 +1,4 @@
 use Rattle.machine.specs.Bundle.{readiness}
-use borrow.Author.Needs.{needs}
 use Rattle.machine.proofs.Core.readiness.Statement.{statement}
 use Rattle.machine.proofs.Core.readiness.Tie as tie
 

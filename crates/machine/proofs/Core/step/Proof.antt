@@ -1,7 +1,4 @@
-use Prim.Native.Nat.{ℕ}
-use mathlib.Core.List.{List}
-use mathlib.Core.Bool.{Bool}
-use mathlib.Core.Path.{_≡_, refl, sym, ap, _∙_}
+use mathlib.Core.Path.{refl, sym, _∙_}
 use Rattle.machine.specs.Bundle.{step}
 use Rattle.machine.specs.BundleLaws.{ready-admits}
 use Rattle.machine.specs.ExecuteLaws.{full-same}

@@ -1,5 +1,4 @@
 use Rattle.machine.specs.State.{transferred}
-use borrow.Author.Needs.{needs}
 use Rattle.machine.proofs.Core.transfer.Statement.{statement}
 use Rattle.machine.proofs.Core.transfer.Tie as tie
 

@@ -1,5 +1,4 @@
 use Rattle.machine.specs.State.{withSpecial}
-use borrow.Author.Needs.{needs}
 use Rattle.machine.proofs.Core.write_special.Statement.{statement}
 use Rattle.machine.proofs.Core.write_special.Tie as tie
 

@@ -1,11 +1,6 @@
-use Prim.Native.Nat.{ℕ}
-use mathlib.Core.List.{List}
-use mathlib.Core.Bool.{Bool}
-use mathlib.Core.Path.{_≡_, refl, sym, ap, _∙_}
+use mathlib.Core.Path.{ap, _∙_}
 use Rattle.machine.specs.declared.State.{State}
-use Rattle.machine.specs.declared.Stepped.{Stepped}
-use Rattle.machine.specs.Bundle.{step, full, outcome, returned}
-use Rattle.machine.specs.ExecuteLaws.{full-same}
+use Rattle.machine.specs.Bundle.{step}
 use Rattle.memory.specs.Access.{buffers}
 use borrow.Author.Needs.{needs}
 use Rattle.machine.proofs.State.step.Statement.{statement}

@@ -1,10 +1,6 @@
-use Prim.Native.Nat.{ℕ}
-use mathlib.Core.List.{List}
-use mathlib.Core.Bool.{Bool}
-use mathlib.Core.Path.{_≡_, sym, ap, _∙_}
+use mathlib.Core.Path.{ap, _∙_}
 use Rattle.machine.specs.declared.State.{State}
 use Rattle.machine.specs.State.{transferred}
-use borrow.Author.Needs.{needs}
 use Rattle.machine.proofs.State.transfer.Statement.{statement}
 use Rattle.machine.proofs.State.transfer.Tie as tie
 

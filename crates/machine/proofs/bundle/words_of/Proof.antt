@@ -1,6 +1,5 @@
 use Rattle.decoder.specs.Decode.{bundleWords}
 use Rattle.decoder.specs.DecodeLaws.{words-two}
-use mathlib.Core.Path.{_≡_, refl, sym, _∙_}
 use native.Mathlib.Omega.{arith}
 use borrow.Author.Needs.{needs}
 use Rattle.machine.proofs.bundle.words_of.Statement.{statement}

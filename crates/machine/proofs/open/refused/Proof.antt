@@ -1,4 +1,3 @@
-use borrow.Author.Needs.{needs}
 use Rattle.machine.proofs.open.refused.Statement.{statement}
 use Rattle.machine.proofs.open.refused.Tie as tie
 

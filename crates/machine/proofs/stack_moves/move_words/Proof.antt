@@ -1,4 +1,4 @@
-use mathlib.Core.Path.{refl, _≡_, sym}
+use mathlib.Core.Path.{refl, sym}
 use Prim.Native.Nat.{_-_}
 use borrow.Rule.Slice.PartMut.{post-is, put-same}
 use Rattle.stack_cache.specs.Stack.{below, above, spilled, filled}

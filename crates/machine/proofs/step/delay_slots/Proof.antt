@@ -1,5 +1,4 @@
 use Rattle.machine.specs.Bundle.{delaySlots}
-use borrow.Author.Needs.{needs}
 use Rattle.machine.proofs.step.delay_slots.Statement.{statement}
 use Rattle.machine.proofs.step.delay_slots.Tie as tie
 

@@ -1,11 +1,10 @@
 use Prim.Native.Nat.{ℕ}
 use mathlib.Core.List.{List}
 use mathlib.Core.Bool.{Bool}
-use mathlib.Core.Path.{_≡_, refl, sym, ap, _∙_}
+use mathlib.Core.Path.{ap}
 use Rattle.machine.specs.Bundle.{writeAlu}
 use Rattle.machine.specs.State.{withRegister, withPredicate}
 use Rattle.machine.specs.Core.{joined}
-use borrow.Author.Needs.{needs}
 use Rattle.machine.proofs.step.write_alu.Statement.{statement}
 use Rattle.machine.proofs.step.write_alu.Tie as tie
 

@@ -1,5 +1,4 @@
 use Rattle.memory.specs.Settings.{acceptance}
-use borrow.Author.Needs.{needs}
 use Rattle.memory.proofs.Settings.accept.Statement.{statement}
 use Rattle.memory.proofs.Settings.accept.Tie as tie
 

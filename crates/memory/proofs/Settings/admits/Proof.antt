@@ -1,5 +1,4 @@
 use Rattle.memory.specs.Settings.{admits}
-use borrow.Author.Needs.{needs}
 use Rattle.memory.proofs.Settings.admits.Statement.{statement}
 use Rattle.memory.proofs.Settings.admits.Tie as tie
 

@@ -1,5 +1,4 @@
 use Rattle.memory.specs.Access.{loadedValue, readNumber}
-use borrow.Author.Needs.{needs}
 use Rattle.memory.proofs.access.load.Statement.{statement}
 use Rattle.memory.proofs.access.load.Tie as tie
 

@@ -1,6 +1,5 @@
 use Rattle.memory.specs.Access.{loadScale}
 use Rattle.memory.specs.Access.{extended}
-use borrow.Author.Needs.{needs}
 use Rattle.memory.proofs.access.load_bytes.Statement.{statement}
 use Rattle.memory.proofs.access.load_bytes.Tie as tie
 

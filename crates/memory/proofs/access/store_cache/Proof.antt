@@ -1,4 +1,3 @@
-use mathlib.Core.Path.{refl}
 use Rattle.memory.specs.Access.{storeScale}
 use borrow.Author.Needs.{needs}
 use Rattle.memory.proofs.access.store_cache.Statement.{statement}

@@ -1,6 +1,5 @@
 use Rattle.memory.specs.SettingsLaws.{size-refused, size-made}
 use mathlib.Core.Path.{sym, _∙_}
-use borrow.Author.Needs.{needs}
 use Rattle.memory.proofs.limits.is_cache_size.Statement.{statement}
 use Rattle.memory.proofs.limits.is_cache_size.Tie as tie
 

@@ -1,5 +1,4 @@
 use Rattle.memory.specs.Access.{loadScale}
-use borrow.Author.Needs.{needs}
 use Rattle.memory.proofs.width.load_scale.Statement.{statement}
 use Rattle.memory.proofs.width.load_scale.Tie as tie
 

@@ -1,5 +1,4 @@
 use Rattle.memory.specs.Access.{storeScale}
-use borrow.Author.Needs.{needs}
 use Rattle.memory.proofs.width.store_scale.Statement.{statement}
 use Rattle.memory.proofs.width.store_scale.Tie as tie
 

@@ -1,7 +1,6 @@
 use Rattle.memory.specs.Access.{storeScale}
 use mathlib.Core.Path.{refl}
 use native.Mathlib.Omega.{arith}
-use borrow.Author.Needs.{needs}
 use Rattle.memory.proofs.width.store_size.Statement.{statement}
 use Rattle.memory.proofs.width.store_size.Tie as tie
 

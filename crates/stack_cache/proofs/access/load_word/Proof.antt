@@ -2,7 +2,6 @@ use native.Mathlib.Omega.{arith}
 use mathlib.Core.Path.{sym}
 use Rattle.stack_cache.specs.Stack.{cacheNumber}
 use Rattle.stack_cache.specs.StackLaws.{part-4}
-use borrow.Author.Needs.{needs}
 use Rattle.stack_cache.proofs.access.load_word.Statement.{statement}
 use Rattle.stack_cache.proofs.access.load_word.Tie as tie
 

@@ -1,7 +1,6 @@
 use native.Mathlib.Omega.{arith}
 use mathlib.Core.Path.{_≡_, refl, sym, ap, _∙_}
 use lib.ListN.{length}
-use borrow.Author.Needs.{needs}
 use Rattle.stack_cache.specs.Stack.{above, filled}
 use Rattle.stack_cache.specs.StackLaws.{length-putCacheWord, filled-step, filled-none}
 use Rattle.stack_cache.proofs.moves.fill.Statement.{statement}

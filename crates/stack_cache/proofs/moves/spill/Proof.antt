@@ -1,7 +1,6 @@
 use native.Mathlib.Omega.{arith}
 use mathlib.Core.Path.{_≡_, refl, sym, ap, _∙_}
 use lib.ListN.{length}
-use borrow.Author.Needs.{needs}
 use Rattle.word.specs.BytesLaws.{length-putNumber}
 use Rattle.stack_cache.specs.Stack.{below, spilled}
 use Rattle.stack_cache.specs.StackLaws.{spilled-step, spilled-none}

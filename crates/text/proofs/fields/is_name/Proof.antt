@@ -1,6 +1,4 @@
-use mathlib.Core.Path.{refl}
 use Rattle.text.specs.Field.{isName}
-use borrow.Author.Needs.{needs}
 use Rattle.text.proofs.fields.is_name.Statement.{statement}
 use Rattle.text.proofs.fields.is_name.Tie as tie
 

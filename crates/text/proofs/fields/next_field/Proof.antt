@@ -1,5 +1,3 @@
-use native.Mathlib.Omega.{arith}
-use mathlib.Core.Path.{_≡_, refl, sym, ap, _∙_}
 use Rattle.text.specs.Field.{fieldFrom}
 use borrow.Author.Needs.{needs}
 use Rattle.text.proofs.fields.next_field.Statement.{statement}

@@ -2,7 +2,6 @@ use native.Mathlib.Omega.{arith}
 use Prim.Native.Nat.{_≤_, _-_, _*_}
 use mathlib.Core.Path.{_≡_, refl, sym, ap, _∙_}
 use native.Mathlib.Nat.{mul-le-mul}
-use borrow.Author.Needs.{needs}
 use lib.ListN.{length, drop, drop-of-length-le}
 use Rattle.text.specs.Number.{numberFrom}
 use Rattle.text.specs.NumberLaws.{number-step, number-not-digit, number-too-great, number-end}

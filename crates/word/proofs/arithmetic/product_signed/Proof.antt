@@ -1,6 +1,5 @@
 use mir.Syntax.{w64}
 use mir.ValLaws.{toZ-ofZ}
-use borrow.Author.Needs.{needs}
 use Rattle.word.specs.Word.{productSigned}
 use Rattle.word.specs.WordLaws.{product-fits}
 use Rattle.word.proofs.Signs.{wider, widened}

@@ -1,4 +1,3 @@
-use borrow.Author.Needs.{needs}
 use Rattle.word.specs.Word.{lessEqualSigned}
 use Rattle.word.proofs.Signs.{reread}
 use Rattle.word.proofs.sign.less_equal_signed.Statement.{statement}

@@ -1,4 +1,3 @@
-use borrow.Author.Needs.{needs}
 use Rattle.word.specs.Word.{lessSigned}
 use Rattle.word.proofs.Signs.{reread}
 use Rattle.word.proofs.sign.less_signed.Statement.{statement}
