@@ -16,7 +16,6 @@ use Rattle.stack_cache.specs.Stack.{badWindow, badAmount, movedOutside, planned
 use Rattle.memory.specs.declared.Settings.{Settings}
 use Rattle.machine.specs.declared.State.{State}
 use Rattle.effects.specs.declared.Transfer.{Transfer}
-use Rattle.machine.specs.declared.WaitingTransfer.{WaitingTransfer}
 use Rattle.effects.specs.declared.AluEffect.{AluEffect}
 use Rattle.effects.specs.declared.Effect.the-variants as effect
 use Rattle.memory.specs.declared.Verdict.{Verdict}
@@ -38,10 +37,10 @@ pub store-tests : (g : Settings) (s : State) (k : AccessKind) (w : StoreWidth) (
 unfolding verdict accessVerdict
 store-tests g s k w a v = refl
 
-pub transfer-tests : (g : Settings) (s : State) (d : Bool) (t : Transfer) (w : WaitingTransfer) → s .transfer ≡ w
-    → verdict (effectTests g s (effect.Transfer d t)) ≡ cond (not (noneWaits w)) (Refused 4) Fine
+pub transfer-tests : (g : Settings) (s : State) (d : Bool) (t : Transfer)
+    → verdict (effectTests g s (effect.Transfer d t)) ≡ cond (not (noneWaits (s .transfer))) (Refused 4) Fine
 unfolding verdict
-transfer-tests g s d t w e = ap (λ (v : WaitingTransfer). cond (not (noneWaits v)) (Refused 4) Fine) e
+transfer-tests g s d t = refl
 
 -- a stack instruction is refused as its plan is
 abbrev pub planVerdict : Plan → Verdict

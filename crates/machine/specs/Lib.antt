@@ -1,5 +1,6 @@
 pub mod State
 pub mod Core
+pub mod CoreLaws
 pub mod Refusal
 pub mod Bundle
 pub mod Open

@@ -8,7 +8,7 @@ ghost use Rattle.machine.specs.Core.{joined, steppedAs};
 ghost use Rattle.decoder.specs.Decode.{bundleWords};
 ghost use Rattle.memory.specs.Settings.{admits};
 ghost use Rattle.memory.specs.Access.{buffers};
-ghost use Rattle.machine.specs.State.{loadOk, waitOk, noneWaits, wellFormed, ended};
+ghost use Rattle.machine.specs.State.{wellFormed, ended};
 ghost use Rattle.machine.specs.Bundle.{full, bundle, readiness, step};
 ghost use Rattle.machine.specs.Execute.{fetched};
 use crate::Advanced;
@@ -17,41 +17,12 @@ use crate::Fetched;
 use crate::Readiness;
 use crate::State;
 use crate::Stepped;
-use crate::WaitingLoad;
-use crate::WaitingTransfer;
+use crate::waiting::load_ok;
+use crate::waiting::none_waits;
+use crate::waiting::wait_ok;
 use effects::Effects;
 use memory::Settings;
 use word::bytes::read_word;
-
-fn load_ok(l: WaitingLoad) -> bool
-    ensures { λ r. ⌜ r ≡ loadOk l ⌝ }
-{
-    match l {
-        WaitingLoad::Nothing => true,
-        WaitingLoad::Waits { register, value: _ } => register <= 31,
-    }
-}
-
-fn wait_ok(w: WaitingTransfer) -> bool
-    ensures { λ r. ⌜ r ≡ waitOk w ⌝ }
-{
-    match w {
-        WaitingTransfer::Nothing => true,
-        WaitingTransfer::Waits { transfer: _, wait } => (1 <= wait) & (wait <= 3),
-    }
-}
-
-fn none_waits(w: WaitingTransfer) -> bool
-    ensures { λ r. ⌜ r ≡ noneWaits w ⌝ }
-{
-    match w {
-        WaitingTransfer::Nothing => true,
-        WaitingTransfer::Waits {
-            transfer: _,
-            wait: _,
-        } => false,
-    }
-}
 
 impl Core {
     // Whether refusal 11 does not describe the state.

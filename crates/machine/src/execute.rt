@@ -6,13 +6,14 @@ ghost use Rattle.memory.specs.Settings.{admits};
 ghost use Rattle.memory.specs.declared.Settings.{Settings};
 ghost use Rattle.memory.specs.Access.{Buffers, buffers};
 ghost use Rattle.machine.specs.Bundle.{full, writeAlu, nearer, undelayedCycles};
-ghost use Rattle.machine.specs.Core.{joined, steppedAs};
+ghost use Rattle.machine.specs.Core.{joined, steppedAs, waitingTransfer};
 ghost use Rattle.machine.specs.Execute.{doneWith, executed};
 use crate::Advanced;
 use crate::Core;
-use crate::WaitingLoad;
-use crate::WaitingTransfer;
+use crate::LoadWords;
+use crate::TransferWords;
 use crate::step::write_alu;
+use crate::waiting::none_waits;
 use decoder::AccessKind;
 use decoder::LoadWidth;
 use decoder::Special;
@@ -30,11 +31,11 @@ impl Core {
         self,
         registers: &mut [u32; 32],
         predicates: &mut [bool; 8],
-        waiting: WaitingTransfer,
+        waiting: TransferWords,
         two: AluEffect,
         following: u32,
     ) -> Advanced
-        ensures { λ r. ⌜ steppedAs (now (registers .exit)) (now (predicates .exit)) r ≡ doneWith (nearer waiting following (writeAlu two (joined (now (registers .entry)) (now (predicates .entry)) self))) 1 0 0 ⌝ }
+        ensures { λ r. ⌜ steppedAs (now (registers .exit)) (now (predicates .exit)) r ≡ doneWith (nearer (waitingTransfer waiting) following (writeAlu two (joined (now (registers .entry)) (now (predicates .entry)) self))) 1 0 0 ⌝ }
     {
         write_alu(&mut *registers, &mut *predicates, two);
         self.nearer(waiting, following).done(1, 0, 0)
@@ -121,7 +122,8 @@ impl Core {
         }
         let value = memory::access::load(main, local, cache, kind, width, address);
         let waiting = self.transfer;
-        let load = WaitingLoad::Waits {
+        let load = LoadWords {
+            waits: 1,
             register: rd,
             value,
         };
@@ -286,10 +288,7 @@ impl Core {
         ensures { λ r. ⌜ ((g : Settings) (b : Buffers) → full (steppedAs (now (registers .exit)) (now (predicates .exit)) r) b ≡ executed g (joined (now (registers .entry)) (now (predicates .entry)) self) (Effect.Transfer delayed transfer) two following b) ⌝ }
     {
         let waiting = self.transfer;
-        if let WaitingTransfer::Waits {
-            transfer: _,
-            wait: _,
-        } = waiting {
+        if !none_waits(waiting) {
             return self.refused(4);
         }
         let cycles = transfer_cycles(delayed, transfer);

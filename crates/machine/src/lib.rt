@@ -5,6 +5,7 @@ pub mod open;
 mod special;
 mod stack_moves;
 pub mod step;
+mod waiting;
 pub mod whole_state;
 pub mod writes;
 
@@ -35,12 +36,28 @@ pub struct State {
     pub load: WaitingLoad,
 }
 
+// A waiting transfer as words. kind: 0 none, 1 br, 2 call, and any other block.
+pub struct TransferWords {
+    pub kind: u32,
+    pub target: u32,
+    pub base: u32,
+    pub wait: u32,
+}
+
+// A waiting load as words. None waits if waits is 0.
+pub struct LoadWords {
+    pub waits: u32,
+    pub register: u32,
+    pub value: u32,
+}
+
+// The state beside registers and predicates, inside a bundle. It holds words alone: an enum in it would be copied byte by byte.
 pub struct Core {
     pub specials: Specials,
     pub fetch: u32,
     pub base: u32,
-    pub transfer: WaitingTransfer,
-    pub load: WaitingLoad,
+    pub transfer: TransferWords,
+    pub load: LoadWords,
 }
 
 // What a step answers; Refused holds document 01's number.

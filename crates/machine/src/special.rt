@@ -36,43 +36,17 @@ impl Core {
         ensures { λ r. ⌜ ((rs : List ℕ) → joined rs (now (predicates .exit)) r ≡ withSpecial (joined rs (now (predicates .entry)) self) s v) ⌝ }
     {
         match s {
-            Special::S0 => {
-                *predicates = predicates_of(v);
-                self
-            }
-            Special::Sl => {
-                self.specials.sl = v;
-                self
-            }
-            Special::Sh => {
-                self.specials.sh = v;
-                self
-            }
-            Special::Ss => {
-                self.specials.ss = v;
-                self
-            }
-            Special::St => {
-                self.specials.st = v;
-                self
-            }
-            Special::Srb => {
-                self.specials.srb = v;
-                self
-            }
-            Special::Sro => {
-                self.specials.sro = v;
-                self
-            }
-            Special::Sxb => {
-                self.specials.sxb = v;
-                self
-            }
-            Special::Sxo => {
-                self.specials.sxo = v;
-                self
-            }
+            Special::S0 => *predicates = predicates_of(v),
+            Special::Sl => self.specials.sl = v,
+            Special::Sh => self.specials.sh = v,
+            Special::Ss => self.specials.ss = v,
+            Special::St => self.specials.st = v,
+            Special::Srb => self.specials.srb = v,
+            Special::Sro => self.specials.sro = v,
+            Special::Sxb => self.specials.sxb = v,
+            Special::Sxo => self.specials.sxo = v,
         }
+        self
     }
 
     pub(crate) fn write_product(mut self, low: u32, high: u32) -> Core

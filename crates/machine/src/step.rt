@@ -3,14 +3,17 @@ ghost use mathlib.Core.Path.{_≡_};
 ghost use mathlib.Core.Bool.{Bool};
 ghost use mathlib.Core.List.{List};
 ghost use Prim.Native.Nat.{ℕ};
-ghost use Rattle.machine.specs.Core.{joined, steppedAs};
+ghost use Rattle.machine.specs.Core.{joined, steppedAs, waitingTransfer};
 ghost use Rattle.machine.specs.Bundle.{writeAlu, delaySlots, nearer, begun};
 ghost use Rattle.machine.specs.Execute.{refusedWith, endedWith, doneWith};
 use crate::Advanced;
 use crate::Answer;
 use crate::Core;
 use crate::Counts;
-use crate::WaitingTransfer;
+use crate::TransferWords;
+use crate::waiting::one_less;
+use crate::waiting::transfer_in;
+use crate::waiting::transfer_waits;
 use effects::AluEffect;
 use effects::Transfer;
 use registers::write_predicate;
@@ -40,25 +43,16 @@ pub(crate) fn write_alu(registers: &mut [u32; 32], predicates: &mut [bool; 8], e
 
 impl Core {
     // A transfer that waits comes one bundle nearer, and is carried out when it falls due.
-    pub(crate) fn nearer(self, waiting: WaitingTransfer, following: u32) -> Core
-        ensures { λ r. ⌜ ((rs : List ℕ) (ps : List Bool) → joined rs ps r ≡ nearer waiting following (joined rs ps self)) ⌝ }
+    pub(crate) fn nearer(self, waiting: TransferWords, following: u32) -> Core
+        ensures { λ r. ⌜ ((rs : List ℕ) (ps : List Bool) → joined rs ps r ≡ nearer (waitingTransfer waiting) following (joined rs ps self)) ⌝ }
     {
-        match waiting {
-            WaitingTransfer::Nothing => self.go_on(following, WaitingTransfer::Nothing),
-            WaitingTransfer::Waits { transfer, wait } => {
-                if wait <= 1 {
-                    return self.transfer(transfer, following);
-                }
-                let left = wait - 1;
-                self.go_on(
-                    following,
-                    WaitingTransfer::Waits {
-                        transfer,
-                        wait: left,
-                    },
-                )
-            }
+        if waiting.kind == 0 {
+            return self.go_on(following, waiting);
         }
+        if waiting.wait <= 1 {
+            return self.transfer(transfer_in(waiting), following);
+        }
+        self.go_on(following, one_less(waiting))
     }
 
     // A transfer of this bundle: it waits for its delay slots, or is carried out at once.
@@ -67,7 +61,7 @@ impl Core {
     {
         if delayed {
             let wait = delay_slots(transfer);
-            return self.go_on(following, WaitingTransfer::Waits { transfer, wait });
+            return self.go_on(following, transfer_waits(transfer, wait));
         }
         self.transfer(transfer, following)
     }

@@ -4,6 +4,10 @@ ghost use Rattle.machine.specs.State.{withRegister, landed, transferred}
 ghost use Rattle.machine.specs.Core.{joined};
 use crate::Core;
 use crate::State;
+use crate::waiting::load_words;
+use crate::waiting::transfer_words;
+use crate::waiting::waiting_load;
+use crate::waiting::waiting_transfer;
 use effects::Transfer;
 use registers::write_register;
 
@@ -13,8 +17,10 @@ impl State {
         ensures { λ x. ⌜ joined (self .registers) (self .predicates) x ≡ self ⌝ }
     {
         let specials = self.specials;
-        let transfer = self.transfer;
-        let load = self.load;
+        let waiting = self.transfer;
+        let transfer = transfer_words(waiting);
+        let landing = self.load;
+        let load = load_words(landing);
         Core {
             specials,
             fetch: self.fetch,
@@ -29,8 +35,10 @@ impl State {
         ensures { λ x. ⌜ x ≡ joined registers predicates core ⌝ }
     {
         let specials = core.specials;
-        let transfer = core.transfer;
-        let load = core.load;
+        let waiting = core.transfer;
+        let transfer = waiting_transfer(waiting);
+        let landing = core.load;
+        let load = waiting_load(landing);
         State {
             registers,
             predicates,

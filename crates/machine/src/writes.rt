@@ -1,20 +1,22 @@
-// The state beside registers and predicates, by value, and what is done to it. The two arrays are lent.
+// What is done to the state inside a bundle, which is by value. The registers and predicates are lent.
 ghost use mathlib.Core.Path.{_≡_};
 ghost use mathlib.Core.Bool.{Bool};
 ghost use mathlib.Core.List.{List};
 ghost use Prim.Native.Nat.{ℕ};
 ghost use Rattle.machine.specs.State.{withLoad, landed, goingOn, transferred};
-ghost use Rattle.machine.specs.Core.{joined};
+ghost use Rattle.machine.specs.Core.{joined, waitingTransfer, waitingLoad};
 use crate::Core;
-use crate::WaitingLoad;
-use crate::WaitingTransfer;
+use crate::LoadWords;
+use crate::TransferWords;
+use crate::waiting::no_load;
+use crate::waiting::no_transfer;
 use effects::Transfer;
 use registers::write_register;
 
 impl Core {
     // The waiting load replaced.
-    pub(crate) fn with_load(self, load: WaitingLoad) -> Core
-        ensures { λ x. ⌜ ((rs : List ℕ) (ps : List Bool) → joined rs ps x ≡ withLoad (joined rs ps self) load) ⌝ }
+    pub(crate) fn with_load(self, load: LoadWords) -> Core
+        ensures { λ x. ⌜ ((rs : List ℕ) (ps : List Bool) → joined rs ps x ≡ withLoad (joined rs ps self) (waitingLoad load)) ⌝ }
     {
         let specials = self.specials;
         let transfer = self.transfer;
@@ -27,23 +29,22 @@ impl Core {
         }
     }
 
-    // The load waiting from the bundle before is written, and waits no more.
+    // The load waiting from the bundle before is written, and waits no more. The result is built anew on both ways: one that is
+    // handed back as it came would be copied whole.
     pub(crate) fn land_load(self, registers: &mut [u32; 32]) -> Core
         ensures { λ x. ⌜ ((ps : List Bool) → joined (now (registers .exit)) ps x ≡ landed (joined (now (registers .entry)) ps self)) ⌝ }
     {
         let load = self.load;
-        match load {
-            WaitingLoad::Nothing => self,
-            WaitingLoad::Waits { register, value } => {
-                write_register(&mut *registers, register, value);
-                self.with_load(WaitingLoad::Nothing)
-            }
+        if load.waits == 0 {
+            return self.with_load(no_load());
         }
+        write_register(&mut *registers, load.register, load.value);
+        self.with_load(no_load())
     }
 
     // Going on at an address, with a transfer that waits or none.
-    pub(crate) fn go_on(self, fetch: u32, transfer: WaitingTransfer) -> Core
-        ensures { λ x. ⌜ ((rs : List ℕ) (ps : List Bool) → joined rs ps x ≡ goingOn (joined rs ps self) fetch transfer) ⌝ }
+    pub(crate) fn go_on(self, fetch: u32, transfer: TransferWords) -> Core
+        ensures { λ x. ⌜ ((rs : List ℕ) (ps : List Bool) → joined rs ps x ≡ goingOn (joined rs ps self) fetch (waitingTransfer transfer)) ⌝ }
     {
         let specials = self.specials;
         let load = self.load;
@@ -61,18 +62,18 @@ impl Core {
         ensures { λ x. ⌜ ((rs : List ℕ) (ps : List Bool) → joined rs ps x ≡ transferred (joined rs ps self) transfer following) ⌝ }
     {
         match transfer {
-            Transfer::Br { target } => self.go_on(target, WaitingTransfer::Nothing),
+            Transfer::Br { target } => self.go_on(target, no_transfer()),
             Transfer::Call { target } => {
                 let base = self.base;
                 let offset = word::arithmetic::sub(following, base);
                 self.specials.srb = base;
                 self.specials.sro = offset;
                 self.base = target;
-                self.go_on(target, WaitingTransfer::Nothing)
+                self.go_on(target, no_transfer())
             }
             Transfer::Block { target, base } => {
                 self.base = base;
-                self.go_on(target, WaitingTransfer::Nothing)
+                self.go_on(target, no_transfer())
             }
         }
     }

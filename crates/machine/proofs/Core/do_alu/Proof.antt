@@ -3,6 +3,7 @@ use Rattle.machine.specs.Bundle.{written, writeOne, buffersAfter, writeA
 use Rattle.machine.specs.Execute.{executed, doneWith}
 use Rattle.machine.specs.declared.State.{State}
 use Rattle.memory.specs.Access.{verdict}
+use Rattle.machine.specs.Core.{waitingTransfer}
 use Rattle.machine.specs.ExecuteLaws.{full-same}
 use Rattle.machine.proofs.Core.do_alu.Statement.{statement}
 use Rattle.machine.proofs.Core.do_alu.Tie as tie
@@ -18,7 +19,7 @@ finish-requires c κs = tt
 
 returns : tie.Need-returns
 unfolding executed verdict written writeOne buffersAfter
-returns c = λ g bs. let a = c .before .before .before .before .before .before .before .before .args in full-same _ _ _ (c .finish .ensures ∙ ap (λ (s : State). doneWith (nearer (a .self .transfer) (a .following) (writeAlu (a .two) s)) 1 0 0) (c .before .before .before .write-alu .ensures _ ∙ ap (writeAlu (a .a)) (c .before .before .before .before .before .before .land-load .ensures _)))
+returns c = λ g bs. let a = c .before .before .before .before .before .before .before .before .before .args in full-same _ _ _ (c .finish .ensures ∙ ap (λ (s : State). doneWith (nearer (waitingTransfer (a .self .transfer)) (a .following) (writeAlu (a .two) s)) 1 0 0) (c .before .before .before .write-alu .ensures _ ∙ ap (writeAlu (a .a)) (c .before .before .before .before .before .before .land-load .ensures _)))
 
 pub do-alu-spec : {M : Type 1} → statement M
 do-alu-spec = tie.close (tie.spec land-load-requires write-alu-requires finish-requires returns)

@@ -3,7 +3,7 @@ use Rattle.machine.specs.Bundle.{written, writeOne, buffersAfter, writeA
 use Rattle.machine.specs.Execute.{executed, doneWith}
 use Rattle.machine.specs.declared.State.{State}
 use Rattle.machine.specs.State.{withLoad}
-use Rattle.machine.specs.Core.{joined}
+use Rattle.machine.specs.Core.{joined, waitingTransfer, waitingLoad}
 use Rattle.machine.specs.declared.WaitingLoad.the-variants.{Waits}
 use Rattle.machine.specs.ExecuteLaws.{load-tests, full-same}
 use Rattle.machine.proofs.Core.do_load.Statement.{statement}
@@ -38,8 +38,8 @@ finish-requires : tie.Need-finish-requires
 finish-requires c κs = tt
 
 returns-2 : tie.Need-returns-2
-unfolding executed written writeOne buffersAfter
-returns-2 c = rw (load-tests (c .before .before .before .before .before .before .before .before .before .before .before .before .before .args .g) (joined (c .before .before .before .before .before .before .before .before .before .before .before .before .before .args .registers .now) (c .before .before .before .before .before .before .before .before .before .before .before .before .before .args .predicates .now) (c .before .before .before .before .before .before .before .before .before .before .before .before .before .args .self)) (c .before .before .before .before .before .before .before .before .before .before .before .before .before .args .kind) (c .before .before .before .before .before .before .before .before .before .before .before .before .before .args .width) (c .before .before .before .before .before .before .before .before .before .before .before .before .before .args .rd) (c .before .before .before .before .before .before .before .before .before .before .before .before .before .args .address), ← c .before .before .before .before .before .before .before .before .before .judge-load .ensures, c .before .before .before .before .before .before .before .enum-told .given .1, ← c .before .before .before .before .before .before .load .ensures) (full-same _ _ _ (c .finish .ensures ∙ ap (λ (s : State). doneWith (nearer (c .before .before .before .before .before .before .before .before .before .before .before .before .before .args .self .transfer) (c .before .before .before .before .before .before .before .before .before .before .before .before .before .args .following) (writeAlu (c .before .before .before .before .before .before .before .before .before .before .before .before .before .args .two) s)) 1 0 0) (c .before .before .before .with-load .ensures _ _ ∙ ap (λ (s : State). withLoad s (Waits (c .before .before .before .before .before .before .before .before .before .before .before .before .before .args .rd) (c .before .before .before .before .before .before .load .result))) (c .before .before .before .before .land-load .ensures _))))
+unfolding executed written writeOne buffersAfter waitingLoad
+returns-2 c = rw (load-tests (c .before .before .before .before .before .before .before .before .before .before .before .before .before .before .args .g) (joined (c .before .before .before .before .before .before .before .before .before .before .before .before .before .before .args .registers .now) (c .before .before .before .before .before .before .before .before .before .before .before .before .before .before .args .predicates .now) (c .before .before .before .before .before .before .before .before .before .before .before .before .before .before .args .self)) (c .before .before .before .before .before .before .before .before .before .before .before .before .before .before .args .kind) (c .before .before .before .before .before .before .before .before .before .before .before .before .before .before .args .width) (c .before .before .before .before .before .before .before .before .before .before .before .before .before .before .args .rd) (c .before .before .before .before .before .before .before .before .before .before .before .before .before .before .args .address), ← c .before .before .before .before .before .before .before .before .before .before .judge-load .ensures, c .before .before .before .before .before .before .before .before .enum-told .given .1, ← c .before .before .before .before .before .before .before .load .ensures) (full-same _ _ _ (c .finish .ensures ∙ ap (λ (s : State). doneWith (nearer (waitingTransfer (c .before .before .before .before .before .before .before .before .before .before .before .before .before .before .args .self .transfer)) (c .before .before .before .before .before .before .before .before .before .before .before .before .before .before .args .following) (writeAlu (c .before .before .before .before .before .before .before .before .before .before .before .before .before .before .args .two) s)) 1 0 0) (c .before .before .before .with-load .ensures _ _ ∙ ap (λ (s : State). withLoad s (Waits (c .before .before .before .before .before .before .before .before .before .before .before .before .before .before .args .rd) (c .before .before .before .before .before .before .before .load .result))) (c .before .before .before .before .land-load .ensures _))))
 
 pub do-load-spec : {M : Type 1} → statement M
 do-load-spec =

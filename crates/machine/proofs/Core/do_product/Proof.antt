@@ -4,6 +4,7 @@ use Rattle.machine.specs.Execute.{executed, doneWith}
 use Rattle.machine.specs.declared.State.{State}
 use Rattle.machine.specs.State.{withProduct}
 use Rattle.memory.specs.Access.{verdict}
+use Rattle.machine.specs.Core.{waitingTransfer}
 use Rattle.machine.specs.ExecuteLaws.{full-same}
 use Rattle.machine.proofs.Core.do_product.Statement.{statement}
 use Rattle.machine.proofs.Core.do_product.Tie as tie
@@ -19,7 +20,7 @@ finish-requires c κs = tt
 
 returns : tie.Need-returns
 unfolding executed verdict written writeOne buffersAfter
-returns c = λ g bs. let a = c .before .before .before .before .before .before .args in full-same _ _ _ (c .finish .ensures ∙ ap (λ (s : State). doneWith (nearer (a .self .transfer) (a .following) (writeAlu (a .two) s)) 1 0 0) (c .before .before .before .write-product .ensures _ _ ∙ ap (λ (s : State). withProduct s (a .low) (a .high)) (c .before .before .before .before .land-load .ensures _)))
+returns c = λ g bs. let a = c .before .before .before .before .before .before .before .args in full-same _ _ _ (c .finish .ensures ∙ ap (λ (s : State). doneWith (nearer (waitingTransfer (a .self .transfer)) (a .following) (writeAlu (a .two) s)) 1 0 0) (c .before .before .before .write-product .ensures _ _ ∙ ap (λ (s : State). withProduct s (a .low) (a .high)) (c .before .before .before .before .land-load .ensures _)))
 
 pub do-product-spec : {M : Type 1} → statement M
 do-product-spec = tie.close (tie.spec land-load-requires write-product-requires finish-requires returns)

@@ -2,7 +2,7 @@ use mathlib.Core.Path.{sym, ap, _∙_}
 use Rattle.machine.specs.Bundle.{written, writeOne, buffersAfter, writeAlu, nearer, full}
 use Rattle.machine.specs.Execute.{executed, doneWith}
 use Rattle.machine.specs.declared.State.{State}
-use Rattle.machine.specs.Core.{joined}
+use Rattle.machine.specs.Core.{joined, waitingTransfer}
 use native.Mathlib.Omega.{arith}
 use Rattle.memory.specs.SettingsLaws.{words-small, area-ordered, area-inside}
 use Rattle.stack_cache.specs.PlanLaws.{planned-told}
@@ -63,13 +63,13 @@ unfolding executed written writeOne buffersAfter stackMoved
 returns-2 c = λ l. rw (stack-tests (c .before .before .before .before .before .before .before .before .before .args .g) (joined (c .before .before .before .before .before .before .before .before .before .args .registers .now) (c .before .before .before .before .before .before .before .before .before .args .predicates .now) (c .before .before .before .before .before .before .before .before .before .args .self)) (c .before .before .before .before .before .before .before .before .before .args .control) (c .before .before .before .before .before .before .before .before .before .args .words) (c .before .before .before .before .before .before .before .before .before .args .aligned), c .before .before .before .before .before .before .if1 .left, ← c .before .before .before .before .plan .ensures, c .before .before .number .given .1) (full-same _ _ _ (c .refused2 .ensures _ _))
 
 same-length : tie.Need-same-length
-same-length c = c .before .before .before .before .before .before .before .before .before .before .before .before .before .before .move-words .kept .0
+same-length c = c .before .before .before .before .before .before .before .before .before .before .before .before .before .before .before .move-words .kept .0
 
 same-length-2 : tie.Need-same-length-2
-same-length-2 c = c .before .before .before .before .before .before .before .before .before .before .before .before .before .before .move-words .kept .1 .0
+same-length-2 c = c .before .before .before .before .before .before .before .before .before .before .before .before .before .before .before .move-words .kept .1 .0
 
 returns-3 : tie.Need-returns-3
-returns-3 c = λ l. full-then _ _ _ _ (c .done .ensures _ _ ∙ (λ i. doneWith ((c .before .before .before .nearer .ensures _ _ ∙ ap (λ (s : State). nearer (c .before .before .before .before .before .before .before .before .before .before .before .before .before .before .before .before .before .before .before .before .before .before .before .before .before .args .self .transfer) (c .before .before .before .before .before .before .before .before .before .before .before .before .before .before .before .before .before .before .before .before .before .before .before .before .before .args .following) s) (c .before .before .before .before .write-alu .ensures _ ∙ ap (writeAlu (c .before .before .before .before .before .before .before .before .before .before .before .before .before .before .before .before .before .before .before .before .before .before .before .before .before .args .two)) (c .before .before .before .before .before .before .before .write-stack .ensures _ _ ∙ ap (λ (s : State). withStack s (c .before .before .before .before .before .before .before .before .before .before .before .before .before .before .before .before .before .before .st .given .0 .0) (c .before .before .before .before .before .before .before .before .before .before .before .before .before .before .before .before .before .before .st .given .0 .1 .0)) (c .before .before .before .before .before .before .before .before .land-load .ensures (c .before .before .before .before .before .before .before .before .before .before .before .before .before .before .before .before .before .before .before .before .before .before .before .before .before .args .predicates .now))))) i) 1 (c .before .before .wide .ensures i) (c .before .wide2 .ensures i))) (stack-done (c .before .before .before .before .before .before .before .before .before .before .before .before .before .before .before .before .before .before .before .before .before .before .before .before .before .args .g) (joined (c .before .before .before .before .before .before .before .before .before .before .before .before .before .before .before .before .before .before .before .before .before .before .before .before .before .args .registers .now) (c .before .before .before .before .before .before .before .before .before .before .before .before .before .before .before .before .before .before .before .before .before .before .before .before .before .args .predicates .now) (c .before .before .before .before .before .before .before .before .before .before .before .before .before .before .before .before .before .before .before .before .before .before .before .before .before .args .self)) (c .before .before .before .before .before .before .before .before .before .before .before .before .before .before .before .before .before .before .before .before .before .before .before .before .before .args .control) (c .before .before .before .before .before .before .before .before .before .before .before .before .before .before .before .before .before .before .before .before .before .before .before .before .before .args .words) (c .before .before .before .before .before .before .before .before .before .before .before .before .before .before .before .before .before .before .before .before .before .before .before .before .before .args .aligned) (c .before .before .before .before .before .before .before .before .before .before .before .before .before .before .before .before .before .before .before .before .before .before .before .before .before .args .two) (c .before .before .before .before .before .before .before .before .before .before .before .before .before .before .before .before .before .before .before .before .before .before .before .before .before .args .following) _ l _ _ _ _ _ _ _ (c .before .before .before .before .before .before .before .before .before .before .before .before .before .before .before .before .before .before .before .before .before .before .if1 .left) (sym (c .before .before .before .before .before .before .before .before .before .before .before .before .before .before .before .before .before .before .before .before .plan .ensures) ∙ c .before .before .before .before .before .before .before .before .before .before .before .before .before .before .before .before .before .before .st .given .1) (c .before .before .before .before .before .before .before .before .before .before .before .before .before .before .move-words .ensures))
+returns-3 c = λ l. full-then _ _ _ _ (c .done .ensures _ _ ∙ (λ i. doneWith ((c .before .before .before .nearer .ensures _ _ ∙ ap (λ (s : State). nearer (waitingTransfer (c .before .before .before .before .before .before .before .before .before .before .before .before .before .before .before .before .before .before .before .before .before .before .before .before .before .before .args .self .transfer)) (c .before .before .before .before .before .before .before .before .before .before .before .before .before .before .before .before .before .before .before .before .before .before .before .before .before .before .args .following) s) (c .before .before .before .before .write-alu .ensures _ ∙ ap (writeAlu (c .before .before .before .before .before .before .before .before .before .before .before .before .before .before .before .before .before .before .before .before .before .before .before .before .before .before .args .two)) (c .before .before .before .before .before .before .before .write-stack .ensures _ _ ∙ ap (λ (s : State). withStack s (c .before .before .before .before .before .before .before .before .before .before .before .before .before .before .before .before .before .before .before .st .given .0 .0) (c .before .before .before .before .before .before .before .before .before .before .before .before .before .before .before .before .before .before .before .st .given .0 .1 .0)) (c .before .before .before .before .before .before .before .before .land-load .ensures (c .before .before .before .before .before .before .before .before .before .before .before .before .before .before .before .before .before .before .before .before .before .before .before .before .before .before .args .predicates .now))))) i) 1 (c .before .before .wide .ensures i) (c .before .wide2 .ensures i))) (stack-done (c .before .before .before .before .before .before .before .before .before .before .before .before .before .before .before .before .before .before .before .before .before .before .before .before .before .before .args .g) (joined (c .before .before .before .before .before .before .before .before .before .before .before .before .before .before .before .before .before .before .before .before .before .before .before .before .before .before .args .registers .now) (c .before .before .before .before .before .before .before .before .before .before .before .before .before .before .before .before .before .before .before .before .before .before .before .before .before .before .args .predicates .now) (c .before .before .before .before .before .before .before .before .before .before .before .before .before .before .before .before .before .before .before .before .before .before .before .before .before .before .args .self)) (c .before .before .before .before .before .before .before .before .before .before .before .before .before .before .before .before .before .before .before .before .before .before .before .before .before .before .args .control) (c .before .before .before .before .before .before .before .before .before .before .before .before .before .before .before .before .before .before .before .before .before .before .before .before .before .before .args .words) (c .before .before .before .before .before .before .before .before .before .before .before .before .before .before .before .before .before .before .before .before .before .before .before .before .before .before .args .aligned) (c .before .before .before .before .before .before .before .before .before .before .before .before .before .before .before .before .before .before .before .before .before .before .before .before .before .before .args .two) (c .before .before .before .before .before .before .before .before .before .before .before .before .before .before .before .before .before .before .before .before .before .before .before .before .before .before .args .following) _ l _ _ _ _ _ _ _ (c .before .before .before .before .before .before .before .before .before .before .before .before .before .before .before .before .before .before .before .before .before .before .before .if1 .left) (sym (c .before .before .before .before .before .before .before .before .before .before .before .before .before .before .before .before .before .before .before .before .before .plan .ensures) ∙ c .before .before .before .before .before .before .before .before .before .before .before .before .before .before .before .before .before .before .before .st .given .1) (c .before .before .before .before .before .before .before .before .before .before .before .before .before .before .before .move-words .ensures))
 
 pub do-stack-spec : {M : Type 1} → statement M
 do-stack-spec =

@@ -2,7 +2,7 @@ use mathlib.Core.Path.{ap, _∙_}
 use Rattle.machine.specs.Bundle.{written, writeOne, buffersAfter, writeAlu, nearer, full}
 use Rattle.machine.specs.Execute.{executed, doneWith}
 use Rattle.machine.specs.declared.State.{State}
-use Rattle.machine.specs.Core.{joined}
+use Rattle.machine.specs.Core.{joined, waitingTransfer}
 use Rattle.machine.specs.ExecuteLaws.{store-tests, full-same}
 use borrow.Author.Needs.{needs}
 use Rattle.machine.proofs.Core.do_store.Statement.{statement}
@@ -44,7 +44,7 @@ same-length-3 c = search needs
 
 returns-2 : tie.Need-returns-2
 unfolding executed written writeOne buffersAfter
-returns-2 c = rw (store-tests (c .before .before .before .before .before .before .before .before .before .before .before .before .before .before .before .before .before .before .before .before .before .args .g) (joined (c .before .before .before .before .before .before .before .before .before .before .before .before .before .before .before .before .before .before .before .before .before .args .registers .now) (c .before .before .before .before .before .before .before .before .before .before .before .before .before .before .before .before .before .before .before .before .before .args .predicates .now) (c .before .before .before .before .before .before .before .before .before .before .before .before .before .before .before .before .before .before .before .before .before .args .self)) (c .before .before .before .before .before .before .before .before .before .before .before .before .before .before .before .before .before .before .before .before .before .args .kind) (c .before .before .before .before .before .before .before .before .before .before .before .before .before .before .before .before .before .before .before .before .before .args .width) (c .before .before .before .before .before .before .before .before .before .before .before .before .before .before .before .before .before .before .before .before .before .args .address) (c .before .before .before .before .before .before .before .before .before .before .before .before .before .before .before .before .before .before .before .before .before .args .value), ← c .before .before .before .before .before .before .before .before .before .before .before .before .before .before .before .before .before .judge-store .ensures, c .before .before .before .before .before .before .before .before .before .before .before .before .before .before .before .enum-told .given .1, ← c .before .before .before .before .before .before .before .before .before .before .before .store .ensures) (full-same _ _ _ (c .finish .ensures ∙ ap (λ (s : State). doneWith (nearer (c .before .before .before .before .before .before .before .before .before .before .before .before .before .before .before .before .before .before .before .before .before .args .self .transfer) (c .before .before .before .before .before .before .before .before .before .before .before .before .before .before .before .before .before .before .before .before .before .args .following) (writeAlu (c .before .before .before .before .before .before .before .before .before .before .before .before .before .before .before .before .before .before .before .before .before .args .two) s)) 1 0 0) (c .before .before .before .land-load .ensures _)))
+returns-2 c = rw (store-tests (c .before .before .before .before .before .before .before .before .before .before .before .before .before .before .before .before .before .before .before .before .before .before .args .g) (joined (c .before .before .before .before .before .before .before .before .before .before .before .before .before .before .before .before .before .before .before .before .before .before .args .registers .now) (c .before .before .before .before .before .before .before .before .before .before .before .before .before .before .before .before .before .before .before .before .before .before .args .predicates .now) (c .before .before .before .before .before .before .before .before .before .before .before .before .before .before .before .before .before .before .before .before .before .before .args .self)) (c .before .before .before .before .before .before .before .before .before .before .before .before .before .before .before .before .before .before .before .before .before .before .args .kind) (c .before .before .before .before .before .before .before .before .before .before .before .before .before .before .before .before .before .before .before .before .before .before .args .width) (c .before .before .before .before .before .before .before .before .before .before .before .before .before .before .before .before .before .before .before .before .before .before .args .address) (c .before .before .before .before .before .before .before .before .before .before .before .before .before .before .before .before .before .before .before .before .before .before .args .value), ← c .before .before .before .before .before .before .before .before .before .before .before .before .before .before .before .before .before .before .judge-store .ensures, c .before .before .before .before .before .before .before .before .before .before .before .before .before .before .before .before .enum-told .given .1, ← c .before .before .before .before .before .before .before .before .before .before .before .before .store .ensures) (full-same _ _ _ (c .finish .ensures ∙ ap (λ (s : State). doneWith (nearer (waitingTransfer (c .before .before .before .before .before .before .before .before .before .before .before .before .before .before .before .before .before .before .before .before .before .before .args .self .transfer)) (c .before .before .before .before .before .before .before .before .before .before .before .before .before .before .before .before .before .before .before .before .before .before .args .following) (writeAlu (c .before .before .before .before .before .before .before .before .before .before .before .before .before .before .before .before .before .before .before .before .before .before .args .two) s)) 1 0 0) (c .before .before .before .land-load .ensures _)))
 
 pub do-store-spec : {M : Type 1} → statement M
 do-store-spec =

@@ -8,18 +8,15 @@ use Rattle.machine.specs.ExecuteLaws.{transfer-tests, full-same}
 use Rattle.machine.proofs.Core.do_transfer.Statement.{statement}
 use Rattle.machine.proofs.Core.do_transfer.Tie as tie
 
-enum-told : tie.Need-enum-told
-enum-told c = c .match .keys1
+none-waits-requires : tie.Need-none-waits-requires
+none-waits-requires c κs = tt
 
 refused-requires : tie.Need-refused-requires
 refused-requires c κs = tt
 
 returns : tie.Need-returns
 unfolding executed written writeOne buffersAfter
-returns c = λ g bs. rw (transfer-tests g (joined (c .before .before .before .args .registers .now) (c .before .before .before .args .predicates .now) (c .before .before .before .args .self)) (c .before .before .before .args .delayed) (c .before .before .before .args .transfer) _ (c .before .enum-told .given .1)) (full-same _ _ _ (c .refused .ensures _ _))
-
-enum-told-2 : tie.Need-enum-told-2
-enum-told-2 c = c .match .keys2
+returns c = λ g bs. rw (transfer-tests g (joined (c .before .before .before .before .args .registers .now) (c .before .before .before .before .args .predicates .now) (c .before .before .before .before .args .self)) (c .before .before .before .before .args .delayed) (c .before .before .before .before .args .transfer), ← c .before .before .none-waits .ensures, c .before .if1 .taken) (full-same _ _ _ (c .refused .ensures _ _))
 
 transfer-cycles-requires : tie.Need-transfer-cycles-requires
 transfer-cycles-requires c κs = tt
@@ -38,16 +35,15 @@ done-requires c κs = tt
 
 returns-2 : tie.Need-returns-2
 unfolding executed written writeOne buffersAfter
-returns-2 c = λ g bs. rw (transfer-tests g (joined (c .before .before .before .before .before .before .before .before .before .before .args .registers .now) (c .before .before .before .before .before .before .before .before .before .before .args .predicates .now) (c .before .before .before .before .before .before .before .before .before .before .args .self)) (c .before .before .before .before .before .before .before .before .before .before .args .delayed) (c .before .before .before .before .before .before .before .before .before .before .args .transfer) _ (c .before .before .before .before .before .before .before .before .enum-told2 .given .1), ← c .before .before .before .before .before .before .before .transfer-cycles .ensures) (full-same _ _ _ (c .done .ensures _ _ ∙ ap (λ (s : State). doneWith s (c .before .before .before .before .before .before .before .transfer-cycles .result) 0 0) (c .before .begin .ensures _ _ ∙ ap (λ (s : State). begun (c .before .before .before .before .before .before .before .before .before .before .args .delayed) (c .before .before .before .before .before .before .before .before .before .before .args .transfer) (c .before .before .before .before .before .before .before .before .before .before .args .following) s) (c .before .before .write-alu .ensures _ ∙ ap (writeAlu (c .before .before .before .before .before .before .before .before .before .before .args .two)) (c .before .before .before .before .before .land-load .ensures _)))))
+returns-2 c = λ g bs. rw (transfer-tests g (joined (c .before .before .before .before .before .before .before .before .before .before .before .args .registers .now) (c .before .before .before .before .before .before .before .before .before .before .before .args .predicates .now) (c .before .before .before .before .before .before .before .before .before .before .before .args .self)) (c .before .before .before .before .before .before .before .before .before .before .before .args .delayed) (c .before .before .before .before .before .before .before .before .before .before .before .args .transfer), ← c .before .before .before .before .before .before .before .before .before .none-waits .ensures, c .before .before .before .before .before .before .before .before .if1 .left, ← c .before .before .before .before .before .before .before .transfer-cycles .ensures) (full-same _ _ _ (c .done .ensures _ _ ∙ ap (λ (s : State). doneWith s (c .before .before .before .before .before .before .before .transfer-cycles .result) 0 0) (c .before .begin .ensures _ _ ∙ ap (λ (s : State). begun (c .before .before .before .before .before .before .before .before .before .before .before .args .delayed) (c .before .before .before .before .before .before .before .before .before .before .before .args .transfer) (c .before .before .before .before .before .before .before .before .before .before .before .args .following) s) (c .before .before .write-alu .ensures _ ∙ ap (writeAlu (c .before .before .before .before .before .before .before .before .before .before .before .args .two)) (c .before .before .before .before .before .land-load .ensures _)))))
 
 pub do-transfer-spec : {M : Type 1} → statement M
 do-transfer-spec =
     tie.close
     (tie.spec
-    enum-told
+    none-waits-requires
     refused-requires
     returns
-    enum-told-2
     transfer-cycles-requires
     land-load-requires
     write-alu-requires

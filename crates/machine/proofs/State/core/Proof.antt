@@ -1,0 +1,18 @@
+use Rattle.machine.proofs.State.core.Statement.{statement}
+use Rattle.machine.proofs.State.core.Tie as tie
+use Rattle.machine.proofs.State.core.Reads as reads
+use Rattle.machine.proofs.State.core.Lts as lts
+use Rattle.machine.proofs.waiting.load_words.Reads as load-words-reads
+use Rattle.machine.proofs.waiting.transfer_words.Reads as transfer-words-reads
+
+transfer-words-requires : tie.Need-transfer-words-requires
+transfer-words-requires c κs = tt
+
+load-words-requires : tie.Need-load-words-requires
+load-words-requires c κs = tt
+
+returns : tie.Need-returns
+returns c = rw (c .before .transfer-words .ensures, c .load-words .ensures)
+
+pub core-spec : {M : Type 1} → statement M
+core-spec = tie.close (tie.spec transfer-words-requires load-words-requires returns)
