@@ -1,4 +1,6 @@
 // The fields after a line's keyword.
+ghost use mathlib.Core.Path.{_≡_};
+ghost use Rattle.case_file.specs.Arguments.{isEnd, numberAt, wordAt, codeEntry, privateEntry};
 use crate::Argument;
 use crate::CodeEntry;
 use crate::Item;
@@ -11,12 +13,16 @@ use text::numbers::decimal;
 use text::numbers::word;
 
 // Whether no field is left.
-pub(crate) fn ended(line: &[u8], at: usize) -> bool {
+pub(crate) fn ended(line: &[u8], at: usize) -> bool
+    ensures { λ r. ⌜ r ≡ isEnd (now (line .entry)) at ⌝ }
+{
     let f = next_field(line, at);
     f.start == f.end
 }
 
-pub(crate) fn number_at(line: &[u8], at: usize) -> Argument {
+pub(crate) fn number_at(line: &[u8], at: usize) -> Argument
+    ensures { λ r. ⌜ r ≡ numberAt (now (line .entry)) at ⌝ }
+{
     let f = next_field(line, at);
     let start = f.start;
     let end = f.end;
@@ -29,7 +35,9 @@ pub(crate) fn number_at(line: &[u8], at: usize) -> Argument {
     }
 }
 
-pub(crate) fn word_at(line: &[u8], at: usize) -> Argument {
+pub(crate) fn word_at(line: &[u8], at: usize) -> Argument
+    ensures { λ r. ⌜ r ≡ wordAt (now (line .entry)) at ⌝ }
+{
     let f = next_field(line, at);
     let start = f.start;
     let end = f.end;
@@ -42,7 +50,9 @@ pub(crate) fn word_at(line: &[u8], at: usize) -> Argument {
     }
 }
 
-pub fn code_entry(line: &[u8], at: usize) -> CodeEntry {
+pub fn code_entry(line: &[u8], at: usize) -> CodeEntry
+    ensures { λ r. ⌜ r ≡ codeEntry (now (line .entry)) at ⌝ }
+{
     if ended(line, at) {
         return CodeEntry::End;
     }
@@ -52,7 +62,9 @@ pub fn code_entry(line: &[u8], at: usize) -> CodeEntry {
     }
 }
 
-pub fn private_entry(line: &[u8], at: usize) -> PrivateEntry {
+pub fn private_entry(line: &[u8], at: usize) -> PrivateEntry
+    ensures { λ r. ⌜ r ≡ privateEntry (now (line .entry)) at ⌝ }
+{
     let f = next_field(line, at);
     let start = f.start;
     let end = f.end;

@@ -1,34 +1,33 @@
 // The words that a line can start with, and the names that it can hold.
+ghost use mathlib.Core.Path.{_≡_};
+ghost use lib.ListN.{drop};
+ghost use Rattle.case_file.specs.Names.{lookUp, keywords, keywordOf, transferKindOf, specialNameOf};
+ghost use Rattle.case_file.specs.Names.{numbered, otherItems, itemOf};
 use crate::Item;
 use crate::Keyword;
+use crate::NumberAndWord;
+use crate::OneNumber;
 use crate::SpecialName;
 use crate::TransferKind;
 use text::Number;
 use text::fields::same;
 use text::numbers::decimal;
 
-// The keywords of a case's parts and operations.
-fn part_keyword(s: &[u8]) -> Keyword {
-    if same(s, b"case") {
-        return Keyword::Case;
+// The keywords of places and of operations.
+fn place_or_operation(s: &[u8]) -> Keyword
+    ensures { λ r. ⌜ r ≡ lookUp (drop 14 keywords) Keyword.Unknown (now (s .entry)) ⌝ }
+{
+    if same(s, b"mainword") {
+        return Keyword::NumberAndWord(NumberAndWord::MainWord);
     }
-    if same(s, b"code") {
-        return Keyword::Code;
+    if same(s, b"localword") {
+        return Keyword::NumberAndWord(NumberAndWord::LocalWord);
     }
-    if same(s, b"main") {
-        return Keyword::Main;
-    }
-    if same(s, b"local") {
-        return Keyword::Local;
-    }
-    if same(s, b"stack") {
-        return Keyword::Stack;
-    }
-    if same(s, b"private") {
-        return Keyword::Private;
+    if same(s, b"cacheword") {
+        return Keyword::NumberAndWord(NumberAndWord::CacheWord);
     }
     if same(s, b"run") {
-        return Keyword::Run;
+        return Keyword::OneNumber(OneNumber::Run);
     }
     if same(s, b"step") {
         return Keyword::Step;
@@ -39,19 +38,21 @@ fn part_keyword(s: &[u8]) -> Keyword {
     Keyword::Unknown
 }
 
-// The keywords of the state.
-fn state_keyword(s: &[u8]) -> Keyword {
+// The keywords of the state and those after them.
+fn state_keyword(s: &[u8]) -> Keyword
+    ensures { λ r. ⌜ r ≡ lookUp (drop 6 keywords) Keyword.Unknown (now (s .entry)) ⌝ }
+{
     if same(s, b"entry") {
-        return Keyword::Entry;
+        return Keyword::OneNumber(OneNumber::Entry);
     }
     if same(s, b"fetch") {
-        return Keyword::Fetch;
+        return Keyword::OneNumber(OneNumber::Fetch);
     }
     if same(s, b"base") {
-        return Keyword::Base;
+        return Keyword::OneNumber(OneNumber::Base);
     }
     if same(s, b"reg") {
-        return Keyword::Reg;
+        return Keyword::NumberAndWord(NumberAndWord::Reg);
     }
     if same(s, b"pred") {
         return Keyword::Pred;
@@ -63,38 +64,38 @@ fn state_keyword(s: &[u8]) -> Keyword {
         return Keyword::Transfer;
     }
     if same(s, b"load") {
-        return Keyword::Load;
+        return Keyword::NumberAndWord(NumberAndWord::Load);
     }
-    Keyword::Unknown
+    place_or_operation(s)
 }
 
-// The keywords of places.
-fn place_keyword(s: &[u8]) -> Keyword {
-    if same(s, b"mainword") {
-        return Keyword::MainWord;
+pub(crate) fn first_word(s: &[u8]) -> Keyword
+    ensures { λ r. ⌜ r ≡ keywordOf (now (s .entry)) ⌝ }
+{
+    if same(s, b"case") {
+        return Keyword::Case;
     }
-    if same(s, b"localword") {
-        return Keyword::LocalWord;
+    if same(s, b"code") {
+        return Keyword::Code;
     }
-    if same(s, b"cacheword") {
-        return Keyword::CacheWord;
+    if same(s, b"main") {
+        return Keyword::OneNumber(OneNumber::Main);
     }
-    Keyword::Unknown
+    if same(s, b"local") {
+        return Keyword::OneNumber(OneNumber::Local);
+    }
+    if same(s, b"stack") {
+        return Keyword::Stack;
+    }
+    if same(s, b"private") {
+        return Keyword::Private;
+    }
+    state_keyword(s)
 }
 
-pub(crate) fn first_word(s: &[u8]) -> Keyword {
-    let k = part_keyword(s);
-    let Keyword::Unknown = k else {
-        return k;
-    };
-    let k = state_keyword(s);
-    let Keyword::Unknown = k else {
-        return k;
-    };
-    place_keyword(s)
-}
-
-pub(crate) fn transfer_kind(s: &[u8]) -> TransferKind {
+pub(crate) fn transfer_kind(s: &[u8]) -> TransferKind
+    ensures { λ r. ⌜ r ≡ transferKindOf (now (s .entry)) ⌝ }
+{
     if same(s, b"br") {
         return TransferKind::Br;
     }
@@ -107,7 +108,9 @@ pub(crate) fn transfer_kind(s: &[u8]) -> TransferKind {
     TransferKind::Unknown
 }
 
-pub(crate) fn special_name(s: &[u8]) -> SpecialName {
+pub(crate) fn special_name(s: &[u8]) -> SpecialName
+    ensures { λ r. ⌜ r ≡ specialNameOf (now (s .entry)) ⌝ }
+{
     if same(s, b"sl") {
         return SpecialName::Sl;
     }
@@ -136,8 +139,10 @@ pub(crate) fn special_name(s: &[u8]) -> SpecialName {
 }
 
 // A letter and a decimal number up to greatest.
-fn numbered(s: &[u8], letter: u8, greatest: u32) -> Number {
-    if s.len() < 2 {
+fn numbered(s: &[u8], letter: u8, greatest: u32) -> Number
+    ensures { λ r. ⌜ r ≡ numbered letter greatest (now (s .entry)) ⌝ }
+{
+    if s.len() == 0 {
         return Number::Bad;
     }
     if s[0] != letter {
@@ -155,7 +160,9 @@ fn numbered(s: &[u8], letter: u8, greatest: u32) -> Number {
     }
 }
 
-fn store_item(s: &[u8]) -> Item {
+fn other_item(s: &[u8]) -> Item
+    ensures { λ r. ⌜ r ≡ lookUp otherItems Item.Unknown (now (s .entry)) ⌝ }
+{
     if same(s, b"sl") {
         return Item::Sl;
     }
@@ -174,12 +181,14 @@ fn store_item(s: &[u8]) -> Item {
     Item::Unknown
 }
 
-pub fn marking_item(s: &[u8]) -> Item {
+pub fn marking_item(s: &[u8]) -> Item
+    ensures { λ r. ⌜ r ≡ itemOf (now (s .entry)) ⌝ }
+{
     if let Number::Value(n) = numbered(s, b'r', 31) {
         return Item::Register(n);
     }
     if let Number::Value(n) = numbered(s, b'p', 7) {
         return Item::Predicate(n);
     }
-    store_item(s)
+    other_item(s)
 }

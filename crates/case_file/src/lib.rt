@@ -27,25 +27,35 @@ pub enum PrivateEntry {
 pub enum Keyword {
     Case,
     Code,
-    Main,
-    Local,
+    OneNumber(OneNumber),
     Stack,
     Private,
-    Entry,
-    Fetch,
-    Base,
-    Reg,
+    NumberAndWord(NumberAndWord),
     Pred,
     Special,
     Transfer,
+    Step,
+    Check,
+    Unknown,
+}
+
+// The keywords that one number follows.
+pub enum OneNumber {
+    Main,
+    Local,
+    Entry,
+    Fetch,
+    Base,
+    Run,
+}
+
+// The keywords that a number and a word follow.
+pub enum NumberAndWord {
+    Reg,
     Load,
     MainWord,
     LocalWord,
     CacheWord,
-    Run,
-    Step,
-    Check,
-    Unknown,
 }
 
 // The kinds of a waiting transfer.

@@ -1,7 +1,12 @@
 // What a line of a case file says.
+ghost use mathlib.Core.Path.{_≡_};
+ghost use mathlib.Core.Bool.{cond};
+ghost use Rattle.case_file.specs.Line.{end, list, twoNumbers, threeNumbers, reg, pred, ofNumber, ofWord, lineAfter, lineOf};
 use crate::Argument;
 use crate::Keyword;
 use crate::Line;
+use crate::NumberAndWord;
+use crate::OneNumber;
 use crate::Reason;
 use crate::SpecialName;
 use crate::TransferKind;
@@ -15,14 +20,18 @@ use text::fields::is_name;
 use text::fields::next_field;
 
 // A line with nothing after what it said.
-fn whole(line: &[u8], at: usize, said: Line) -> Line {
+fn whole(line: &[u8], at: usize, said: Line) -> Line
+    ensures { λ r. ⌜ r ≡ end (now (line .entry)) at said ⌝ }
+{
     if ended(line, at) {
         return said;
     }
     Line::Mistake(Reason::FieldTooMany)
 }
 
-fn case_line(line: &[u8], at: usize) -> Line {
+fn case_line(line: &[u8], at: usize) -> Line
+    ensures { λ r. ⌜ r ≡ lineAfter (now (line .entry)) at Keyword.Case ⌝ }
+{
     let f = next_field(line, at);
     let start = f.start;
     let end = f.end;
@@ -36,50 +45,61 @@ fn case_line(line: &[u8], at: usize) -> Line {
 }
 
 // A line whose list has one field at least.
-fn list_line(line: &[u8], at: usize, said: Line) -> Line {
+fn list_line(line: &[u8], at: usize, said: Line) -> Line
+    ensures { λ r. ⌜ r ≡ list (now (line .entry)) at said ⌝ }
+{
     if ended(line, at) {
         return Line::Mistake(Reason::FieldMissing);
     }
     said
 }
 
-fn of_number(k: Keyword, n: u32) -> Line {
+fn of_number(k: OneNumber, n: u32) -> Line
+    ensures { λ r. ⌜ r ≡ ofNumber k n ⌝ }
+{
     match k {
-        Keyword::Main => Line::Main(n),
-        Keyword::Local => Line::Local(n),
-        Keyword::Entry => Line::Entry(n),
-        Keyword::Fetch => Line::Fetch(n),
-        Keyword::Base => Line::Base(n),
-        _ => Line::Run(n),
+        OneNumber::Main => Line::Main(n),
+        OneNumber::Local => Line::Local(n),
+        OneNumber::Entry => Line::Entry(n),
+        OneNumber::Fetch => Line::Fetch(n),
+        OneNumber::Base => Line::Base(n),
+        OneNumber::Run => Line::Run(n),
     }
 }
 
-fn number_line(line: &[u8], at: usize, k: Keyword) -> Line {
+fn number_line(line: &[u8], at: usize, k: OneNumber) -> Line
+    ensures { λ r. ⌜ r ≡ lineAfter (now (line .entry)) at (Keyword.OneNumber k) ⌝ }
+{
     match number_at(line, at) {
         Argument::Mistake(r) => Line::Mistake(r),
         Argument::Value { value, next } => whole(line, next, of_number(k, value)),
     }
 }
 
-fn reg(number: u32, word: u32) -> Line {
+fn reg(number: u32, word: u32) -> Line
+    ensures { λ r. ⌜ r ≡ reg number word ⌝ }
+{
     if number <= 31 {
         return Line::Reg { number, word };
     }
     Line::Mistake(Reason::NoSuchRegister)
 }
 
-fn of_word(k: Keyword, n: u32, word: u32) -> Line {
+fn of_word(k: NumberAndWord, n: u32, word: u32) -> Line
+    ensures { λ r. ⌜ r ≡ ofWord k n word ⌝ }
+{
     match k {
-        Keyword::Reg => reg(n, word),
-        Keyword::Load => Line::Load { number: n, word },
-        Keyword::MainWord => Line::MainWord { address: n, word },
-        Keyword::LocalWord => Line::LocalWord { address: n, word },
-        _ => Line::CacheWord { place: n, word },
+        NumberAndWord::Reg => reg(n, word),
+        NumberAndWord::Load => Line::Load { number: n, word },
+        NumberAndWord::MainWord => Line::MainWord { address: n, word },
+        NumberAndWord::LocalWord => Line::LocalWord { address: n, word },
+        NumberAndWord::CacheWord => Line::CacheWord { place: n, word },
     }
 }
 
-// A line with a number and a word.
-fn word_line(line: &[u8], at: usize, k: Keyword) -> Line {
+fn word_line(line: &[u8], at: usize, k: NumberAndWord) -> Line
+    ensures { λ r. ⌜ r ≡ lineAfter (now (line .entry)) at (Keyword.NumberAndWord k) ⌝ }
+{
     match number_at(line, at) {
         Argument::Mistake(r) => Line::Mistake(r),
         Argument::Value { value, next } => match word_at(line, next) {
@@ -92,7 +112,9 @@ fn word_line(line: &[u8], at: usize, k: Keyword) -> Line {
     }
 }
 
-fn pred(number: u32, bit: u32) -> Line {
+fn pred(number: u32, bit: u32) -> Line
+    ensures { λ r. ⌜ r ≡ pred number bit ⌝ }
+{
     if 7 < number {
         return Line::Mistake(Reason::NoSuchPredicate);
     }
@@ -105,7 +127,9 @@ fn pred(number: u32, bit: u32) -> Line {
     }
 }
 
-fn pred_line(line: &[u8], at: usize) -> Line {
+fn pred_line(line: &[u8], at: usize) -> Line
+    ensures { λ r. ⌜ r ≡ lineAfter (now (line .entry)) at Keyword.Pred ⌝ }
+{
     match number_at(line, at) {
         Argument::Mistake(r) => Line::Mistake(r),
         Argument::Value { value, next } => match number_at(line, next) {
@@ -118,7 +142,9 @@ fn pred_line(line: &[u8], at: usize) -> Line {
     }
 }
 
-fn special_line(line: &[u8], at: usize) -> Line {
+fn special_line(line: &[u8], at: usize) -> Line
+    ensures { λ r. ⌜ r ≡ lineAfter (now (line .entry)) at Keyword.Special ⌝ }
+{
     let f = next_field(line, at);
     let start = f.start;
     let end = f.end;
@@ -135,26 +161,10 @@ fn special_line(line: &[u8], at: usize) -> Line {
     }
 }
 
-// The stack line, and a transfer of kind block: three numbers.
-fn three_line(line: &[u8], at: usize, is_stack: bool) -> Line {
-    match number_at(line, at) {
-        Argument::Mistake(r) => Line::Mistake(r),
-        Argument::Value { value: a, next } => match number_at(line, next) {
-            Argument::Mistake(r) => Line::Mistake(r),
-            Argument::Value { value: b, next } => match number_at(line, next) {
-                Argument::Mistake(r) => Line::Mistake(r),
-                Argument::Value { value: c, next } => whole(
-                    line,
-                    next,
-                    of_three(is_stack, a, b, c),
-                ),
-            },
-        },
-    }
-}
-
-fn of_three(is_stack: bool, a: u32, b: u32, c: u32) -> Line {
-    if is_stack {
+fn of_three(stack: bool, a: u32, b: u32, c: u32) -> Line
+    ensures { λ r. ⌜ r ≡ cond stack (Line.Stack a b c) (Line.Block a b c) ⌝ }
+{
+    if stack {
         return Line::Stack {
             words: a,
             lo: b,
@@ -168,14 +178,34 @@ fn of_three(is_stack: bool, a: u32, b: u32, c: u32) -> Line {
     }
 }
 
-fn br_or_call(is_call: bool, target: u32, wait: u32) -> Line {
-    if is_call {
+// The stack line, and a transfer of kind block: three numbers.
+fn three_line(line: &[u8], at: usize, stack: bool) -> Line
+    ensures { λ r. ⌜ r ≡ threeNumbers (now (line .entry)) at (λ a b c. cond stack (Line.Stack a b c) (Line.Block a b c)) ⌝ }
+{
+    match number_at(line, at) {
+        Argument::Mistake(r) => Line::Mistake(r),
+        Argument::Value { value: a, next } => match number_at(line, next) {
+            Argument::Mistake(r) => Line::Mistake(r),
+            Argument::Value { value: b, next } => match number_at(line, next) {
+                Argument::Mistake(r) => Line::Mistake(r),
+                Argument::Value { value: c, next } => whole(line, next, of_three(stack, a, b, c)),
+            },
+        },
+    }
+}
+
+fn br_or_call(call: bool, target: u32, wait: u32) -> Line
+    ensures { λ r. ⌜ r ≡ cond call (Line.Call target wait) (Line.Br target wait) ⌝ }
+{
+    if call {
         return Line::Call { target, wait };
     }
     Line::Br { target, wait }
 }
 
-fn two_line(line: &[u8], at: usize, is_call: bool) -> Line {
+fn two_line(line: &[u8], at: usize, call: bool) -> Line
+    ensures { λ r. ⌜ r ≡ twoNumbers (now (line .entry)) at (λ t w. cond call (Line.Call t w) (Line.Br t w)) ⌝ }
+{
     match number_at(line, at) {
         Argument::Mistake(r) => Line::Mistake(r),
         Argument::Value {
@@ -186,13 +216,15 @@ fn two_line(line: &[u8], at: usize, is_call: bool) -> Line {
             Argument::Value { value: wait, next } => whole(
                 line,
                 next,
-                br_or_call(is_call, target, wait),
+                br_or_call(call, target, wait),
             ),
         },
     }
 }
 
-fn transfer_line(line: &[u8], at: usize) -> Line {
+fn transfer_line(line: &[u8], at: usize) -> Line
+    ensures { λ r. ⌜ r ≡ lineAfter (now (line .entry)) at Keyword.Transfer ⌝ }
+{
     let f = next_field(line, at);
     let start = f.start;
     let end = f.end;
@@ -207,29 +239,29 @@ fn transfer_line(line: &[u8], at: usize) -> Line {
     }
 }
 
-fn after_keyword(line: &[u8], at: usize, k: Keyword) -> Line {
+fn after_keyword(line: &[u8], at: usize, k: Keyword) -> Line
+    ensures { λ r. ⌜ r ≡ lineAfter (now (line .entry)) at k ⌝ }
+{
     match k {
-        Keyword::Unknown => Line::Mistake(Reason::UnknownWord),
         Keyword::Case => case_line(line, at),
         Keyword::Code => list_line(line, at, Line::Code { list: at }),
-        Keyword::Private => list_line(line, at, Line::Private { list: at }),
+        Keyword::OneNumber(k) => number_line(line, at, k),
         Keyword::Stack => three_line(line, at, true),
+        Keyword::Private => list_line(line, at, Line::Private { list: at }),
+        Keyword::NumberAndWord(k) => word_line(line, at, k),
         Keyword::Pred => pred_line(line, at),
         Keyword::Special => special_line(line, at),
         Keyword::Transfer => transfer_line(line, at),
         Keyword::Step => whole(line, at, Line::Step),
         Keyword::Check => whole(line, at, Line::Check),
-        Keyword::Reg => word_line(line, at, Keyword::Reg),
-        Keyword::Load => word_line(line, at, Keyword::Load),
-        Keyword::MainWord => word_line(line, at, Keyword::MainWord),
-        Keyword::LocalWord => word_line(line, at, Keyword::LocalWord),
-        Keyword::CacheWord => word_line(line, at, Keyword::CacheWord),
-        _ => number_line(line, at, k),
+        Keyword::Unknown => Line::Mistake(Reason::UnknownWord),
     }
 }
 
 // A line without its line end.
-pub fn read_line(line: &[u8]) -> Line {
+pub fn read_line(line: &[u8]) -> Line
+    ensures { λ r. ⌜ r ≡ lineOf (now (line .entry)) ⌝ }
+{
     let f = next_field(line, 0);
     let start = f.start;
     let end = f.end;

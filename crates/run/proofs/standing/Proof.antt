@@ -1,15 +1,14 @@
-use borrow.Author.Needs.{needs}
 use Rattle.run.proofs.standing.Statement.{statement}
 use Rattle.run.proofs.standing.Tie as tie
 
 enum-known-r : tie.Need-enum-known-r
-enum-known-r c = search needs
+enum-known-r c = c .match .keys1
 
 enum-told : tie.Need-enum-told
-enum-told c = search needs
+enum-told c = c .match .keys2
 
 enum-told-2 : tie.Need-enum-told-2
-enum-told-2 c = search needs
+enum-told-2 c = c .match .keys3
 
 returns : tie.Need-returns
 returns c = λ s b. rw (c .before .r .given .1)

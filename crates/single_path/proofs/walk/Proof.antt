@@ -64,10 +64,10 @@ judge-requires : tie.Need-judge-requires Inv-loop μ-loop
 judge-requires c κs = tt
 
 enum-told : tie.Need-enum-told Inv-loop μ-loop
-enum-told c = search needs
+enum-told c = c .match .keys1
 
 enum-known-rule : tie.Need-enum-known-rule Inv-loop μ-loop
-enum-known-rule c = search needs
+enum-known-rule c = c .match .keys2
 
 returns-3 : tie.Need-returns-3 Inv-loop μ-loop
 unfolding outsideCode
@@ -79,7 +79,7 @@ returns-3 c = let l = c .before .before .before .before .before .before .before 
     (sym (walk-broken m k (l .left) (l .address) (c .before .before .before .before .before .before .before .before .before .loop-test .taken) (c .before .before .before .before .before .before .before .before .if1 .left) o (f .0) (f .1)) ∙ l .inv .2, f .2)
 
 enum-told-2 : tie.Need-enum-told-2 Inv-loop μ-loop
-enum-told-2 c = search needs
+enum-told-2 c = c .match .keys3
 
 returns-4 : tie.Need-returns-4 Inv-loop μ-loop
 unfolding outsideCode

@@ -4,7 +4,6 @@ use Rattle.machine.specs.Execute.{executed, doneWith}
 use Rattle.machine.specs.declared.State.{State}
 use Rattle.machine.specs.Core.{joined, waitingTransfer}
 use Rattle.machine.specs.ExecuteLaws.{store-tests, full-same}
-use borrow.Author.Needs.{needs}
 use Rattle.machine.proofs.Core.do_store.Statement.{statement}
 use Rattle.machine.proofs.Core.do_store.Tie as tie
 
@@ -34,13 +33,13 @@ finish-requires : tie.Need-finish-requires
 finish-requires c κs = tt
 
 same-length : tie.Need-same-length
-same-length c = search needs
+same-length c = c .before .before .before .before .before .before .before .before .before .before .before .before .store .kept .0
 
 same-length-2 : tie.Need-same-length-2
-same-length-2 c = search needs
+same-length-2 c = c .before .before .before .before .before .before .before .before .before .before .before .before .store .kept .1 .0
 
 same-length-3 : tie.Need-same-length-3
-same-length-3 c = search needs
+same-length-3 c = c .before .before .before .before .before .before .before .before .before .before .before .before .store .kept .1 .1 .0
 
 returns-2 : tie.Need-returns-2
 unfolding executed written writeOne buffersAfter

@@ -2,7 +2,6 @@ use mathlib.Core.Path.{refl, sym, _∙_}
 use Rattle.machine.specs.Bundle.{step}
 use Rattle.machine.specs.BundleLaws.{ready-admits}
 use Rattle.machine.specs.ExecuteLaws.{full-same}
-use borrow.Author.Needs.{needs}
 use Rattle.machine.proofs.Core.step.Statement.{statement}
 use Rattle.machine.proofs.Core.step.Tie as tie
 
@@ -36,13 +35,13 @@ unfolding step
 returns-2 c = rw (← c .before .before .before .readiness .ensures, c .before .enum-told .given .1) (full-same _ _ _ (c .ended .ensures _ _))
 
 same-length : tie.Need-same-length
-same-length c = search needs
+same-length c = c .before .before .before .before .before .before .bundle .kept .1 .1 .1 .1 .1 .0
 
 same-length-2 : tie.Need-same-length-2
-same-length-2 c = search needs
+same-length-2 c = c .before .before .before .before .before .before .bundle .kept .1 .1 .1 .1 .1 .1 .0
 
 same-length-3 : tie.Need-same-length-3
-same-length-3 c = search needs
+same-length-3 c = c .before .before .before .before .before .before .bundle .kept .1 .1 .1 .1 .1 .1 .1 .0
 
 returns-3 : tie.Need-returns-3
 unfolding step

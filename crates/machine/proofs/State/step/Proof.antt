@@ -2,7 +2,6 @@ use mathlib.Core.Path.{ap, _∙_}
 use Rattle.machine.specs.declared.State.{State}
 use Rattle.machine.specs.Bundle.{step}
 use Rattle.memory.specs.Access.{buffers}
-use borrow.Author.Needs.{needs}
 use Rattle.machine.proofs.State.step.Statement.{statement}
 use Rattle.machine.proofs.State.step.Tie as tie
 
@@ -16,13 +15,13 @@ join-requires : tie.Need-join-requires
 join-requires c κs = tt
 
 same-length : tie.Need-same-length
-same-length c = search needs
+same-length c = c .before .before .before .before .before .before .before .before .before .step .kept .1 .1 .1 .1 .0
 
 same-length-2 : tie.Need-same-length-2
-same-length-2 c = search needs
+same-length-2 c = c .before .before .before .before .before .before .before .before .before .step .kept .1 .1 .1 .1 .1 .0
 
 same-length-3 : tie.Need-same-length-3
-same-length-3 c = search needs
+same-length-3 c = c .before .before .before .before .before .before .before .before .before .step .kept .1 .1 .1 .1 .1 .1 .0
 
 returns : tie.Need-returns
 returns c = let a = c .before .before .before .before .before .before .before .before .before .before .before .before .before .before .before .before .before .before .before .before .before .before .args in rw (c .join .ensures) (c .before .before .before .before .before .before .before .before .before .step .ensures ∙ ap (λ (s : State). step (a .code .now) (a .lo) (a .hi) s (buffers (a .main .now) (a .local .now) (a .cache .now))) (c .before .before .before .before .before .before .before .before .before .before .before .before .before .before .before .core .ensures))

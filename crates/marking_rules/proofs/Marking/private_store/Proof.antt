@@ -1,19 +1,18 @@
 use Rattle.marking_rules.specs.Marking.{privateStore}
-use borrow.Author.Needs.{needs}
 use Rattle.marking_rules.proofs.Marking.private_store.Statement.{statement}
 use Rattle.marking_rules.proofs.Marking.private_store.Tie as tie
 
 enum-told : tie.Need-enum-told
-enum-told c = search needs
+enum-told c = c .match .keys1
 
 enum-told-2 : tie.Need-enum-told-2
-enum-told-2 c = search needs
+enum-told-2 c = c .match .keys2
 
 enum-told-3 : tie.Need-enum-told-3
-enum-told-3 c = search needs
+enum-told-3 c = c .match .keys3
 
 enum-told-4 : tie.Need-enum-told-4
-enum-told-4 c = search needs
+enum-told-4 c = c .match .keys4
 
 returns : tie.Need-returns
 unfolding privateStore

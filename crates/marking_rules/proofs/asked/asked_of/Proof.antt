@@ -2,18 +2,17 @@ use mathlib.Core.Path.{sym, ap, _∙_}
 use mathlib.Core.Bool.{not, _||_}
 use Rattle.marking_rules.specs.Rules.{result, controlling, asked}
 use Rattle.marking_rules.specs.RuleLaws.{stack-row, transfer-row}
-use borrow.Author.Needs.{needs}
 use Rattle.marking_rules.proofs.asked.asked_of.Statement.{statement}
 use Rattle.marking_rules.proofs.asked.asked_of.Tie as tie
 
 enum-known-o : tie.Need-enum-known-o
-enum-known-o c = search needs
+enum-known-o c = c .match .keys1
 
 asked-of-alu-requires : tie.Need-asked-of-alu-requires
 asked-of-alu-requires c κs = tt
 
 enum-known-o-2 : tie.Need-enum-known-o-2
-enum-known-o-2 c = search needs
+enum-known-o-2 c = c .match .keys2
 
 private-register-requires : tie.Need-private-register-requires
 private-register-requires c κs = tt
@@ -25,13 +24,13 @@ result-requires : tie.Need-result-requires
 result-requires c κs = tt
 
 enum-known-o-3 : tie.Need-enum-known-o-3
-enum-known-o-3 c = search needs
+enum-known-o-3 c = c .match .keys3
 
 asked-of-mts-requires : tie.Need-asked-of-mts-requires
 asked-of-mts-requires c κs = tt
 
 enum-known-o-4 : tie.Need-enum-known-o-4
-enum-known-o-4 c = search needs
+enum-known-o-4 c = c .match .keys4
 
 public-register-requires : tie.Need-public-register-requires
 public-register-requires c κs = tt
@@ -43,19 +42,19 @@ result-requires-2 : tie.Need-result-requires-2
 result-requires-2 c κs = tt
 
 enum-known-o-5 : tie.Need-enum-known-o-5
-enum-known-o-5 c = search needs
+enum-known-o-5 c = c .match .keys5
 
 asked-of-load-requires : tie.Need-asked-of-load-requires
 asked-of-load-requires c κs = tt
 
 enum-known-o-6 : tie.Need-enum-known-o-6
-enum-known-o-6 c = search needs
+enum-known-o-6 c = c .match .keys6
 
 asked-of-store-requires : tie.Need-asked-of-store-requires
 asked-of-store-requires c κs = tt
 
 enum-known-o-7 : tie.Need-enum-known-o-7
-enum-known-o-7 c = search needs
+enum-known-o-7 c = c .match .keys7
 
 private-stack-requires : tie.Need-private-stack-requires
 private-stack-requires c κs = tt
@@ -64,7 +63,7 @@ controlling-requires : tie.Need-controlling-requires
 controlling-requires c κs = tt
 
 enum-known-o-8 : tie.Need-enum-known-o-8
-enum-known-o-8 c = search needs
+enum-known-o-8 c = c .match .keys8
 
 private-target-requires : tie.Need-private-target-requires
 private-target-requires c κs = tt
@@ -73,13 +72,13 @@ controlling-requires-2 : tie.Need-controlling-requires-2
 controlling-requires-2 c κs = tt
 
 enum-told : tie.Need-enum-told
-enum-told c = search needs
+enum-told c = c .match .keys9
 
 controlling-requires-3 : tie.Need-controlling-requires-3
 controlling-requires-3 c κs = tt
 
 enum-told-2 : tie.Need-enum-told-2
-enum-told-2 c = search needs
+enum-told-2 c = c .match .keys10
 
 controlling-requires-4 : tie.Need-controlling-requires-4
 controlling-requires-4 c κs = tt

@@ -1,12 +1,11 @@
 use mathlib.Core.Path.{_∙_}
 use mathlib.Core.Bool.{_||_}
 use Rattle.marking_rules.specs.Rules.{asked, result}
-use borrow.Author.Needs.{needs}
 use Rattle.marking_rules.proofs.asked.asked_of_alu.Statement.{statement}
 use Rattle.marking_rules.proofs.asked.asked_of_alu.Tie as tie
 
 enum-known-o : tie.Need-enum-known-o
-enum-known-o c = search needs
+enum-known-o c = c .match .keys1
 
 public-register-requires : tie.Need-public-register-requires
 public-register-requires c κs = tt
@@ -21,7 +20,7 @@ result-requires : tie.Need-result-requires
 result-requires c κs = tt
 
 enum-known-o-2 : tie.Need-enum-known-o-2
-enum-known-o-2 c = search needs
+enum-known-o-2 c = c .match .keys2
 
 public-predicate-requires : tie.Need-public-predicate-requires
 public-predicate-requires c κs = tt
@@ -36,7 +35,7 @@ result-requires-2 : tie.Need-result-requires-2
 result-requires-2 c κs = tt
 
 enum-known-o-3 : tie.Need-enum-known-o-3
-enum-known-o-3 c = search needs
+enum-known-o-3 c = c .match .keys3
 
 public-predicate-requires-2 : tie.Need-public-predicate-requires-2
 public-predicate-requires-2 c κs = tt
@@ -51,7 +50,7 @@ result-requires-3 : tie.Need-result-requires-3
 result-requires-3 c κs = tt
 
 enum-known-o-4 : tie.Need-enum-known-o-4
-enum-known-o-4 c = search needs
+enum-known-o-4 c = c .match .keys4
 
 public-register-requires-2 : tie.Need-public-register-requires-2
 public-register-requires-2 c κs = tt

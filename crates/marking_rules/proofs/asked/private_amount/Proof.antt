@@ -1,12 +1,11 @@
-use borrow.Author.Needs.{needs}
 use Rattle.marking_rules.proofs.asked.private_amount.Statement.{statement}
 use Rattle.marking_rules.proofs.asked.private_amount.Tie as tie
 
 enum-told : tie.Need-enum-told
-enum-told c = search needs
+enum-told c = c .match .keys1
 
 enum-known-a : tie.Need-enum-known-a
-enum-known-a c = search needs
+enum-known-a c = c .match .keys2
 
 private-register-requires : tie.Need-private-register-requires
 private-register-requires c κs = tt

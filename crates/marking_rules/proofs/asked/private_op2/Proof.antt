@@ -1,18 +1,17 @@
-use borrow.Author.Needs.{needs}
 use Rattle.marking_rules.proofs.asked.private_op2.Statement.{statement}
 use Rattle.marking_rules.proofs.asked.private_op2.Tie as tie
 
 enum-known-o : tie.Need-enum-known-o
-enum-known-o c = search needs
+enum-known-o c = c .match .keys1
 
 private-register-requires : tie.Need-private-register-requires
 private-register-requires c κs = tt
 
 enum-told : tie.Need-enum-told
-enum-told c = search needs
+enum-told c = c .match .keys2
 
 enum-told-2 : tie.Need-enum-told-2
-enum-told-2 c = search needs
+enum-told-2 c = c .match .keys3
 
 returns : tie.Need-returns
 returns c = rw (c .before .before .o .given .1, ← c .private-register .ensures)

@@ -1,22 +1,21 @@
 use Rattle.marking_rules.specs.Rules.{asked}
-use borrow.Author.Needs.{needs}
 use Rattle.marking_rules.proofs.asked.private_stack.Statement.{statement}
 use Rattle.marking_rules.proofs.asked.private_stack.Tie as tie
 
 enum-told : tie.Need-enum-told
-enum-told c = search needs
+enum-told c = c .match .keys1
 
 enum-known-o : tie.Need-enum-known-o
-enum-known-o c = search needs
+enum-known-o c = c .match .keys2
 
 private-amount-requires : tie.Need-private-amount-requires
 private-amount-requires c κs = tt
 
 enum-told-2 : tie.Need-enum-told-2
-enum-told-2 c = search needs
+enum-told-2 c = c .match .keys3
 
 enum-known-o-2 : tie.Need-enum-known-o-2
-enum-known-o-2 c = search needs
+enum-known-o-2 c = c .match .keys4
 
 private-amount-requires-2 : tie.Need-private-amount-requires-2
 private-amount-requires-2 c κs = tt

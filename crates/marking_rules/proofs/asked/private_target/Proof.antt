@@ -1,31 +1,30 @@
 use Rattle.marking_rules.specs.Rules.{asked}
-use borrow.Author.Needs.{needs}
 use Rattle.marking_rules.proofs.asked.private_target.Statement.{statement}
 use Rattle.marking_rules.proofs.asked.private_target.Tie as tie
 
 enum-told : tie.Need-enum-told
-enum-told c = search needs
+enum-told c = c .match .keys1
 
 enum-known-t : tie.Need-enum-known-t
-enum-known-t c = search needs
+enum-known-t c = c .match .keys2
 
 private-register-requires : tie.Need-private-register-requires
 private-register-requires c κs = tt
 
 enum-told-2 : tie.Need-enum-told-2
-enum-told-2 c = search needs
+enum-told-2 c = c .match .keys3
 
 enum-known-t-2 : tie.Need-enum-known-t-2
-enum-known-t-2 c = search needs
+enum-known-t-2 c = c .match .keys4
 
 private-register-requires-2 : tie.Need-private-register-requires-2
 private-register-requires-2 c κs = tt
 
 enum-told-3 : tie.Need-enum-told-3
-enum-told-3 c = search needs
+enum-told-3 c = c .match .keys5
 
 enum-known-t-3 : tie.Need-enum-known-t-3
-enum-known-t-3 c = search needs
+enum-known-t-3 c = c .match .keys6
 
 private-register-requires-3 : tie.Need-private-register-requires-3
 private-register-requires-3 c κs = tt
@@ -34,7 +33,7 @@ private-register-requires-4 : tie.Need-private-register-requires-4
 private-register-requires-4 c κs = tt
 
 enum-told-4 : tie.Need-enum-told-4
-enum-told-4 c = search needs
+enum-told-4 c = c .match .keys7
 
 returns : tie.Need-returns
 unfolding asked

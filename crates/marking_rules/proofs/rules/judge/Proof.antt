@@ -4,7 +4,6 @@ use mathlib.Core.Path.{_≡_, subst}
 use Rattle.decoder.specs.declared.Instruction.{Instruction}
 use Rattle.marking_rules.specs.Rules.{instructionBreaks, breaks}
 use Rattle.marking_rules.specs.Found.{right, judged}
-use borrow.Author.Needs.{needs}
 use Rattle.marking_rules.proofs.rules.judge.Statement.{statement}
 use Rattle.marking_rules.proofs.rules.judge.Tie as tie
 
@@ -12,16 +11,16 @@ decode-requires : tie.Need-decode-requires
 decode-requires c κs = tt
 
 enum-told : tie.Need-enum-told
-enum-told c = search needs
+enum-told c = c .match .keys1
 
 enum-known-i : tie.Need-enum-known-i
-enum-known-i c = search needs
+enum-known-i c = c .match .keys2
 
 enum-known-i-2 : tie.Need-enum-known-i-2
-enum-known-i-2 c = search needs
+enum-known-i-2 c = c .match .keys3
 
 enum-known-i-3 : tie.Need-enum-known-i-3
-enum-known-i-3 c = search needs
+enum-known-i-3 c = c .match .keys4
 
 pair-rule-requires : tie.Need-pair-rule-requires
 pair-rule-requires c κs = tt

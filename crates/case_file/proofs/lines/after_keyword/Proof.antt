@@ -1,0 +1,160 @@
+use Rattle.case_file.specs.Line.{lineAfter}
+use Rattle.case_file.proofs.lines.after_keyword.Statement.{statement}
+use Rattle.case_file.proofs.lines.after_keyword.Tie as tie
+
+enum-told : tie.Need-enum-told
+enum-told c = c .match .keys1
+
+case-line-requires : tie.Need-case-line-requires
+case-line-requires c κs = tt
+
+enum-told-2 : tie.Need-enum-told-2
+enum-told-2 c = c .match .keys2
+
+list-line-requires : tie.Need-list-line-requires
+list-line-requires c κs = tt
+
+enum-known-k : tie.Need-enum-known-k
+enum-known-k c = c .match .keys3
+
+number-line-requires : tie.Need-number-line-requires
+number-line-requires c κs = tt
+
+enum-told-3 : tie.Need-enum-told-3
+enum-told-3 c = c .match .keys4
+
+three-line-requires : tie.Need-three-line-requires
+three-line-requires c κs = tt
+
+enum-told-4 : tie.Need-enum-told-4
+enum-told-4 c = c .match .keys5
+
+list-line-requires-2 : tie.Need-list-line-requires-2
+list-line-requires-2 c κs = tt
+
+enum-known-k-2 : tie.Need-enum-known-k-2
+enum-known-k-2 c = c .match .keys6
+
+word-line-requires : tie.Need-word-line-requires
+word-line-requires c κs = tt
+
+enum-told-5 : tie.Need-enum-told-5
+enum-told-5 c = c .match .keys7
+
+pred-line-requires : tie.Need-pred-line-requires
+pred-line-requires c κs = tt
+
+enum-told-6 : tie.Need-enum-told-6
+enum-told-6 c = c .match .keys8
+
+special-line-requires : tie.Need-special-line-requires
+special-line-requires c κs = tt
+
+enum-told-7 : tie.Need-enum-told-7
+enum-told-7 c = c .match .keys9
+
+transfer-line-requires : tie.Need-transfer-line-requires
+transfer-line-requires c κs = tt
+
+enum-told-8 : tie.Need-enum-told-8
+enum-told-8 c = c .match .keys10
+
+whole-requires : tie.Need-whole-requires
+whole-requires c κs = tt
+
+enum-told-9 : tie.Need-enum-told-9
+enum-told-9 c = c .match .keys11
+
+whole-requires-2 : tie.Need-whole-requires-2
+whole-requires-2 c κs = tt
+
+enum-told-10 : tie.Need-enum-told-10
+enum-told-10 c = c .match .keys12
+
+returns : tie.Need-returns
+unfolding lineAfter
+returns c = rw (c .before .enum-told .given .1) (c .case-line .ensures)
+
+returns-2 : tie.Need-returns-2
+unfolding lineAfter
+returns-2 c = rw (c .before .enum-told2 .given .1) (c .list-line .ensures)
+
+returns-3 : tie.Need-returns-3
+unfolding lineAfter
+returns-3 c = rw (c .before .before .k .given .1) (c .number-line .ensures)
+
+returns-4 : tie.Need-returns-4
+unfolding lineAfter
+returns-4 c = rw (c .before .enum-told3 .given .1) (c .three-line .ensures)
+
+returns-5 : tie.Need-returns-5
+unfolding lineAfter
+returns-5 c = rw (c .before .enum-told4 .given .1) (c .list-line2 .ensures)
+
+returns-6 : tie.Need-returns-6
+unfolding lineAfter
+returns-6 c = rw (c .before .before .k2 .given .1) (c .word-line .ensures)
+
+returns-7 : tie.Need-returns-7
+unfolding lineAfter
+returns-7 c = rw (c .before .enum-told5 .given .1) (c .pred-line .ensures)
+
+returns-8 : tie.Need-returns-8
+unfolding lineAfter
+returns-8 c = rw (c .before .enum-told6 .given .1) (c .special-line .ensures)
+
+returns-9 : tie.Need-returns-9
+unfolding lineAfter
+returns-9 c = rw (c .before .enum-told7 .given .1) (c .transfer-line .ensures)
+
+returns-10 : tie.Need-returns-10
+unfolding lineAfter
+returns-10 c = rw (c .before .enum-told8 .given .1) (c .whole .ensures)
+
+returns-11 : tie.Need-returns-11
+unfolding lineAfter
+returns-11 c = rw (c .before .enum-told9 .given .1) (c .whole2 .ensures)
+
+returns-12 : tie.Need-returns-12
+unfolding lineAfter
+returns-12 c = rw (c .enum-told10 .given .1)
+
+pub after-keyword-spec : {M : Type 1} → statement M
+after-keyword-spec =
+    tie.close
+    (tie.spec
+    enum-told
+    case-line-requires
+    enum-told-2
+    list-line-requires
+    enum-known-k
+    number-line-requires
+    enum-told-3
+    three-line-requires
+    enum-told-4
+    list-line-requires-2
+    enum-known-k-2
+    word-line-requires
+    enum-told-5
+    pred-line-requires
+    enum-told-6
+    special-line-requires
+    enum-told-7
+    transfer-line-requires
+    enum-told-8
+    whole-requires
+    enum-told-9
+    whole-requires-2
+    enum-told-10
+    returns
+    returns-2
+    returns-3
+    returns-4
+    returns-5
+    returns-6
+    returns-7
+    returns-8
+    returns-9
+    returns-10
+    returns-11
+    returns-12)
