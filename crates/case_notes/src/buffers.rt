@@ -1,4 +1,6 @@
 // The buffers that are lent from function to function.
+ghost use mathlib.Core.Path.{_≡_};
+ghost use Prim.Native.Nat.{_≤_, min};
 
 // The code, and a piece of the file.
 pub type Bytes = [u8; 65536];
@@ -16,3 +18,13 @@ pub const COPY: usize = 65536;
 pub type Cache = [u32; 1026];
 
 pub const CACHE_COPY: usize = 513;
+
+// The lesser of two lengths.
+pub fn least(a: usize, b: usize) -> usize
+    ensures { λ r. ⌜ (r ≤ a) × (r ≤ b) × (r ≡ min a b) ⌝ }
+{
+    if a < b {
+        return a;
+    }
+    b
+}

@@ -1,4 +1,6 @@
 // What the description lines of a case say of its numbers, gathered in any order. Each function answers the row of the mistake.
+ghost use mathlib.Core.Path.{_≡_};
+ghost use Rattle.case_notes.specs.Description.{noted, isGiven, markGiven, give as giveAt, numberOnce, lengthOnce, transferOnce, specialPlace, register, predicate, special, given};
 use crate::kept::BASE;
 use crate::kept::ENTRY;
 use crate::kept::FETCH;
@@ -14,8 +16,8 @@ use crate::kept::REGISTERS;
 use crate::kept::SPECIALS;
 use crate::kept::TRANSFER;
 use crate::kept::WORDS;
-use crate::kept::is_set;
-use crate::kept::keep;
+use crate::kept::is_set_after;
+use crate::kept::keep_after;
 use crate::kept::keep_flag;
 use crate::kept::keep_word;
 use crate::kept_parts::BLOCK;
@@ -32,65 +34,87 @@ use case_file::SpecialName;
 const GREATEST: u32 = 65536;
 
 // Whether a line gave the number at a place.
-pub fn is_given(kept: &Kept, place: usize) -> bool {
-    if place < GIVEN {
-        return is_set(kept, GIVEN + place);
-    }
-    false
+pub fn is_given(kept: &Kept, place: usize) -> bool
+    ensures { λ r. ⌜ r ≡ isGiven (now (kept .entry)) place ⌝ }
+{
+    is_set_after(kept, GIVEN, place)
 }
 
-fn mark_given(kept: &mut Kept, place: usize) {
-    if place < GIVEN {
-        keep(&mut *kept, GIVEN + place, 1);
-    }
+fn mark_given(kept: &mut Kept, place: usize)
+    ensures { λ _. ⌜ now (kept .exit) ≡ markGiven (now (kept .entry)) place ⌝ }
+{
+    keep_after(&mut *kept, GIVEN, place, 1);
+}
+
+// A number, and that a line gave it.
+fn give_number(kept: &mut Kept, place: usize, n: u32)
+    ensures { λ _. ⌜ now (kept .exit) ≡ giveAt (now (kept .entry)) place n ⌝ }
+{
+    mark_given(&mut *kept, place);
+    keep_word(&mut *kept, place, n);
 }
 
 // A number that a case gives once.
-fn give_once(kept: &mut Kept, place: usize, n: u32) -> usize {
+fn give_once(kept: &mut Kept, place: usize, n: u32) -> usize
+    ensures { λ r. ⌜ noted r (now (kept .exit)) ≡ numberOnce (now (kept .entry)) place n ⌝ }
+{
     if is_given(&*kept, place) {
         return REPEATED;
     }
-    mark_given(&mut *kept, place);
-    keep_word(&mut *kept, place, n);
+    give_number(&mut *kept, place, n);
     NO_MISTAKE
 }
 
 // The length of a memory.
-fn give_length(kept: &mut Kept, place: usize, n: u32) -> usize {
+fn give_length(kept: &mut Kept, place: usize, n: u32) -> usize
+    ensures { λ r. ⌜ noted r (now (kept .exit)) ≡ lengthOnce (now (kept .entry)) place n ⌝ }
+{
     if is_given(&*kept, place) {
         return REPEATED;
     }
     if GREATEST < n {
         return TOO_MUCH_MEMORY;
     }
-    give_once(&mut *kept, place, n)
+    give_number(&mut *kept, place, n);
+    NO_MISTAKE
 }
 
-fn give_stack(kept: &mut Kept, words: u32, lo: u32, hi: u32) -> usize {
+fn give_stack(kept: &mut Kept, words: u32, lo: u32, hi: u32) -> usize
+    ensures { λ r. ⌜ noted r (now (kept .exit)) ≡ given (Line.Stack words lo hi) (now (kept .entry)) ⌝ }
+{
     if is_given(&*kept, WORDS) {
         return REPEATED;
     }
+    give_number(&mut *kept, WORDS, words);
     kept[LO] = lo as u64;
     kept[HI] = hi as u64;
-    give_once(&mut *kept, WORDS, words)
+    NO_MISTAKE
 }
 
-fn give_register(kept: &mut Kept, r: u32, w: u32) -> usize {
+fn give_register(kept: &mut Kept, r: u32, w: u32) -> usize
+    ensures { λ n. ⌜ noted n (now (kept .exit)) ≡ register (now (kept .entry)) r w ⌝ }
+{
     if r < 32 {
         keep_word(&mut *kept, REGISTERS + (r as usize), w);
+        return NO_MISTAKE;
     }
     NO_MISTAKE
 }
 
-fn give_predicate(kept: &mut Kept, p: u32, v: bool) -> usize {
+fn give_predicate(kept: &mut Kept, p: u32, v: bool) -> usize
+    ensures { λ r. ⌜ noted r (now (kept .exit)) ≡ predicate (now (kept .entry)) p v ⌝ }
+{
     if p < 8 {
         keep_flag(&mut *kept, PREDICATES + (p as usize), v);
+        return NO_MISTAKE;
     }
     NO_MISTAKE
 }
 
 // The place of a special register in the list of them.
-fn special_place(name: SpecialName) -> usize {
+fn special_place(name: SpecialName) -> usize
+    ensures { λ r. ⌜ r ≡ specialPlace name ⌝ }
+{
     match name {
         SpecialName::Sl => 0,
         SpecialName::Sh => 1,
@@ -104,16 +128,20 @@ fn special_place(name: SpecialName) -> usize {
     }
 }
 
-fn give_special(kept: &mut Kept, name: SpecialName, w: u32) -> usize {
+fn give_special(kept: &mut Kept, name: SpecialName, w: u32) -> usize
+    ensures { λ r. ⌜ noted r (now (kept .exit)) ≡ special (now (kept .entry)) name w ⌝ }
+{
     let k = special_place(name);
     if k < 8 {
-        mark_given(&mut *kept, SPECIALS + k);
-        keep_word(&mut *kept, SPECIALS + k, w);
+        give_number(&mut *kept, SPECIALS + k, w);
+        return NO_MISTAKE;
     }
     NO_MISTAKE
 }
 
-fn give_transfer(kept: &mut Kept, kind: u64, a: u32, b: u32, c: u32) -> usize {
+fn give_transfer(kept: &mut Kept, kind: u64, a: u32, b: u32, c: u32) -> usize
+    ensures { λ r. ⌜ noted r (now (kept .exit)) ≡ transferOnce (now (kept .entry)) kind a b c ⌝ }
+{
     if is_given(&*kept, TRANSFER) {
         return REPEATED;
     }
@@ -122,7 +150,9 @@ fn give_transfer(kept: &mut Kept, kind: u64, a: u32, b: u32, c: u32) -> usize {
     NO_MISTAKE
 }
 
-fn give_load(kept: &mut Kept, register: u32, value: u32) -> usize {
+fn give_load(kept: &mut Kept, register: u32, value: u32) -> usize
+    ensures { λ r. ⌜ noted r (now (kept .exit)) ≡ given (Line.Load register value) (now (kept .entry)) ⌝ }
+{
     if is_given(&*kept, LOAD) {
         return REPEATED;
     }
@@ -131,24 +161,10 @@ fn give_load(kept: &mut Kept, register: u32, value: u32) -> usize {
     NO_MISTAKE
 }
 
-// A line that is put into the state.
-fn give_state(kept: &mut Kept, said: Line) -> usize {
-    match said {
-        Line::Reg { number, word } => give_register(&mut *kept, number, word),
-        Line::Pred { number, value } => give_predicate(&mut *kept, number, value),
-        Line::Special { name, word } => give_special(&mut *kept, name, word),
-        Line::Load { number, word } => give_load(&mut *kept, number, word),
-        Line::Br { target, wait } => give_transfer(&mut *kept, BR, target, wait, 0),
-        Line::Call { target, wait } => give_transfer(&mut *kept, CALL, target, wait, 0),
-        Line::Block { target, base, wait } => {
-            give_transfer(&mut *kept, BLOCK, target, base, wait)
-        }
-        _ => NO_MISTAKE,
-    }
-}
-
 // A line that needs nothing but its own numbers.
-pub fn give(kept: &mut Kept, said: Line) -> usize {
+pub fn give(kept: &mut Kept, said: Line) -> usize
+    ensures { λ r. ⌜ noted r (now (kept .exit)) ≡ given said (now (kept .entry)) ⌝ }
+{
     match said {
         Line::Main(n) => give_length(&mut *kept, MAIN, n),
         Line::Local(n) => give_length(&mut *kept, LOCAL, n),
@@ -156,6 +172,15 @@ pub fn give(kept: &mut Kept, said: Line) -> usize {
         Line::Entry(a) => give_once(&mut *kept, ENTRY, a),
         Line::Fetch(a) => give_once(&mut *kept, FETCH, a),
         Line::Base(a) => give_once(&mut *kept, BASE, a),
-        _ => give_state(&mut *kept, said),
+        Line::Reg { number, word } => give_register(&mut *kept, number, word),
+        Line::Pred { number, value } => give_predicate(&mut *kept, number, value),
+        Line::Special { name, word } => give_special(&mut *kept, name, word),
+        Line::Br { target, wait } => give_transfer(&mut *kept, BR, target, wait, 0),
+        Line::Call { target, wait } => give_transfer(&mut *kept, CALL, target, wait, 0),
+        Line::Block { target, base, wait } => {
+            give_transfer(&mut *kept, BLOCK, target, base, wait)
+        }
+        Line::Load { number, word } => give_load(&mut *kept, number, word),
+        _ => NO_MISTAKE,
     }
 }

@@ -1,8 +1,11 @@
 // The description lines that fill a buffer. Each function answers the row of the mistake.
+ghost use mathlib.Core.Path.{_≡_};
+ghost use Rattle.case_notes.specs.DescriptionLine.{filled, appended, codeLine, putBelowCopy, memoryWord, cacheWord, described, describedBy};
 use crate::buffers::Bytes;
 use crate::buffers::COPY;
 use crate::buffers::Cache;
 use crate::buffers::Memory;
+use crate::buffers::least;
 use crate::clearing::put_in_copy;
 use crate::description::give;
 use crate::kept::CODE;
@@ -11,7 +14,6 @@ use crate::marking::mark_items;
 use crate::mistake::NO_MISTAKE;
 use crate::mistake::TOO_MUCH_CODE;
 use crate::mistake::row_of;
-use crate::output::least;
 use crate::places::Store;
 use crate::places::last_byte;
 use crate::places::note;
@@ -21,7 +23,9 @@ use case_file::arguments::code_entry;
 use word::bytes::write_word;
 
 // Appends a word to the code, or answers the mistake that there is no room.
-fn append_word(kept: &mut Kept, word: u32, code: &mut Bytes) -> usize {
+fn append_word(kept: &mut Kept, word: u32, code: &mut Bytes) -> usize
+    ensures { λ r. ⌜ filled r (now (kept .exit)) (now (code .exit)) ≡ appended (now (kept .entry)) word (now (code .entry)) ⌝ }
+{
     let n = kept[CODE];
     if 65536 <= n {
         return TOO_MUCH_CODE;
@@ -32,7 +36,9 @@ fn append_word(kept: &mut Kept, word: u32, code: &mut Bytes) -> usize {
 }
 
 // Appends the words of a code line from a place on. A line has fewer entries than bytes.
-fn code_line(kept: &mut Kept, line: &[u8], list: usize, code: &mut Bytes) -> usize {
+fn code_line(kept: &mut Kept, line: &[u8], list: usize, code: &mut Bytes) -> usize
+    ensures { λ r. ⌜ filled r (now (kept .exit)) (now (code .exit)) ≡ codeLine (now (line .entry)) list (now (kept .entry)) (now (code .entry)) ⌝ }
+{
     let mut at = list;
     let mut left = line.len();
     while 0 < left {
@@ -57,48 +63,28 @@ fn code_line(kept: &mut Kept, line: &[u8], list: usize, code: &mut Bytes) -> usi
 }
 
 // Bytes that no memory has are not written.
-fn write_below_copy(memory: &mut [u8], address: u32, word: u32) {
+fn write_below_copy(memory: &mut [u8], address: u32, word: u32)
+    ensures { λ _. ⌜ now (memory .exit) ≡ putBelowCopy (now (memory .entry)) address word ⌝ }
+{
     let n = least(COPY, memory.len());
     write_word(&mut memory[0..n], address, word);
 }
 
 // A word of a memory is put there at once.
-fn memory_word(
-    kept: &mut Kept,
-    store: Store,
-    address: u32,
-    word: u32,
-    memory: &mut Memory,
-) -> usize {
+fn memory_word(kept: &mut Kept, store: Store, address: u32, word: u32, memory: &mut Memory) -> usize
+    ensures { λ r. ⌜ filled r (now (kept .exit)) (now (memory .exit)) ≡ memoryWord (now (kept .entry)) store address word (now (memory .entry)) ⌝ }
+{
     write_below_copy(&mut *memory, address, word);
     note(&mut *kept, store, last_byte(address));
     NO_MISTAKE
 }
 
-fn cache_word(kept: &mut Kept, place: u32, word: u32, cache: &mut Cache) -> usize {
+fn cache_word(kept: &mut Kept, place: u32, word: u32, cache: &mut Cache) -> usize
+    ensures { λ r. ⌜ filled r (now (kept .exit)) (now (cache .exit)) ≡ cacheWord (now (kept .entry)) place word (now (cache .entry)) ⌝ }
+{
     put_in_copy(&mut *cache, place as usize, word);
     note(&mut *kept, Store::Cache, place);
     NO_MISTAKE
-}
-
-// A line that names a place, or any other.
-fn describe_place(
-    said: Line,
-    main: &mut Memory,
-    local: &mut Memory,
-    cache: &mut Cache,
-    kept: &mut Kept,
-) -> usize {
-    match said {
-        Line::MainWord { address, word } => {
-            memory_word(&mut *kept, Store::Main, address, word, &mut *main)
-        }
-        Line::LocalWord { address, word } => {
-            memory_word(&mut *kept, Store::Local, address, word, &mut *local)
-        }
-        Line::CacheWord { place, word } => cache_word(&mut *kept, place, word, &mut *cache),
-        _ => give(&mut *kept, said),
-    }
 }
 
 // A description line.
@@ -110,10 +96,19 @@ pub fn describe(
     local: &mut Memory,
     cache: &mut Cache,
     kept: &mut Kept,
-) -> usize {
+) -> usize
+    ensures { λ r. ⌜ described r (now (code .exit)) (now (main .exit)) (now (local .exit)) (now (cache .exit)) (now (kept .exit)) ≡ describedBy (now (line .entry)) (now (code .entry)) (now (main .entry)) (now (local .entry)) (now (cache .entry)) (now (kept .entry)) said ⌝ }
+{
     match said {
         Line::Code { list } => code_line(&mut *kept, line, list, &mut *code),
         Line::Private { list } => mark_items(&mut *kept, line, list),
-        _ => describe_place(said, &mut *main, &mut *local, &mut *cache, &mut *kept),
+        Line::MainWord { address, word } => {
+            memory_word(&mut *kept, Store::Main, address, word, &mut *main)
+        }
+        Line::LocalWord { address, word } => {
+            memory_word(&mut *kept, Store::Local, address, word, &mut *local)
+        }
+        Line::CacheWord { place, word } => cache_word(&mut *kept, place, word, &mut *cache),
+        _ => give(&mut *kept, said),
     }
 }

@@ -1,6 +1,8 @@
 // The numbers that are kept from line to line, in one lent list: where the file stands, what the description lines of the case
 // say, the case's state, its marking, and the places that it names.
-use std::num::wrapping_add_usize;
+ghost use mathlib.Core.Path.{_≡_};
+ghost use Prim.Native.Nat.{_+_};
+ghost use Rattle.case_notes.specs.Kept.{numberAt, wordAt, isSet, put, flag as flagOf, flagsAt, forgotten};
 
 pub const ALL: usize = 120200;
 
@@ -87,32 +89,70 @@ pub const REFUSED: u64 = 3;
 
 pub const STOPPED: u64 = 4;
 
-pub fn number(kept: &Kept, place: usize) -> u64 {
+pub fn number(kept: &Kept, place: usize) -> u64
+    ensures { λ r. ⌜ r ≡ numberAt (now (kept .entry)) place ⌝ }
+{
     if place < ALL {
         return kept[place];
     }
     0
 }
 
-pub fn word(kept: &Kept, place: usize) -> u32 {
+pub fn word(kept: &Kept, place: usize) -> u32
+    ensures { λ r. ⌜ r ≡ wordAt (now (kept .entry)) place ⌝ }
+{
     (number(kept, place) % 4294967296) as u32
 }
 
-pub fn is_set(kept: &Kept, place: usize) -> bool {
+pub fn is_set(kept: &Kept, place: usize) -> bool
+    ensures { λ r. ⌜ r ≡ isSet (now (kept .entry)) place ⌝ }
+{
     number(kept, place) != 0
 }
 
-pub fn keep(kept: &mut Kept, place: usize, n: u64) {
+// The same i places further on, of which there may be none.
+pub(crate) fn is_set_after(kept: &Kept, first: usize, i: usize) -> bool
+    ensures { λ r. ⌜ r ≡ isSet (now (kept .entry)) (first + i) ⌝ }
+{
+    if ALL <= first {
+        return false;
+    }
+    if ALL <= i {
+        return false;
+    }
+    is_set(kept, first + i)
+}
+
+pub fn keep(kept: &mut Kept, place: usize, n: u64)
+    ensures { λ _. ⌜ now (kept .exit) ≡ put (now (kept .entry)) place n ⌝ }
+{
     if place < ALL {
         kept[place] = n;
     }
 }
 
-pub fn keep_word(kept: &mut Kept, place: usize, w: u32) {
+// The same i places further on, of which there may be none.
+pub(crate) fn keep_after(kept: &mut Kept, first: usize, i: usize, n: u64)
+    ensures { λ _. ⌜ now (kept .exit) ≡ put (now (kept .entry)) (first + i) n ⌝ }
+{
+    if ALL <= first {
+        return;
+    }
+    if ALL <= i {
+        return;
+    }
+    keep(&mut *kept, first + i, n);
+}
+
+pub fn keep_word(kept: &mut Kept, place: usize, w: u32)
+    ensures { λ _. ⌜ now (kept .exit) ≡ put (now (kept .entry)) place w ⌝ }
+{
     keep(&mut *kept, place, w as u64);
 }
 
-pub fn keep_flag(kept: &mut Kept, place: usize, flag: bool) {
+pub fn keep_flag(kept: &mut Kept, place: usize, flag: bool)
+    ensures { λ _. ⌜ now (kept .exit) ≡ put (now (kept .entry)) place (flagOf flag) ⌝ }
+{
     if flag {
         keep(&mut *kept, place, 1);
         return;
@@ -121,23 +161,25 @@ pub fn keep_flag(kept: &mut Kept, place: usize, flag: bool) {
 }
 
 // Eight flags from a place on.
-pub fn flags_of(kept: &Kept, first: usize) -> [bool; 8] {
+pub fn flags_of(kept: &Kept, first: usize) -> [bool; 8]
+    ensures { λ r. ⌜ r ≡ flagsAt 8 (now (kept .entry)) first ⌝ }
+{
     let mut flags = [false; 8];
-    let mut place = first;
     let mut i = 0;
     while i < 8 {
-        flags[i] = is_set(kept, place);
-        place = wrapping_add_usize(place, 1);
+        flags[i] = is_set_after(kept, first, i);
         i += 1;
     }
     flags
 }
 
 // A case that nothing is said of: 16 words of stack cache, and p0 is true.
-pub fn forget_case(kept: &mut Kept) {
+pub fn forget_case(kept: &mut Kept)
+    ensures { λ _. ⌜ now (kept .exit) ≡ forgotten (now (kept .entry)) ⌝ }
+{
     let mut i = 0;
     while i < CASE_END {
-        kept[i] = 0;
+        keep(&mut *kept, i, 0);
         i += 1;
     }
     kept[WORDS] = 16;

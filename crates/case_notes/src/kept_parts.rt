@@ -1,4 +1,6 @@
 // Parts of the state of a case among the kept numbers.
+ghost use mathlib.Core.Path.{_≡_};
+ghost use Rattle.case_notes.specs.KeptParts.{withTransfer, withLoad, withTarget, registersOf, specialsOf, listOf, withWords, withPredicates};
 use crate::kept::Kept;
 use crate::kept::LOAD;
 use crate::kept::LOADED;
@@ -7,12 +9,11 @@ use crate::kept::REGISTERS;
 use crate::kept::SPECIALS;
 use crate::kept::TARGET;
 use crate::kept::TRANSFER;
+use crate::kept::keep_after;
 use crate::kept::keep_flag;
-use crate::kept::keep_word;
 use crate::kept::word;
 use effects::Specials;
 use effects::Transfer;
-use std::num::wrapping_add_usize;
 
 // The kinds of a waiting transfer. Where none waits, the kind is 0.
 pub const BR: u64 = 1;
@@ -21,7 +22,9 @@ pub const CALL: u64 = 2;
 
 pub const BLOCK: u64 = 3;
 
-pub fn registers_of(kept: &Kept) -> [u32; 32] {
+pub fn registers_of(kept: &Kept) -> [u32; 32]
+    ensures { λ r. ⌜ r ≡ registersOf (now (kept .entry)) ⌝ }
+{
     let mut registers = [0u32; 32];
     let mut i = 0;
     while i < 32 {
@@ -31,7 +34,9 @@ pub fn registers_of(kept: &Kept) -> [u32; 32] {
     registers
 }
 
-pub fn specials_of(kept: &Kept) -> Specials {
+pub fn specials_of(kept: &Kept) -> Specials
+    ensures { λ r. ⌜ r ≡ specialsOf (now (kept .entry)) ⌝ }
+{
     Specials {
         sl: word(kept, SPECIALS),
         sh: word(kept, SPECIALS + 1),
@@ -44,17 +49,19 @@ pub fn specials_of(kept: &Kept) -> Specials {
     }
 }
 
-pub fn keep_words(kept: &mut Kept, first: usize, words: &[u32]) {
-    let mut place = first;
+pub fn keep_words(kept: &mut Kept, first: usize, words: &[u32])
+    ensures { λ _. ⌜ now (kept .exit) ≡ withWords (now (kept .entry)) first (now (words .entry)) ⌝ }
+{
     let mut i = 0;
     while i < words.len() {
-        keep_word(&mut *kept, place, words[i]);
-        place = wrapping_add_usize(place, 1);
+        keep_after(&mut *kept, first, i, words[i] as u64);
         i += 1;
     }
 }
 
-pub fn keep_predicates(kept: &mut Kept, predicates: [bool; 8]) {
+pub fn keep_predicates(kept: &mut Kept, predicates: [bool; 8])
+    ensures { λ _. ⌜ now (kept .exit) ≡ withPredicates (now (kept .entry)) predicates ⌝ }
+{
     let mut i = 0;
     while i < 8 {
         keep_flag(&mut *kept, PREDICATES + i, predicates[i]);
@@ -62,19 +69,25 @@ pub fn keep_predicates(kept: &mut Kept, predicates: [bool; 8]) {
     }
 }
 
-pub fn listed(s: Specials) -> [u32; 8] {
+pub fn listed(s: Specials) -> [u32; 8]
+    ensures { λ r. ⌜ r ≡ listOf s ⌝ }
+{
     [s.sl, s.sh, s.ss, s.st, s.srb, s.sro, s.sxb, s.sxo]
 }
 
 // A waiting transfer by the number of its kind, with the numbers of its line.
-pub fn keep_transfer(kept: &mut Kept, kind: u64, a: u32, b: u32, c: u32) {
+pub fn keep_transfer(kept: &mut Kept, kind: u64, a: u32, b: u32, c: u32)
+    ensures { λ _. ⌜ now (kept .exit) ≡ withTransfer (now (kept .entry)) kind a b c ⌝ }
+{
     kept[TRANSFER] = kind;
     kept[TARGET] = a as u64;
     kept[TARGET + 1] = b as u64;
     kept[TARGET + 2] = c as u64;
 }
 
-pub fn keep_target(kept: &mut Kept, t: Transfer, wait: u32) {
+pub fn keep_target(kept: &mut Kept, t: Transfer, wait: u32)
+    ensures { λ _. ⌜ now (kept .exit) ≡ withTarget (now (kept .entry)) t wait ⌝ }
+{
     match t {
         Transfer::Br { target } => keep_transfer(&mut *kept, BR, target, wait, 0),
         Transfer::Call { target } => keep_transfer(&mut *kept, CALL, target, wait, 0),
@@ -82,7 +95,9 @@ pub fn keep_target(kept: &mut Kept, t: Transfer, wait: u32) {
     }
 }
 
-pub fn keep_load(kept: &mut Kept, register: u32, value: u32) {
+pub fn keep_load(kept: &mut Kept, register: u32, value: u32)
+    ensures { λ _. ⌜ now (kept .exit) ≡ withLoad (now (kept .entry)) register value ⌝ }
+{
     kept[LOAD] = 1;
     kept[LOADED] = register as u64;
     kept[LOADED + 1] = value as u64;

@@ -1,4 +1,9 @@
 // The marking that a case describes, among the kept numbers.
+ghost use mathlib.Core.Path.{_≡_};
+ghost use Rattle.case_notes.specs.PlaceNumbers.{PRIVATE-REGISTERS};
+ghost use Rattle.case_notes.specs.Kept.{flagsAt};
+ghost use Rattle.case_notes.specs.Description.{noted};
+ghost use Rattle.case_notes.specs.Marking.{withRegister, withPredicate, marked, markItems, markingOf};
 use crate::kept::Kept;
 use crate::kept::PRIVATE_LOCAL;
 use crate::kept::PRIVATE_MAIN;
@@ -17,20 +22,26 @@ use case_file::PrivateEntry;
 use case_file::arguments::private_entry;
 use marking_rules::Marking;
 
-fn mark_register(kept: &mut Kept, r: u32) {
+fn mark_register(kept: &mut Kept, r: u32)
+    ensures { λ _. ⌜ now (kept .exit) ≡ withRegister (now (kept .entry)) r ⌝ }
+{
     if r < 32 {
         keep(&mut *kept, PRIVATE_REGISTERS + (r as usize), 1);
     }
 }
 
-fn mark_predicate(kept: &mut Kept, p: u32) {
+fn mark_predicate(kept: &mut Kept, p: u32)
+    ensures { λ _. ⌜ now (kept .exit) ≡ withPredicate (now (kept .entry)) p ⌝ }
+{
     if p < 8 {
         keep(&mut *kept, PRIVATE_PREDICATES + (p as usize), 1);
     }
 }
 
 // One more private item.
-fn mark(kept: &mut Kept, item: Item) {
+fn mark(kept: &mut Kept, item: Item)
+    ensures { λ _. ⌜ now (kept .exit) ≡ marked (now (kept .entry)) item ⌝ }
+{
     match item {
         Item::Register(r) => mark_register(&mut *kept, r),
         Item::Predicate(p) => mark_predicate(&mut *kept, p),
@@ -44,7 +55,9 @@ fn mark(kept: &mut Kept, item: Item) {
 }
 
 // The items of a private line from a place on, and the row of the mistake. A line has fewer entries than bytes.
-pub fn mark_items(kept: &mut Kept, line: &[u8], list: usize) -> usize {
+pub fn mark_items(kept: &mut Kept, line: &[u8], list: usize) -> usize
+    ensures { λ r. ⌜ noted r (now (kept .exit)) ≡ markItems (now (line .entry)) list (now (kept .entry)) ⌝ }
+{
     let mut at = list;
     let mut left = line.len();
     while 0 < left {
@@ -65,7 +78,9 @@ pub fn mark_items(kept: &mut Kept, line: &[u8], list: usize) -> usize {
     NO_MISTAKE
 }
 
-fn private_registers(kept: &Kept) -> [bool; 32] {
+fn private_registers(kept: &Kept) -> [bool; 32]
+    ensures { λ r. ⌜ r ≡ flagsAt 32 (now (kept .entry)) PRIVATE-REGISTERS ⌝ }
+{
     let mut registers = [false; 32];
     let mut i = 0;
     while i < 32 {
@@ -75,7 +90,9 @@ fn private_registers(kept: &Kept) -> [bool; 32] {
     registers
 }
 
-pub fn marking_of(kept: &Kept) -> Marking {
+pub fn marking_of(kept: &Kept) -> Marking
+    ensures { λ r. ⌜ r ≡ markingOf (now (kept .entry)) ⌝ }
+{
     let registers = private_registers(kept);
     let predicates = flags_of(kept, PRIVATE_PREDICATES);
     Marking {

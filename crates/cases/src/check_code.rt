@@ -1,12 +1,12 @@
 // The check of a case's code under its marking.
 use case_notes::buffers::Bytes;
+use case_notes::buffers::least;
 use case_notes::extent::Extents;
 use case_notes::extent::extents_of;
 use case_notes::kept::Kept;
 use case_notes::marking::marking_of;
-use case_notes::output::least;
-use case_notes::output::say;
-use case_notes::output::tell;
+use case_report::output::say;
+use case_report::output::tell;
 use single_path::Checked;
 use single_path::Marking;
 use single_path::Rule;

@@ -8,10 +8,8 @@ use case_notes::buffers::Bytes;
 use case_notes::buffers::Cache;
 use case_notes::buffers::LineBytes;
 use case_notes::buffers::Memory;
+use case_notes::buffers::least;
 use case_notes::description_line::describe;
-use case_notes::input::Found;
-use case_notes::input::look;
-use case_notes::input::no_input;
 use case_notes::kept::DESCRIBED;
 use case_notes::kept::Kept;
 use case_notes::kept::LINE;
@@ -23,9 +21,11 @@ use case_notes::mistake::AFTER_OPERATION;
 use case_notes::mistake::BEFORE_FIRST_CASE;
 use case_notes::mistake::LINE_TOO_LONG;
 use case_notes::mistake::NO_MISTAKE;
-use case_notes::mistake::fail;
 use case_notes::mistake::row_of;
-use case_notes::output::least;
+use case_report::input::Found;
+use case_report::input::look;
+use case_report::input::no_input;
+use case_report::mistake::fail;
 use std::num::wrapping_add_u64;
 
 // What a line is to the case.

@@ -13,9 +13,9 @@ use case_notes::kept::number;
 use case_notes::kept_parts::BLOCK;
 use case_notes::kept_parts::BR;
 use case_notes::kept_parts::CALL;
-use case_notes::output::say;
-use case_notes::output::say_kept;
-use case_notes::output::tell;
+use case_report::output::say;
+use case_report::output::say_kept;
+use case_report::output::tell;
 use machine::Counts;
 
 pub fn put_counts(c: Counts) {

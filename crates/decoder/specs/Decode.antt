@@ -11,14 +11,14 @@ use Rattle.decoder.specs.declared.Operation.the-variants.{Alu}
 use Rattle.decoder.specs.declared.Bundle.{Bundle}
 use Rattle.decoder.specs.declared.Bundle.the-variants.{Undecodable, One, Two, Long}
 
--- "Bit 31 of the first word tells a bundle of two words."
+-- A bundle has two words if bit 31 of its first is set.
 abbrev pub isTwoWords : ℕ → Bool
 isTwoWords first = isSet (bits (31 ⋯ 31) first)
 
 unfoldable pub bundleWords : ℕ → ℕ
 bundleWords first = cond (isTwoWords first) 2 1
 
--- "Bits 30 to 27 are the guard."
+-- The guard stands in bits 30 to 27.
 unfoldable pub guardOf : ℕ → PredicateOperand
 guardOf w = predicateOperand (bits (30 ⋯ 27) w)
 

@@ -1,4 +1,4 @@
--- The tables of function codes, a row for each code with a meaning. "Unused" rows, and rows that a table does not list, are left out.
+-- The tables of function codes, a row for each code with a meaning. Rows marked unused, and rows that a table does not list, are left out.
 use Prim.Native.Nat.{ℕ}
 use mathlib.Core.Bool.{Bool, true, false}
 use mathlib.Core.List.{List, [], _∷_}
@@ -95,7 +95,7 @@ stackTable = 0b00 ⇒ Sres ∷ 0b01 ⇒ (λ n. Sens (amount.Words n)) ∷ 0b10 �
 abbrev pub stackRegisterTable : List (Row (ℕ → StackOperation))
 stackRegisterTable = 0b01 ⇒ (λ r. Sens (amount.Register r)) ∷ 0b11 ⇒ (λ r. Sspill (amount.Register r)) ∷ []
 
--- Table 2.10, by op and d; "br adds its signed words", the others' immediates are unsigned.
+-- Table 2.10, by op and d. The immediate of br is signed, those of the others are not.
 abbrev pub flowTable : List (Row (ℕ → Operation))
 flowTable =
     0b000 ⇒ (λ n. Transfer false (Call n)) ∷

@@ -1,4 +1,4 @@
--- "Both slots read the state at the start": what a slot does is one value, computed from that state.
+-- What a slot does, as one value. It is computed from the state at the start of the bundle, for both slots.
 use Prim.Native.Nat.{ℕ, _+_, _*_, _/_, _%_, _^_}
 use mathlib.Core.Bool.{Bool, true, false, not, cond, Bool·beq}
 use mathlib.Core.List.{List, [], _∷_}
@@ -88,7 +88,7 @@ aluEffect rs ps (Compare f pd rs1 o) = alu.Predicate pd (compare f (getD rs rs1 
 aluEffect rs ps (Predicate f pd ps1 ps2) = alu.Predicate pd (combine f (holds ps ps1) (holds ps ps2))
 aluEffect rs ps (BitCopy rd rs1 bit p) = alu.Register rd (copyBit (getD rs rs1 0) bit (holds ps p))
 
--- "A stack access's address is st plus the address its fields form; other accesses use that address itself."
+-- What the fields of an access form is its address; a stack access adds st.
 unfoldable pub accessAddress : AccessKind → ℕ → ℕ → ℕ
 accessAddress Stack st a = add st a
 accessAddress Local st a = a
@@ -98,7 +98,7 @@ accessAddress Main st a = a
 abbrev pub address : List ℕ → ℕ → AccessKind → ℕ → ℕ → ℕ → ℕ
 address rs st kind scale ra offset = accessAddress kind st (add (getD rs ra 0) (shiftLeft offset scale))
 
--- "Immediates are words n, registers bytes": the words, and whether the operand is a multiple of 4.
+-- An immediate operand counts words, a register holds bytes: the words, and whether the operand is a multiple of 4.
 unfoldable pub amountWords : List ℕ → StackAmount → ℕ
 amountWords rs (Words n) = n
 amountWords rs (Register r) = getD rs r 0 / 4
@@ -117,7 +117,7 @@ stackEffect rs (operation.Sspill a) = effect.Stack control.Sspill (amountWords r
 abbrev pub bytesOf : ℕ → ℕ
 bytesOf n = shiftLeft n 2
 
--- "The target is read in the transfer's own bundle." br adds its signed words times 4 to the branch's address (`ofZ w32 z` is
+-- A transfer reads its target in its own bundle, not when it falls due. br adds its signed words times 4 to the branch's address (`ofZ w32 z` is
 -- the word that reads as z); a register br or call is absolute; brcf adds offset to base register; ret goes to srb + sro.
 unfoldable pub transferOf : Start → Target → declared.Transfer
 transferOf s (target.Call n) = transfer.Call (bytesOf n)
@@ -142,7 +142,7 @@ effectOf s (Transfer d t) = effect.Transfer d (transferOf s t)
 effectOf s (Trap n) = effect.Exception
 effectOf s (Xret d) = effect.Exception
 
--- "A false guard makes its slot do nothing and refuse nothing."
+-- A slot whose guard is false does nothing, so nothing of it can be refused.
 unfoldable pub slotOneEffect : Start → Instruction → Effect
 slotOneEffect s i = cond (holds (s .predicates) (i .guard)) (effectOf s (i .operation)) (effect.Alu alu.Nothing)
 

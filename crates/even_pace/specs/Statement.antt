@@ -11,8 +11,9 @@ use Rattle.run.specs.Run.{run, tries}
 use Rattle.marking_rules.specs.declared.Marking.{Marking}
 use Rattle.even_pace.specs.Terms.{Accepted, Agree, EvenPace}
 
--- "Two runs of the same accepted code, with the same settings, marking and budget, that start from well-formed states and agree on
--- everything public keep even pace." A state's lists of registers and predicates have the lengths that its type gives them.
+-- Take accepted code, and two runs of it whose settings, marking and budget are the same. If both first states are well formed and all
+-- that is public is the same in both, the runs keep even pace. A state's lists of registers and predicates have the lengths that its
+-- type gives them.
 abbrev pub Demand3 : Type 0
 Demand3 = (code : List ℕ) (lo hi budget : ℕ) (m : Marking) (s₁ s₂ : State) (b₁ b₂ : Buffers)
     → Accepted code lo hi m b₁

@@ -25,7 +25,7 @@ use Rattle.single_path.specs.Check.{Walked, accepted, checked}
 -- Terms that stand elsewhere: `settings` and `Walked` (single_path, Check), `privateGuard` (marking_rules, Marking), well formed as
 -- `wellFormed` (machine, State), and the bundles that a run tries as `tries` (run, Run).
 
--- "Code is accepted if the check refuses nothing under these settings and this marking." The lengths are those of what is lent.
+-- Accepted code: the check of it answers so under the settings and the marking. The lengths are those of what is lent.
 abbrev pub Accepted : List ℕ → ℕ → ℕ → Marking → Buffers → Type 0
 Accepted code lo hi m b = checked code (length (b .main)) (length (b .local)) (length (b .cache)) lo hi m ≡ accepted
 
@@ -45,8 +45,8 @@ pub record SameSpecials (m : Marking) (x₁ x₂ : Specials) : Type 0 where
   pub sxb : x₁ .sxb ≡ x₂ .sxb
   pub sxo : x₁ .sxo ≡ x₂ .sxo
 
--- Public contents: the state. "If one run has a waiting load to a public register other than r0, the other has the same one; other
--- waiting loads may differ, or be in one run only."
+-- Public contents: the state. A waiting load counts if its register is public and not r0: then both runs have it, with one value. All
+-- others are left out of the comparison, also where one run has none.
 pub record SameState (m : Marking) (s₁ s₂ : State) : Type 0 where
   pub registers : Same (privateRegister m) 0 (s₁ .registers) (s₂ .registers)
   pub predicates : Same (privatePredicate m) false (s₁ .predicates) (s₂ .predicates)
@@ -81,8 +81,8 @@ hasPrivateAccess m (One i) = privateAccess m i
 hasPrivateAccess m (Two i j) = privateAccess m i
 hasPrivateAccess m (Long i) = privateAccess m i
 
--- A stopping event: "a tried bundle whose fetch address is not walked, or that is refused for a load or store, stack ones
--- included, under a private guard". At a walked address of accepted code nothing else of such a bundle can be refused.
+-- A stopping event: a bundle is tried at an address that is not walked, or a load or store of it, of the stack or not, is refused and
+-- its guard is private. At a walked address of accepted code nothing else of such a bundle can be refused.
 pub data Stops (m : Marking) (code : List ℕ) (t : Tried) : Type 0 where
   not-walked : ¬ Walked code (t .fetch) → Stops m code t
   refused-access : (n : ℕ) → t .answer ≡ refused n → hasPrivateAccess m (bundleAt code (t .fetch)) ≡ true → Stops m code t

@@ -42,7 +42,7 @@ area lo hi m = take (hi - lo) (drop lo m)
 abbrev pub withArea : ℕ → ℕ → List ℕ → List ℕ → List ℕ
 withArea lo hi m part = take lo m ++ (part ++ drop hi m)
 
--- The words of a stack instruction moved: "a spill is lent only the stack area's part of main memory".
+-- The words of a stack instruction moved. Of main memory a spill gets the stack area alone.
 unfoldable pub stackMoved : Settings → State → StackControl → ℕ → Buffers → Buffers
 stackMoved g s c n b =
     let part = area (g .lo) (g .hi) (b .main) in
@@ -78,7 +78,7 @@ writeOne g b from (effect.Stack c n m) onto = withStack onto (topAfter c (from .
 writeOne g b from (effect.Transfer d t) onto = onto
 writeOne g b from effect.Exception onto = onto
 
--- "Delay slots: 2 for br, 3 for call, brcf and ret."
+-- How many bundles come between a transfer and its target: 2 for br, 3 for the others.
 unfoldable pub delaySlots : Transfer → ℕ
 delaySlots (Br target) = 2
 delaySlots (Call target) = 3
@@ -90,7 +90,7 @@ nearer transfer.Nothing following onto = goingOn onto following transfer.Nothing
 nearer (transfer.Waits t n) following onto =
     cond (leb n 1) (transferred onto t following) (goingOn onto following (transfer.Waits t (n - 1)))
 
--- A transfer of this bundle waits for its delay slots; "a form without delay falls due in its own bundle".
+-- A transfer of this bundle waits for its delay slots; one without delay is carried out at the end of this bundle.
 abbrev pub begun : Bool → Transfer → ℕ → State → State
 begun delayed t following onto =
     cond delayed (goingOn onto following (transfer.Waits t (delaySlots t))) (transferred onto t following)
@@ -98,12 +98,12 @@ begun delayed t following onto =
 abbrev pub onward : Effect → WaitingTransfer → ℕ → State → State
 onward e waiting following onto = let other = nearer waiting following onto in onEffect other (λ c n m. other) (λ d t. begun d t following onto) e
 
--- "Results are written in this order: the load waiting from the bundle before, slot one, slot two, then a transfer that falls
--- due. The later write wins."
+-- The order of the writes, of which a later one hides an earlier one: the load that waited, slot one, slot two, and a transfer that
+-- falls due.
 unfoldable pub written : Settings → Buffers → State → Effect → AluEffect → ℕ → State
 written g b s one two following = onward one (s .transfer) following (writeAlu two (writeOne g b s one (landed s)))
 
--- "A bundle is one cycle; an executed callnd, brcfnd or retnd is 4, brnd 3."
+-- Cycles: 1, but 3 where a brnd is executed and 4 where it is another transfer without delay.
 abbrev pub undelayedCycles : Transfer → ℕ
 undelayedCycles (Br target) = 3
 undelayedCycles (Call target) = 4
@@ -181,7 +181,7 @@ readyOr (ready.Refused n) s b other = outcome (refused n) s noCounts b
 abbrev pub lent : List ℕ → ℕ → ℕ → Buffers → Settings
 lent code lo hi b = settingsOf code (b .main) (b .local) (b .cache) lo hi
 
--- A step: 1, 11, ended, and then the bundle. "A step on an ended state changes nothing."
+-- A step: 1, 11, ended, and then the bundle. An ended state stays as it is.
 unfoldable pub step : List ℕ → ℕ → ℕ → State → Buffers → Outcome
 step code lo hi s b =
     let g = lent code lo hi b in

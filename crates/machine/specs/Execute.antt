@@ -1,6 +1,6 @@
 -- Parts of a bundle, for the contracts of the functions that do it: the outcome of a decoded bundle.
 use Prim.Native.Nat.{ℕ}
-use mathlib.Core.Bool.{cond}
+use mathlib.Core.Bool.{Bool, true, false, cond}
 use mathlib.Core.List.{List}
 use mathlib.Core.Path.{_≡_}
 use Rattle.stack_cache.specs.Stack.{below, above, spilled, filled}
@@ -9,6 +9,7 @@ use Rattle.memory.specs.Answer.{done}
 use Rattle.memory.specs.Access.{Buffers, verdict}
 use Rattle.effects.specs.declared.AluEffect.{AluEffect}
 use Rattle.effects.specs.declared.Effect.{Effect}
+use Rattle.effects.specs.declared.Effect.the-variants as effect
 use Rattle.effects.specs.declared.Effects.{Effects}
 use Rattle.effects.specs.declared.Effects.the-variants as effects
 use Rattle.effects.specs.Effect.{effectsOf}
@@ -35,6 +36,17 @@ unfoldable pub executed : Settings → State → Effect → AluEffect → ℕ �
 executed g s one two following b =
     refusedOr (verdict (effectTests g s one)) s b
     (outcome done (written g b s one two following) (countsOf g s one) (buffersAfter g s one b))
+
+-- Whether an effect leaves memory, stack and flow alone. An exception is one of them: it does nothing.
+abbrev pub isPlain : Effect → Bool
+isPlain (effect.Alu a) = true
+isPlain (effect.Special d v) = true
+isPlain (effect.Product l h) = true
+isPlain (effect.Load k w r a) = false
+isPlain (effect.Store k w a v) = false
+isPlain (effect.Stack c n m) = false
+isPlain (effect.Transfer d t) = false
+isPlain effect.Exception = true
 
 -- The buffers after a number of words below ss were spilled and a number from ss up were filled.
 pub record Moved (lo hi ss j k : ℕ) (main cache main′ cache′ : List ℕ) : Type 0 where

@@ -1,5 +1,5 @@
--- The fresh state built at an entry: "An entry is refused with 2 if it is not a multiple of 4 or not below the code length, and
--- only then". "All else zero" covers the lent cache words too; a refused opening leaves them as found.
+-- The fresh state built at an entry. 2 refuses an entry that is no multiple of 4 or lies at or behind the code's end, and no other
+-- one. The lent cache words become zero too; a refused opening leaves them as found.
 use Prim.Native.Nat.{ℕ}
 use mathlib.Core.Bool.{not, cond, _||_}
 use mathlib.Core.List.{List}

@@ -18,12 +18,12 @@ use Rattle.effects.specs.Effect.{isUndecodable}
 use Rattle.machine.specs.declared.State.{State}
 use Rattle.machine.specs.State.{noneWaits}
 
--- 2: "fetch address not a multiple of 4, or a word of the bundle outside the code".
+-- 2: the fetch address is no multiple of 4, or the bundle does not lie in the code with all its words.
 unfoldable pub outsideCode : List ℕ → ℕ → Bool
 outsideCode code fetch = not (isMultipleOf4 fetch) || ltb (length code) (fetch + 4 * bundleWords (wordAt code fetch))
 
--- 5, 7 and 8 of a stack instruction: "a stack-control register operand not a multiple of 4"; a bad window or amount; "a spilled or
--- filled word outside the stack area".
+-- 5, 7 and 8 of a stack instruction: its register operand is no multiple of 4; a bad window or amount; a word that it moves lies
+-- outside the stack area.
 abbrev pub stackTests : Settings → ℕ → ℕ → StackControl → ℕ → Bool → List Test
 stackTests g st ss c n aligned =
     test 5 (not aligned) ∷
@@ -32,8 +32,8 @@ stackTests g st ss c n aligned =
     []
 
 -- The order after 1, 11, ended and spent is 2, 3, 10, 4, 5, 7, 8, 6. The tests from 10 on are of slot one's effect, each kind of
--- which has a row with those that it can fail, in that order; slot two refuses nothing. 10 is an executed trap or xret, and 4 "an
--- executed transfer while one waits".
+-- which has a row with those that it can fail, in that order; slot two refuses nothing. 10 is an executed trap or xret, and 4 a second
+-- transfer executed before the first has happened.
 abbrev pub effectTests : Settings → State → Effect → List Test
 effectTests g s (effect.Alu a) = []
 effectTests g s (effect.Special d v) = []

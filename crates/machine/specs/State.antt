@@ -85,7 +85,7 @@ abbrev pub withLoad : State → WaitingLoad → State
 withLoad s l =
     state (s .registers) (s .predicates) (s .specials) (s .fetch) (s .base) (s .transfer) l
 
--- "The load waiting from the bundle before" is written, and waits no more.
+-- The load that waits since the bundle before is written, and waits no more.
 abbrev pub landing : WaitingLoad → State → State
 landing load.Nothing s = s
 landing (load.Waits r v) s = withLoad (withRegister s r v) load.Nothing
@@ -102,15 +102,16 @@ withFlow s srb sro fetch base waiting =
 abbrev pub goingOn : State → ℕ → WaitingTransfer → State
 goingOn s fetch waiting = withFlow s (s .specials .srb) (s .specials .sro) fetch (s .base) waiting
 
--- A transfer carried out, at the end of the bundle before the following address. "Call sets srb = old base, sro = following
--- address − old base, base = target. brcf sets base to its base operand, ret to the srb it read."
+-- A transfer carried out, at the end of the bundle before the following address. A call keeps where to return: in srb the base that
+-- it leaves, in sro the following address counted from there; its target is the new base. A block transfer brings its own base: brcf the
+-- base operand, ret the srb that it read.
 unfoldable pub transferred : State → Transfer → ℕ → State
 transferred s (Br target) following = withFlow s (s .specials .srb) (s .specials .sro) target (s .base) transfer.Nothing
 transferred s (Call target) following = withFlow s (s .base) (sub following (s .base)) target target transfer.Nothing
 transferred s (Block target base) following = withFlow s (s .specials .srb) (s .specials .sro) target base transfer.Nothing
 
--- Refusal 11 describes a state that is not well formed: "r0 not 0, p0 false, a waiting load's register above 31, a transfer
--- waiting more than 3 bundles or 0".
+-- Refusal 11 is for a state that is not well formed: r0 is not 0, p0 is not true, a load waits for a register that there is not, or a
+-- transfer waits 0 or more than 3 bundles.
 abbrev pub loadOk : WaitingLoad → Bool
 loadOk load.Nothing = true
 loadOk (load.Waits r v) = leb r 31
@@ -122,7 +123,7 @@ waitOk (transfer.Waits t n) = leb 1 n && leb n 3
 unfoldable pub wellFormed : State → Bool
 wellFormed s = (eqb (getD (s .registers) 0 0) 0 && getD (s .predicates) 0 false) && (loadOk (s .load) && waitOk (s .transfer))
 
--- "Ended: the fetch address equals the code length and no transfer waits."
+-- A state has ended if it would fetch at the end of the code and no transfer waits.
 abbrev pub noneWaits : WaitingTransfer → Bool
 noneWaits transfer.Nothing = true
 noneWaits (transfer.Waits t n) = false
@@ -130,7 +131,7 @@ noneWaits (transfer.Waits t n) = false
 unfoldable pub ended : State → ℕ → Bool
 ended s codeLength = eqb (s .fetch) codeLength && noneWaits (s .transfer)
 
--- "Fresh state at an entry."
+-- The fresh state at an entry.
 unfoldable pub fresh : ℕ → ℕ → ℕ → State
 fresh codeLength hi entry =
     state (replicate 32 0) (true ∷ predicatesOf 7 0) (specials 0 0 hi hi 0 codeLength 0 0) entry entry transfer.Nothing load.Nothing

@@ -16,7 +16,6 @@ use crate::step::write_alu;
 use crate::waiting::none_waits;
 use decoder::AccessKind;
 use decoder::LoadWidth;
-use decoder::Special;
 use decoder::StoreWidth;
 use effects::AluEffect;
 use effects::Effect;
@@ -27,7 +26,7 @@ use memory::Verdict;
 impl Core {
     // The end of a bundle of one cycle that begins no transfer and moves no stack word: slot two is written and a transfer
     // that waits comes nearer.
-    fn finish(
+    pub(crate) fn finish(
         self,
         registers: &mut [u32; 32],
         predicates: &mut [bool; 8],
@@ -39,56 +38,6 @@ impl Core {
     {
         write_alu(&mut *registers, &mut *predicates, two);
         self.nearer(waiting, following).done(1, 0, 0)
-    }
-
-    fn do_alu(
-        self,
-        registers: &mut [u32; 32],
-        predicates: &mut [bool; 8],
-        a: AluEffect,
-        two: AluEffect,
-        following: u32,
-    ) -> Advanced
-        ensures { λ r. ⌜ ((g : Settings) (b : Buffers) → full (steppedAs (now (registers .exit)) (now (predicates .exit)) r) b ≡ executed g (joined (now (registers .entry)) (now (predicates .entry)) self) (Effect.Alu a) two following b) ⌝ }
-    {
-        let waiting = self.transfer;
-        let onto = self.land_load(&mut *registers);
-        write_alu(&mut *registers, &mut *predicates, a);
-        onto.finish(&mut *registers, &mut *predicates, waiting, two, following)
-    }
-
-    fn do_special(
-        self,
-        registers: &mut [u32; 32],
-        predicates: &mut [bool; 8],
-        special: Special,
-        value: u32,
-        two: AluEffect,
-        following: u32,
-    ) -> Advanced
-        ensures { λ r. ⌜ ((g : Settings) (b : Buffers) → full (steppedAs (now (registers .exit)) (now (predicates .exit)) r) b ≡ executed g (joined (now (registers .entry)) (now (predicates .entry)) self) (Effect.Special special value) two following b) ⌝ }
-    {
-        let waiting = self.transfer;
-        self.land_load(&mut *registers)
-            .write_special(&mut *predicates, special, value)
-            .finish(&mut *registers, &mut *predicates, waiting, two, following)
-    }
-
-    fn do_product(
-        self,
-        registers: &mut [u32; 32],
-        predicates: &mut [bool; 8],
-        low: u32,
-        high: u32,
-        two: AluEffect,
-        following: u32,
-    ) -> Advanced
-        ensures { λ r. ⌜ ((g : Settings) (b : Buffers) → full (steppedAs (now (registers .exit)) (now (predicates .exit)) r) b ≡ executed g (joined (now (registers .entry)) (now (predicates .entry)) self) (Effect.Product low high) two following b) ⌝ }
-    {
-        let waiting = self.transfer;
-        self.land_load(&mut *registers)
-            .write_product(low, high)
-            .finish(&mut *registers, &mut *predicates, waiting, two, following)
     }
 
     fn do_load(
@@ -192,18 +141,6 @@ impl Core {
         ensures { λ r. ⌜ full (steppedAs (now (registers .exit)) (now (predicates .exit)) r) (buffers (now (main .exit)) (now (local .exit)) (now (cache .exit))) ≡ executed g (joined (now (registers .entry)) (now (predicates .entry)) self) one two following (buffers (now (main .entry)) (now (local .entry)) (now (cache .entry))) ⌝ }
     {
         match one {
-            Effect::Alu(a) => self.do_alu(&mut *registers, &mut *predicates, a, two, following),
-            Effect::Special { special, value } => self.do_special(
-                &mut *registers,
-                &mut *predicates,
-                special,
-                value,
-                two,
-                following,
-            ),
-            Effect::Product { low, high } => {
-                self.do_product(&mut *registers, &mut *predicates, low, high, two, following)
-            }
             Effect::Load {
                 kind,
                 width,
@@ -272,7 +209,7 @@ impl Core {
                 two,
                 following,
             ),
-            Effect::Exception => self.refused(10),
+            _ => self.do_plain(&mut *registers, &mut *predicates, one, two, following),
         }
     }
 

@@ -2,6 +2,7 @@
 mod bundle;
 mod execute;
 pub mod open;
+mod plain;
 mod special;
 mod stack_moves;
 pub mod step;

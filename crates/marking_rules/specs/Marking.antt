@@ -17,7 +17,7 @@ privateRegister m r = getD (m .registers) r false
 abbrev pub privatePredicate : Marking → ℕ → Bool
 privatePredicate m p = getD (m .predicates) p false
 
--- "A guard is private if its predicate is", negated or not; so is any predicate operand.
+-- A guard is as private as its predicate, negated or not; so is any predicate operand.
 abbrev pub privateOperand : Marking → PredicateOperand → Bool
 privateOperand m p = privatePredicate m (p .predicate)
 
@@ -63,6 +63,6 @@ publicPredicate m p = not (eqb p 0) && not (privatePredicate m p)
 abbrev pub publicSpecial : Marking → Special → Bool
 publicSpecial m = onSpecial (some (publicPredicate m) 8) (not (m .sl)) (not (m .sh)) true
 
--- Refusal 1: "a marking with r0 or p0 private".
+-- Refusal 1 of a marking: r0 and p0 are always public.
 unfoldable pub markingOk : Marking → Bool
 markingOk m = not (privateRegister m 0) && not (privatePredicate m 0)

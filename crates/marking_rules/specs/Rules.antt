@@ -70,23 +70,23 @@ asked m (Trap n) = controlling false
 asked m (Xret d) = controlling false
 
 -- The rules. g says whether the operation's guard is private.
--- A: "a private guard on a transfer (trap and xret included), stack control, or mts to ss, st, srb, sro, sxb, sxo".
+-- A: the guard is private, and the operation is a transfer, a trap or xret, stack control, or mts to ss, st, srb, sro, sxb or sxo.
 unfoldable pub breaksA : Marking → Bool → Operation → Bool
 breaksA m g o = g && asked m o .control
 
--- B: "a public destination with a private guard, operand or loaded store".
+-- B: the destination is public, and the guard, an operand or the store that is loaded from is private.
 unfoldable pub breaksB : Marking → Bool → Operation → Bool
 breaksB m g o = asked m o .destination && (g || asked m o .source)
 
--- C: "a private base register in an address".
+-- C: the base register of an address is private.
 unfoldable pub breaksC : Marking → Operation → Bool
 breaksC m o = asked m o .access && privateRegister m (asked m o .base)
 
--- D: "a private value or guard in a store to a public store".
+-- D: the store that is written to is public, and the value or the guard is private.
 unfoldable pub breaksD : Marking → Bool → Operation → Bool
 breaksD m g o = asked m o .store && (g || asked m o .value)
 
--- E: "a private register operand of a transfer or stack control".
+-- E: a register operand of a transfer or of stack control is private.
 unfoldable pub breaksE : Marking → Operation → Bool
 breaksE m o = asked m o .operand
 

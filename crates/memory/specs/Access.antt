@@ -75,7 +75,7 @@ unfoldable pub verdict : List Test → Verdict
 verdict [] = Fine
 verdict (t ∷ ts) = cond (t .applies) (Refused (t .number)) (verdict ts)
 
--- 7: "stack access with ss or st not a multiple of 4, st > ss or ss − st > 4W".
+-- 7 of a stack access: the window is none that a stack cache of W words can have.
 abbrev pub isStack : AccessKind → Bool
 isStack Stack = true
 isStack Local = false
@@ -85,8 +85,8 @@ isStack Main = false
 abbrev pub badAccess : Settings → ℕ → ℕ → AccessKind → Bool
 badAccess g st ss k = isStack k && badWindow (g .words) st ss
 
--- 6: "main or local access not wholly inside its memory; a main access touching the stack area; a stack access not wholly inside
--- the window". Loads and stores have a test each. n is the access's number of bytes.
+-- 6: some byte of the access is not open to it. To a main access the main memory is, but not the stack area; to a local one the local
+-- memory; to a stack access the window. Loads and stores have a test each. n is the access's number of bytes.
 unfoldable pub mainOpen : Settings → ℕ → ℕ → Bool
 mainOpen g a n = leb (a + n) (g .main) && not (ltb (g .lo) (g .hi) && (ltb a (g .hi) && ltb (g .lo) (a + n)))
 
@@ -102,7 +102,7 @@ accessOpen main g st ss Local a n = leb (a + n) (g .local)
 accessOpen main g st ss Cached a n = main g a n
 accessOpen main g st ss Main a n = main g a n
 
--- The tests of an access of n bytes, in their order: 5, 7, 6. 5 is "address not a multiple of the access width". `main` tells which
+-- The tests of an access of n bytes, in their order: 5, 7, 6. 5 is an address that the access width does not divide. `main` tells which
 -- bytes of main memory are open to it.
 abbrev pub accessTests : (Settings → ℕ → ℕ → Bool) → Settings → ℕ → ℕ → AccessKind → ℕ → ℕ → List Test
 accessTests main g st ss k a n =

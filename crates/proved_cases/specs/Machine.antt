@@ -31,7 +31,7 @@ nop = 0x00400000
 abbrev pub counting : ℕ → ℕ → Counts
 counting spilled filled = record { bundles = 1; cycles = 1; spilled = spilled; filled = filled }
 
--- "sres 12 gives st 976, no spill. Then sres 8 gives st 944, ss 1008, 4 spilled, at 1020 first."
+-- After sres 12 st is 976, and nothing is spilled; after sres 8 st is 944 and ss 1008, and 4 words are spilled, the first to 1020.
 abbrev pub reserving : List Tried → List Tried
 reserving rest =
     record {  -- sres 12
@@ -52,7 +52,7 @@ reserving rest =
     } ∷
     rest
 
--- "Then sfree 8: st 976. Then sens 12: 4 filled, ss 1024." Both from an address on, and with what the cache holds before; after
+-- After sfree 8 st is 976 again, and sens 12 fills 4 words up to ss 1024. Both from an address on, and with what the cache holds before; after
 -- the fill it holds the four words that were spilled.
 abbrev pub freeing : ℕ → List ℕ → List Tried
 freeing address cache =
@@ -150,7 +150,7 @@ machineRuns =
     } ∷
     []
 
--- "W = 16: sres 16 is done from an empty window, sres 17 gives 7."
+-- With 16 words sres 16 is done from an empty window, and sres 17 is refused with 7.
 abbrev pub limitRuns : List Run
 limitRuns =
     record {

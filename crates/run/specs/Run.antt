@@ -33,7 +33,7 @@ counted c o = outcome (o .answer) (o .state) (plus c (o .counts)) (o .buffers)
 abbrev pub stopped : List ℕ → ℕ → ℕ → State → Buffers → Outcome
 stopped code lo hi s b = readyOr (readiness (lent code lo hi b) s) s b (outcome spent s noCounts b)
 
--- A run: a bundle that is done is followed by the run of the rest, and any other answer of the step is the run's. "Spent: as many bundles as the budget were done, and ended does not hold."
+-- A run: a bundle that is done is followed by the run of the rest, and any other answer of the step is the run's. A run is spent if its budget is used up and the state has not ended.
 unfoldable pub run : List ℕ → ℕ → ℕ → ℕ → State → Buffers → Outcome
 run code lo hi zero s b = stopped code lo hi s b
 run code lo hi (suc k) s b =
@@ -53,8 +53,8 @@ pub record Tried : Type 0 where
 abbrev pub triedAt : ℕ → Counts → Outcome → Tried
 triedAt fetch before o = record { fetch = fetch; answer = o .answer; counts = plus before (o .counts); state = o .state; buffers = o .buffers }
 
--- "A run tries bundles; a refused one counts as tried and is the last. The first gets the state and buffers handed in, each later
--- one what the one before left." The counts are those of the bundles before.
+-- The bundles that a run tries, each from the state and buffers that the one before left, the first from those handed in. A refused
+-- one is tried too, and ends the list. The counts are those of the bundles before.
 abbrev pub whenReady : {A : Type 0} → Readiness → List A → List A
 whenReady Ready l = l
 whenReady Ended l = []

@@ -16,7 +16,7 @@ use Rattle.marking_rules.specs.Rules.{breaks, keeps}
 use Rattle.single_path.specs.declared.Checked.{Checked}
 use Rattle.single_path.specs.declared.Checked.the-variants as enum
 
--- "An address is walked if it is below the code length and either is 0 or follows a bundle at a walked address."
+-- The walked addresses, all below the code length: 0, and with each one the address that follows the bundle there.
 pub data Walked (code : List ℕ) : ℕ → Type 0 where
   first : 0 < length code → Walked code 0
   later : {a b : ℕ} → Walked code a → b ≡ followingAt code a → b < length code → Walked code b
@@ -47,7 +47,7 @@ walkFrom m code (suc most) a =
     (cond (isUndecodable (bundleAt code a)) (refused 3 a)
     (cond (keeps m (bundleAt code a)) rest (refused 9 a))))
 
--- "Settings are the lengths of code and memories, W, lo and hi"; and whether refusal 1 lets them and the marking pass.
+-- The settings of what is lent, and whether refusal 1 lets them and the marking pass.
 abbrev pub settings : List ℕ → ℕ → ℕ → ℕ → ℕ → ℕ → Settings
 settings code main local words lo hi = record { code = length code; main = main; local = local; words = words; lo = lo; hi = hi }
 

@@ -14,7 +14,7 @@ use Rattle.stack_cache.specs.declared.Plan.the-variants.{Refused, Moves}
 use Rattle.stack_cache.specs.declared.Made.{Made}
 use Rattle.stack_cache.specs.declared.Made.the-variants as made
 
--- "W a power of two from 4 to 512." The divisors of 512 are the powers of two up to it.
+-- A cache has 4 to 512 words, a power of two: the divisors of 512 are the powers of two up to it.
 abbrev pub least : ℕ
 least = 4
 
@@ -28,7 +28,7 @@ isCacheSize w = (leb least w && leb w greatest) && eqb (greatest % w) 0
 unfoldable pub makeCache : ℕ → Made
 makeCache w = cond (isCacheSize w) (made.Cache (record { words = w })) (made.Refused 1)
 
--- "The word at address a sits at cache place a/4 modulo W."
+-- The cache place of the word at an address: the number of the word, modulo W.
 unfoldable pub cacheWord : List ℕ → ℕ → ℕ
 cacheWord cache a = getD cache (a / 4 % length cache) 0
 
@@ -61,12 +61,12 @@ unfoldable pub above : ℕ → ℕ → List ℕ
 above zero a = []
 above (suc k) a = a ∷ above k (add a 4)
 
--- "While ss − st > 4W, the word at ss − 4 is spilled and ss falls by 4": at most `most` times.
+-- Spilling, from ss downwards, as long as the window has more than W words: at most `most` times.
 unfoldable pub spillWhile : ℕ → ℕ → ℕ → ℕ → List ℕ
 spillWhile zero w st ss = []
 spillWhile (suc most) w st ss = cond (ltb (4 * w) (ss - st)) (sub ss 4 ∷ spillWhile most w st (sub ss 4)) []
 
--- "While ss − st < 4n, the word at ss is filled and ss rises by 4": at most `most` times.
+-- Filling, from ss upwards, as long as the window has fewer than n words: at most `most` times.
 unfoldable pub fillWhile : ℕ → ℕ → ℕ → ℕ → List ℕ
 fillWhile zero n st ss = []
 fillWhile (suc most) n st ss = cond (ltb (ss - st) (4 * n)) (ss ∷ fillWhile most n st (add ss 4)) []
@@ -79,7 +79,7 @@ topAfter Sfree st n = st + 4 * n
 topAfter Sspill st n = st
 
 -- The addresses of the words that it spills, in order. sres makes room for all that lies between the new st and ss, W words
--- at most; sspill takes "the smaller of n and the window's words".
+-- at most; sspill takes n words, or all that the window has if these are fewer.
 unfoldable pub spills : StackControl → ℕ → ℕ → ℕ → ℕ → List ℕ
 spills Sres w st ss n = spillWhile w w (st - 4 * n) ss
 spills Sens w st ss n = []
@@ -93,25 +93,25 @@ fills Sens st ss n = fillWhile n n st ss
 fills Sfree st ss n = []
 fills Sspill st ss n = []
 
--- Where ss is afterwards: each word moved shifts it by 4; "if st > ss, ss = st".
+-- Where ss is afterwards: each word moved shifts it by 4; where st has risen above it, it is st.
 unfoldable pub spillAfter : StackControl → ℕ → ℕ → ℕ → ℕ → ℕ
 spillAfter Sres w st ss n = ss - 4 * length (spills Sres w st ss n)
 spillAfter Sens w st ss n = ss + 4 * length (fills Sens st ss n)
 spillAfter Sfree w st ss n = max ss (st + 4 * n)
 spillAfter Sspill w st ss n = ss - 4 * length (spills Sspill w st ss n)
 
--- Refusal 7 of every stack instruction and access: "ss or st not a multiple of 4, st > ss or ss − st > 4W".
+-- Refusal 7 of every stack instruction and access: st and ss are no two multiples of 4 in order with at most W words between.
 unfoldable pub badWindow : ℕ → ℕ → ℕ → Bool
 badWindow w st ss = (not (eqb (ss % 4) 0) || not (eqb (st % 4) 0)) || (ltb ss st || ltb (4 * w) (ss - st))
 
--- Refusal 7 of stack instructions alone: "n > W in sres or sens; st leaving 0 to 2^32 − 1".
+-- Refusal 7 of stack instructions alone: sres or sens of more than W words, or a new st that is no 32-bit address.
 unfoldable pub badAmount : StackControl → ℕ → ℕ → ℕ → Bool
 badAmount Sres w st n = ltb w n || ltb st (4 * n)
 badAmount Sens w st n = ltb w n
 badAmount Sfree w st n = leb (2 ^ 32) (st + 4 * n)
 badAmount Sspill w st n = false
 
--- Refusal 8: "a spilled or filled word outside the stack area" from lo to hi.
+-- Refusal 8: a word that is moved lies outside the stack area from lo to hi.
 abbrev pub inArea : ℕ → ℕ → ℕ → Bool
 inArea lo hi a = leb lo a && leb (a + 4) hi
 

@@ -8,7 +8,7 @@ use lib.Signed.{ltZ, leZ, shrZ}
 use mir.Syntax.{w32, w64}
 use mir.Val.{ofZ}
 
--- "Sums, differences, addresses and targets wrap at 2^32": the sum, and the number that b is to be added to to give a.
+-- Arithmetic modulo 2^32: the sum, and the number that b is to be added to to give a.
 abbrev pub add : ℕ → ℕ → ℕ
 add a b = (a + b) % 2 ^ 32
 
@@ -30,7 +30,7 @@ lessSigned a b = ltZ (signed 32 a) (signed 32 b)
 unfoldable pub lessEqualSigned : ℕ → ℕ → Bool
 lessEqualSigned a b = leZ (signed 32 a) (signed 32 b)
 
--- "Shift amounts use the low five bits."
+-- Of a shift amount the low five bits count.
 abbrev pub shiftLeft : ℕ → ℕ → ℕ
 shiftLeft a n = a * 2 ^ (n % 32) % 2 ^ 32
 

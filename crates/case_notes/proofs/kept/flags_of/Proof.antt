@@ -1,37 +1,45 @@
+use Prim.Native.Nat.{ℕ, _+_, _-_, _≤_}
+use mathlib.Core.Bool.{Bool}
+use mathlib.Core.List.{List}
+use lib.ListN.{length, take, length-set}
+use lib.Seq.{take-all}
+use Rattle.case_notes.specs.Kept.{flagsAt}
+use Rattle.case_notes.specs.KeptLaws.{up-to-none, up-to-more}
 use borrow.Author.Needs.{needs}
-use Prim.Native.Nat.{_-_}
+use native.Mathlib.Omega.{arith}
+use mathlib.Core.Path.{_≡_, refl, sym, _∙_}
 use Rattle.case_notes.proofs.kept.flags_of.Statement.{statement}
 use Rattle.case_notes.proofs.kept.flags_of.Tie as tie
 
 abbrev Inv-loop : tie.InvT-loop
-Inv-loop kept first flags₀ place₀ i₀ flags place i = Unit {0}
+Inv-loop kept first flags₀ i₀ flags i = (i ≤ 8) × (length flags ≡ 8) × (take i flags ≡ flagsAt i kept first)
 
 abbrev μ-loop : tie.MeasureT-loop
-μ-loop kept first flags₀ place₀ i₀ flags place i = 8 - i
+μ-loop kept first flags₀ i₀ flags i = 8 - i
 
 loop-holds : tie.Need-loop-holds Inv-loop μ-loop
-loop-holds c = search needs
+loop-holds c = (omega arith, refl, up-to-none _)
 
-is-set-requires : tie.Need-is-set-requires Inv-loop μ-loop
-is-set-requires c κs = tt
+is-set-after-requires : tie.Need-is-set-after-requires Inv-loop μ-loop
+is-set-after-requires c κs = tt
 
 array-write-flags : tie.Need-array-write-flags Inv-loop μ-loop
 array-write-flags c = search needs
 
-wrapping-add-usize-requires : tie.Need-wrapping-add-usize-requires Inv-loop μ-loop
-wrapping-add-usize-requires c κs = tt
-
 add-i : tie.Need-add-i Inv-loop μ-loop
-add-i c = search needs
+add-i c = omega arith
 
 loop-less : tie.Need-loop-less Inv-loop μ-loop
-loop-less c = search needs
+loop-less c = omega arith
 
 loop-again : tie.Need-loop-again Inv-loop μ-loop
-loop-again c = search needs
+loop-again c = let l = c .before .before .loop in
+    (omega arith, length-set (l .flags) (l .i) _ ∙ l .inv .1, up-to-more _ (l .flags) (l .i) _ (rw (l .inv .1) (c .before .loop-test .taken)) (l .inv .2) (c .is-set-after .ensures))
 
 returns : tie.Need-returns Inv-loop μ-loop
-returns c = search needs
+returns c = let l = c .before .loop in
+    let e : l .i ≡ 8 = omega arith in
+    sym (take-all 8 (l .flags) (rw (l .inv .1) (omega arith))) ∙ rw e at (l .inv .2)
 
 pub flags-of-spec : {M : Type 1} → statement M
 flags-of-spec =
@@ -40,9 +48,8 @@ flags-of-spec =
     Inv-loop
     μ-loop
     loop-holds
-    is-set-requires
+    is-set-after-requires
     array-write-flags
-    wrapping-add-usize-requires
     add-i
     loop-less
     loop-again

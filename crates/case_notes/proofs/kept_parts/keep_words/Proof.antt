@@ -1,41 +1,47 @@
+use Prim.Native.Nat.{ℕ, _-_, _≤_}
+use lib.ListN.{length, getD}
+use Rattle.case_notes.specs.Kept.{putEach}
+use Rattle.case_notes.specs.KeptLaws.{put-none, put-more}
 use borrow.Author.Needs.{needs}
-use Prim.Native.Nat.{_-_}
-use lib.ListN.{length}
+use native.Mathlib.Omega.{arith}
+use mathlib.Core.Path.{_≡_, refl, _∙_}
 use Rattle.case_notes.proofs.kept_parts.keep_words.Statement.{statement}
 use Rattle.case_notes.proofs.kept_parts.keep_words.Tie as tie
 
 abbrev Inv-loop : tie.InvT-loop
-Inv-loop kept₀ first words place₀ i₀ kept place i = Unit {0}
+Inv-loop kept₀ first words i₀ kept i = (i ≤ length words) × (kept ≡ putEach first i (λ j. getD words j 0) kept₀)
 
 abbrev μ-loop : tie.MeasureT-loop
-μ-loop kept₀ first words place₀ i₀ kept place i = length words - i
+μ-loop kept₀ first words i₀ kept i = length words - i
 
 loop-holds : tie.Need-loop-holds Inv-loop μ-loop
-loop-holds c = search needs
+loop-holds c = (omega arith, put-none _ _ _)
 
-mul-keep-word : tie.Need-mul-keep-word Inv-loop μ-loop
-mul-keep-word c = search needs
+mul-keep-after : tie.Need-mul-keep-after Inv-loop μ-loop
+mul-keep-after c = search needs
 
-shared-slice-read-keep-word : tie.Need-shared-slice-read-keep-word Inv-loop μ-loop
-shared-slice-read-keep-word c = search needs
+shared-slice-read-keep-after : tie.Need-shared-slice-read-keep-after Inv-loop μ-loop
+shared-slice-read-keep-after c = omega arith
 
-keep-word-requires : tie.Need-keep-word-requires Inv-loop μ-loop
-keep-word-requires c κs = tt
+cast-keep-after : tie.Need-cast-keep-after Inv-loop μ-loop
+cast-keep-after c = omega (arith, c .shared-slice-known2 .given (c .before .before .before .loop .i))
 
-wrapping-add-usize-requires : tie.Need-wrapping-add-usize-requires Inv-loop μ-loop
-wrapping-add-usize-requires c κs = tt
+keep-after-requires : tie.Need-keep-after-requires Inv-loop μ-loop
+keep-after-requires c κs = tt
 
 add-i : tie.Need-add-i Inv-loop μ-loop
 add-i c = search needs
 
 loop-less : tie.Need-loop-less Inv-loop μ-loop
-loop-less c = search needs
+loop-less c = omega arith
 
 loop-again : tie.Need-loop-again Inv-loop μ-loop
-loop-again c = search needs
+loop-again c = let l = c .before .before .before .before .loop in (omega arith, c .keep-after .ensures ∙ put-more _ (l .i) _ _ _ _ (l .kept) refl refl (l .inv .1))
 
 returns : tie.Need-returns Inv-loop μ-loop
-returns c = search needs
+returns c = let l = c .before .loop in
+    let e : l .i ≡ length (c .before .before .before .args .words .now) = omega arith in
+    rw e at (l .inv .1)
 
 pub keep-words-spec : {M : Type 1} → statement M
 keep-words-spec =
@@ -44,10 +50,10 @@ keep-words-spec =
     Inv-loop
     μ-loop
     loop-holds
-    mul-keep-word
-    shared-slice-read-keep-word
-    keep-word-requires
-    wrapping-add-usize-requires
+    mul-keep-after
+    shared-slice-read-keep-after
+    cast-keep-after
+    keep-after-requires
     add-i
     loop-less
     loop-again

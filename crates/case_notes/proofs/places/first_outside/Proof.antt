@@ -1,28 +1,32 @@
-use borrow.Author.Needs.{needs}
-use Prim.Native.Nat.{_-_}
+use Prim.Native.Nat.{_+_, _*_, _≤_}
+use native.Mathlib.Nat.{min-le-right}
+use Rattle.case_notes.specs.Places.{outsideFrom, firstOutside}
+use Rattle.case_notes.specs.PlacesLaws.{outside-none, outside-some}
+use native.Mathlib.Omega.{arith}
+use borrow.Author.Tests.{le-leb, lt-leb}
+use mathlib.Core.Path.{_≡_}
 use Rattle.case_notes.proofs.places.first_outside.Statement.{statement}
 use Rattle.case_notes.proofs.places.first_outside.Tie as tie
 
 abbrev Inv-loop : tie.InvT-loop
-Inv-loop kept noted i₀ i = Unit {0}
+Inv-loop kept left₀ at₀ left at = (at + 3 * left ≤ 120200) × (outsideFrom left kept at ≡ firstOutside kept)
 
 abbrev μ-loop : tie.MeasureT-loop
-μ-loop kept noted i₀ i = noted - i
+μ-loop kept left₀ at₀ left at = left
 
 number-requires : tie.Need-number-requires Inv-loop μ-loop
 number-requires c κs = tt
 
+least-requires : tie.Need-least-requires Inv-loop μ-loop
+least-requires c κs = tt
+
 loop-holds : tie.Need-loop-holds Inv-loop μ-loop
-loop-holds c = search needs
+unfolding firstOutside
+loop-holds c = let m = min-le-right (c .before .number .result) 40000 in
+    (rw (c .least .ensures .2) (omega arith), rw (c .least .ensures .2, c .before .number .ensures))
 
-returns : tie.Need-returns Inv-loop μ-loop
-returns c = search needs
-
-mul-at : tie.Need-mul-at Inv-loop μ-loop
-mul-at c = search needs
-
-add-at : tie.Need-add-at Inv-loop μ-loop
-add-at c = search needs
+sub-left : tie.Need-sub-left Inv-loop μ-loop
+sub-left c = omega arith
 
 number-requires-2 : tie.Need-number-requires-2 Inv-loop μ-loop
 number-requires-2 c κs = tt
@@ -31,31 +35,33 @@ number-requires-3 : tie.Need-number-requires-3 Inv-loop μ-loop
 number-requires-3 c κs = tt
 
 add-number : tie.Need-add-number Inv-loop μ-loop
-add-number c = search needs
+add-number c = omega arith
 
 number-requires-4 : tie.Need-number-requires-4 Inv-loop μ-loop
 number-requires-4 c κs = tt
 
 add-number-2 : tie.Need-add-number-2 Inv-loop μ-loop
-add-number-2 c = search needs
+add-number-2 c = omega arith
 
 number-requires-5 : tie.Need-number-requires-5 Inv-loop μ-loop
 number-requires-5 c κs = tt
 
-returns-2 : tie.Need-returns-2 Inv-loop μ-loop
-returns-2 c = search needs
+returns : tie.Need-returns Inv-loop μ-loop
+returns c = let l = c .before .before .before .before .before .before .loop in
+    rw (← l .inv .1, outside-some (l .left) _ _ (c .before .before .before .before .before .loop-test .taken), ← c .before .before .before .before .number2 .ensures, ← c .before .before .before .number3 .ensures, ← c .before .before .number4 .ensures, le-leb _ _ (c .before .if1 .taken), ← c .number5 .ensures)
 
-add-i : tie.Need-add-i Inv-loop μ-loop
-add-i c = search needs
+add-at : tie.Need-add-at Inv-loop μ-loop
+add-at c = omega arith
 
 loop-less : tie.Need-loop-less Inv-loop μ-loop
-loop-less c = search needs
+loop-less c = omega arith
 
 loop-again : tie.Need-loop-again Inv-loop μ-loop
-loop-again c = search needs
+loop-again c = let l = c .before .before .before .before .before .loop in
+    (omega arith, rw (← l .inv .1, outside-some (l .left) _ _ (c .before .before .before .before .loop-test .taken), ← c .before .before .before .number2 .ensures, ← c .before .before .number3 .ensures, ← c .before .number4 .ensures, lt-leb _ _ (c .if1 .left)))
 
-returns-3 : tie.Need-returns-3 Inv-loop μ-loop
-returns-3 c = search needs
+returns-2 : tie.Need-returns-2 Inv-loop μ-loop
+returns-2 c = let l = c .before .loop in rw (← l .inv .1, outside-none (l .left) _ _ (c .loop-test .left))
 
 pub first-outside-spec : {M : Type 1} → statement M
 first-outside-spec =
@@ -64,18 +70,17 @@ first-outside-spec =
     Inv-loop
     μ-loop
     number-requires
+    least-requires
     loop-holds
-    returns
-    mul-at
-    add-at
+    sub-left
     number-requires-2
     number-requires-3
     add-number
     number-requires-4
     add-number-2
     number-requires-5
-    returns-2
-    add-i
+    returns
+    add-at
     loop-less
     loop-again
-    returns-3)
+    returns-2)

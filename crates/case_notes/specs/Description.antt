@@ -1,0 +1,103 @@
+-- What the description lines of a case say of its numbers. They come in any order, and some kinds at most once.
+use Prim.Native.Nat.{ℕ, _+_}
+use mathlib.Core.Bool.{Bool, cond}
+use mathlib.Core.List.{List}
+use lib.Dec.{ltb}
+use Rattle.case_file.specs.declared.Line.{Line}
+use Rattle.case_file.specs.declared.Line.the-variants as Line
+use Rattle.case_file.specs.declared.Reason.the-variants as Reason
+use Rattle.case_file.specs.declared.SpecialName.{SpecialName}
+use Rattle.case_file.specs.declared.SpecialName.the-variants as SpecialName
+use Rattle.case_notes.specs.PlaceNumbers.{MAIN, LOCAL, WORDS, LO, HI, ENTRY, FETCH, BASE, SPECIALS, TRANSFER, LOAD, REGISTERS, PREDICATES, GIVEN}
+use Rattle.case_notes.specs.Kept.{isSet, put, flag}
+use Rattle.case_notes.specs.KeptParts.{BR, CALL, BLOCK, withTransfer, withLoad}
+use Rattle.case_notes.specs.Mistake.{NO-MISTAKE, rowOf}
+
+-- What a line leaves: the row of its mistake, and the kept numbers.
+pub record Noted : Type 0 where
+  pub row : ℕ
+  pub kept : List ℕ
+
+abbrev pub noted : ℕ → List ℕ → Noted
+noted row kept = record { row = row; kept = kept }
+
+abbrev pub fine : List ℕ → Noted
+fine kept = noted NO-MISTAKE kept
+
+-- Whether a line gave the number at a place.
+abbrev pub isGiven : List ℕ → ℕ → Bool
+isGiven kept place = isSet kept (GIVEN + place)
+
+abbrev pub markGiven : List ℕ → ℕ → List ℕ
+markGiven kept place = put kept (GIVEN + place) 1
+
+-- A number, and that a line gave it.
+abbrev pub give : List ℕ → ℕ → ℕ → List ℕ
+give kept place n = put (markGiven kept place) place n
+
+-- A line that may stand once and comes again is a mistake. It is known by the place of its first number.
+abbrev pub once : List ℕ → ℕ → Noted → Noted
+once kept place rest = cond (isGiven kept place) (noted (rowOf Reason.Repeated) kept) rest
+
+abbrev pub numberOnce : List ℕ → ℕ → ℕ → Noted
+numberOnce kept place n = once kept place (fine (give kept place n))
+
+-- The greatest length of the code and of each memory, in bytes.
+abbrev pub GREATEST : ℕ
+GREATEST = 65536
+
+-- The length of a memory; one above 65,536 bytes is a mistake.
+abbrev pub lengthOnce : List ℕ → ℕ → ℕ → Noted
+lengthOnce kept place n = once kept place (cond (ltb GREATEST n) (noted (rowOf Reason.TooMuchMemory) kept) (fine (give kept place n)))
+
+abbrev pub transferOnce : List ℕ → ℕ → ℕ → ℕ → ℕ → Noted
+transferOnce kept kind a b c = once kept TRANSFER (fine (withTransfer (markGiven kept TRANSFER) kind a b c))
+
+-- The order of the special registers. A name that is none of them has no place below 8.
+abbrev pub specialPlace : SpecialName → ℕ
+specialPlace SpecialName.Sl = 0
+specialPlace SpecialName.Sh = 1
+specialPlace SpecialName.Ss = 2
+specialPlace SpecialName.St = 3
+specialPlace SpecialName.Srb = 4
+specialPlace SpecialName.Sro = 5
+specialPlace SpecialName.Sxb = 6
+specialPlace SpecialName.Sxo = 7
+specialPlace SpecialName.Unknown = 8
+
+-- Lines that may come again: for one place the last one counts.
+abbrev pub register : List ℕ → ℕ → ℕ → Noted
+register kept r w = fine (cond (ltb r 32) (put kept (REGISTERS + r) w) kept)
+
+abbrev pub predicate : List ℕ → ℕ → Bool → Noted
+predicate kept p v = fine (cond (ltb p 8) (put kept (PREDICATES + p) (flag v)) kept)
+
+abbrev pub special : List ℕ → SpecialName → ℕ → Noted
+special kept name w = fine (cond (ltb (specialPlace name) 8) (give kept (SPECIALS + specialPlace name) w) kept)
+
+-- The lines that need nothing but their own numbers, by the table of the description lines. Every other line leaves the numbers alone.
+unfoldable pub given : Line → List ℕ → Noted
+given (Line.Main bytes) kept = lengthOnce kept MAIN bytes
+given (Line.Local bytes) kept = lengthOnce kept LOCAL bytes
+given (Line.Stack words lo hi) kept = once kept WORDS (fine (put (put (give kept WORDS words) LO lo) HI hi))
+given (Line.Entry address) kept = numberOnce kept ENTRY address
+given (Line.Fetch address) kept = numberOnce kept FETCH address
+given (Line.Base address) kept = numberOnce kept BASE address
+given (Line.Reg r w) kept = register kept r w
+given (Line.Pred p v) kept = predicate kept p v
+given (Line.Special name w) kept = special kept name w
+given (Line.Br target wait) kept = transferOnce kept BR target wait 0
+given (Line.Call target wait) kept = transferOnce kept CALL target wait 0
+given (Line.Block target base wait) kept = transferOnce kept BLOCK target base wait
+given (Line.Load r w) kept = once kept LOAD (fine (withLoad (markGiven kept LOAD) r w))
+given Line.Empty kept = fine kept
+given (Line.Mistake r) kept = fine kept
+given (Line.Case name) kept = fine kept
+given (Line.Code list) kept = fine kept
+given (Line.Private list) kept = fine kept
+given (Line.MainWord address w) kept = fine kept
+given (Line.LocalWord address w) kept = fine kept
+given (Line.CacheWord place w) kept = fine kept
+given (Line.Run budget) kept = fine kept
+given Line.Step kept = fine kept
+given Line.Check kept = fine kept

@@ -1,0 +1,59 @@
+-- Parts of the state of a case among the kept numbers.
+use Prim.Native.Nat.{ℕ, _+_}
+use mathlib.Core.Bool.{Bool, false}
+use mathlib.Core.List.{List, [], _∷_}
+use lib.ListN.{length, getD}
+use Rattle.effects.specs.declared.Specials.{Specials}
+use Rattle.effects.specs.declared.Transfer.{Transfer}
+use Rattle.effects.specs.declared.Transfer.the-variants as Transfer
+use Rattle.case_notes.specs.PlaceNumbers.{SPECIALS, TRANSFER, TARGET, LOAD, LOADED, REGISTERS, PREDICATES}
+use Rattle.case_notes.specs.Kept.{wordAt, put, flag, wordsAt, putEach}
+
+-- The kinds of a waiting transfer. Where none waits, the kind is 0.
+abbrev pub BR : ℕ
+BR = 1
+
+abbrev pub CALL : ℕ
+CALL = 2
+
+abbrev pub BLOCK : ℕ
+BLOCK = 3
+
+-- A waiting transfer: its kind, and the numbers of its line in their order. A line of two numbers has 0 for the third.
+abbrev pub withTransfer : List ℕ → ℕ → ℕ → ℕ → ℕ → List ℕ
+withTransfer kept kind a b c = put (put (put (put kept TRANSFER kind) TARGET a) (TARGET + 1) b) (TARGET + 2) c
+
+-- A waiting load: that there is one, its register and its value.
+abbrev pub withLoad : List ℕ → ℕ → ℕ → List ℕ
+withLoad kept register value = put (put (put kept LOAD 1) LOADED register) (LOADED + 1) value
+
+-- A transfer as its line in a file has it: TARGET and WAIT, or TARGET, BASE and WAIT.
+abbrev pub withTarget : List ℕ → Transfer → ℕ → List ℕ
+withTarget kept (Transfer.Br target) wait = withTransfer kept BR target wait 0
+withTarget kept (Transfer.Call target) wait = withTransfer kept CALL target wait 0
+withTarget kept (Transfer.Block target base) wait = withTransfer kept BLOCK target base wait
+
+abbrev pub registersOf : List ℕ → List ℕ
+registersOf kept = wordsAt 32 kept REGISTERS
+
+-- The special registers stand in the order of the report.
+abbrev pub specialsOf : List ℕ → Specials
+specialsOf kept = record {
+  sl = wordAt kept SPECIALS;
+  sh = wordAt kept (SPECIALS + 1);
+  ss = wordAt kept (SPECIALS + 2);
+  st = wordAt kept (SPECIALS + 3);
+  srb = wordAt kept (SPECIALS + 4);
+  sro = wordAt kept (SPECIALS + 5);
+  sxb = wordAt kept (SPECIALS + 6);
+  sxo = wordAt kept (SPECIALS + 7);
+}
+
+abbrev pub listOf : Specials → List ℕ
+listOf s = s .sl ∷ s .sh ∷ s .ss ∷ s .st ∷ s .srb ∷ s .sro ∷ s .sxb ∷ s .sxo ∷ []
+
+abbrev pub withWords : List ℕ → ℕ → List ℕ → List ℕ
+withWords kept first words = putEach first (length words) (λ i. getD words i 0) kept
+
+abbrev pub withPredicates : List ℕ → List Bool → List ℕ
+withPredicates kept predicates = putEach PREDICATES 8 (λ i. flag (getD predicates i false)) kept

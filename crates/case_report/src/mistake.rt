@@ -1,0 +1,55 @@
+// The last line of a report whose file has a mistake.
+use crate::output::say;
+use crate::output::tell;
+use case_notes::kept::Kept;
+use case_notes::kept::PHASE;
+use case_notes::kept::STOPPED;
+
+// Tells the bytes of one row, and its line end.
+fn tell_row(rows: &[u8], row: usize) {
+    let mut start = 0;
+    let mut left = row;
+    let mut i = 0;
+    while i < rows.len() {
+        i += 1;
+        if rows[i - 1] == b'\n' {
+            if left == 0 {
+                tell(&rows[start..i]);
+                return;
+            }
+            left -= 1;
+            start = i;
+        }
+    }
+}
+
+fn tell_mistake(row: usize) {
+    let rows = b"no mistake\n\
+        the first word is unknown\n\
+        a field is missing\n\
+        a field too many\n\
+        a decimal number of 32 bits is expected\n\
+        a word of eight hexadecimal digits is expected\n\
+        a name has 1 to 60 letters, digits, '-', '_' or '.'\n\
+        a predicate is 0 or 1\n\
+        registers are 0 to 31\n\
+        predicates are 0 to 7\n\
+        specials are sl, sh, ss, st, srb, sro, sxb and sxo\n\
+        transfers are br, call and block\n\
+        items are r0 to r31, p0 to p7, sl, sh, main, local and stack\n\
+        the line is longer than 4000 bytes\n\
+        no case has started\n\
+        a description line after the case's first operation\n\
+        this line stands once in a case\n\
+        code is at most 65536 bytes long\n\
+        a memory is at most 65536 bytes long\n\
+        no whole word lies at this place\n";
+    tell_row(rows, row);
+}
+
+// The report ends with what is wrong with a line.
+pub fn fail(kept: &mut Kept, line: u64, row: usize) {
+    say(b"error line %: ", &[line]);
+    tell_mistake(row);
+    kept[PHASE] = STOPPED;
+}
