@@ -3,7 +3,7 @@ use Prim.Native.Nat.{ℕ}
 
 -- How many numbers are kept, and where the case's own end.
 abbrev pub ALL : ℕ
-ALL = 120200
+ALL = 150200
 
 abbrev pub CASE-END : ℕ
 CASE-END = 180

@@ -33,9 +33,9 @@ lengthPlace Store.Main = MAIN
 lengthPlace Store.Local = LOCAL
 lengthPlace Store.Cache = WORDS
 
--- There is room for this many notes. A place after these is not noted, and so it is not judged.
+-- There is room for this many notes, more than a file of 1 MiB can make. Places after them are not judged.
 abbrev pub ROOM : ℕ
-ROOM = 40000
+ROOM = 50000
 
 -- Note n: where the store's length is kept, the place's last byte or word, and its line.
 abbrev pub withNote : List ℕ → ℕ → Store → ℕ → List ℕ

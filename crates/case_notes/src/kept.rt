@@ -4,9 +4,9 @@ ghost use mathlib.Core.Path.{_≡_};
 ghost use Prim.Native.Nat.{_+_};
 ghost use Rattle.case_notes.specs.Kept.{numberAt, wordAt, isSet, put, flag as flagOf, flagsAt, forgotten};
 
-pub const ALL: usize = 120200;
+pub const ALL: usize = 150200;
 
-pub type Kept = [u64; 120200];
+pub type Kept = [u64; 150200];
 
 // Lengths are in bytes, WORDS is the number of stack cache words.
 pub const CODE: usize = 0;

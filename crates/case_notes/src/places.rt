@@ -27,8 +27,8 @@ pub enum Outside {
     Nowhere,
 }
 
-// Rising places: 16384 in each memory, one beyond, and 512 in the cache.
-const ROOM: u64 = 40000;
+// More than the lines of a file of 1 MiB can name, each place further out than all before it in its store.
+const ROOM: u64 = 50000;
 
 // The last byte of the word at an address of a memory, or one that no memory has.
 pub fn last_byte(address: u32) -> u32
@@ -65,8 +65,7 @@ fn length_place(store: Store) -> usize
     }
 }
 
-// A place is noted as where its store's length is kept, its last byte or word, and its line. There is room for as many rising
-// places as stores within the limits have; more are not noted.
+// A place is noted as where its store's length is kept, its last byte or word, and its line, if there is room.
 fn note_if_room(kept: &mut Kept, store: Store, last: u32)
     ensures { λ _. ⌜ now (kept .exit) ≡ noteIfRoom (now (kept .entry)) store last ⌝ }
 {

@@ -1,4 +1,4 @@
-use Prim.Native.Nat.{ℕ, _-_, _≤_}
+use Prim.Native.Nat.{_-_, _≤_}
 use Rattle.case_notes.specs.Clearing.{setEach}
 use Rattle.case_notes.specs.ClearingLaws.{set-none, set-more}
 use borrow.Author.Needs.{needs}

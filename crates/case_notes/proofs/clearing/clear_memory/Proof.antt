@@ -1,5 +1,4 @@
-use Prim.Native.Nat.{ℕ, _+_, _-_, _≤_}
-use mathlib.Core.List.{List}
+use Prim.Native.Nat.{ℕ, _-_, _≤_}
 use Rattle.case_notes.specs.Clearing.{setEach}
 use native.Mathlib.Nat.{zero-add}
 use Rattle.case_notes.specs.ClearingLaws.{set-none, set-more}

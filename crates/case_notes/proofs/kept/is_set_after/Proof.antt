@@ -1,4 +1,4 @@
-use Prim.Native.Nat.{ℕ, _+_, _≤_}
+use Prim.Native.Nat.{_+_, _≤_}
 use native.Mathlib.Omega.{arith}
 use borrow.Author.Tests.{le-ltb}
 use Rattle.case_notes.proofs.kept.is_set_after.Statement.{statement}
@@ -6,12 +6,12 @@ use Rattle.case_notes.proofs.kept.is_set_after.Tie as tie
 
 returns : tie.Need-returns
 returns c = let a = c .before .args in
-    let h : 120200 ≤ a .first + a .i = omega arith in
+    let h : 150200 ≤ a .first + a .i = omega arith in
     rw (le-ltb _ _ h)
 
 returns-2 : tie.Need-returns-2
 returns-2 c = let a = c .before .before .args in
-    let h : 120200 ≤ a .first + a .i = omega arith in
+    let h : 150200 ≤ a .first + a .i = omega arith in
     rw (le-ltb _ _ h)
 
 add-is-set : tie.Need-add-is-set

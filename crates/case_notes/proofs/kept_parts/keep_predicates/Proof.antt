@@ -1,4 +1,4 @@
-use Prim.Native.Nat.{ℕ, _-_, _≤_}
+use Prim.Native.Nat.{_-_, _≤_}
 use mathlib.Core.Bool.{false}
 use lib.ListN.{getD}
 use Rattle.case_notes.specs.Kept.{flag, putEach}

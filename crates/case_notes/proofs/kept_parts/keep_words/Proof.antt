@@ -1,4 +1,4 @@
-use Prim.Native.Nat.{ℕ, _-_, _≤_}
+use Prim.Native.Nat.{_-_, _≤_}
 use lib.ListN.{length, getD}
 use Rattle.case_notes.specs.Kept.{putEach}
 use Rattle.case_notes.specs.KeptLaws.{put-none, put-more}

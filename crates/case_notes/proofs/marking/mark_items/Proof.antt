@@ -1,5 +1,3 @@
-use Prim.Native.Nat.{_-_}
-use lib.ListN.{length}
 use Rattle.case_notes.specs.Marking.{markFrom, markItems}
 use Rattle.case_notes.specs.MarkingLaws.{mark-none, mark-some}
 use native.Mathlib.Omega.{arith}

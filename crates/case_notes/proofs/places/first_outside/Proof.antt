@@ -9,7 +9,7 @@ use Rattle.case_notes.proofs.places.first_outside.Statement.{statement}
 use Rattle.case_notes.proofs.places.first_outside.Tie as tie
 
 abbrev Inv-loop : tie.InvT-loop
-Inv-loop kept left₀ at₀ left at = (at + 3 * left ≤ 120200) × (outsideFrom left kept at ≡ firstOutside kept)
+Inv-loop kept left₀ at₀ left at = (at + 3 * left ≤ 150200) × (outsideFrom left kept at ≡ firstOutside kept)
 
 abbrev μ-loop : tie.MeasureT-loop
 μ-loop kept left₀ at₀ left at = left
@@ -22,7 +22,7 @@ least-requires c κs = tt
 
 loop-holds : tie.Need-loop-holds Inv-loop μ-loop
 unfolding firstOutside
-loop-holds c = let m = min-le-right (c .before .number .result) 40000 in
+loop-holds c = let m = min-le-right (c .before .number .result) 50000 in
     (rw (c .least .ensures .2) (omega arith), rw (c .least .ensures .2, c .before .number .ensures))
 
 sub-left : tie.Need-sub-left Inv-loop μ-loop
