@@ -25,8 +25,8 @@ use case_notes::kept_parts::registers_of;
 use case_notes::kept_parts::specials_of;
 use effects::Transfer;
 use machine::State;
-use machine::WaitingLoad;
-use machine::WaitingTransfer;
+use state::WaitingLoad;
+use state::WaitingTransfer;
 
 // A transfer of a kind with the numbers of its line.
 fn transfer_with(kind: u64, a: u32, b: u32, c: u32) -> WaitingTransfer {

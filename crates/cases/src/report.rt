@@ -1,4 +1,5 @@
 // The lines on a state, and the counts of an operation.
+use bundle::Counts;
 use case_notes::kept::FETCH;
 use case_notes::kept::Kept;
 use case_notes::kept::LOAD;
@@ -16,7 +17,6 @@ use case_notes::kept_parts::CALL;
 use case_report::output::say;
 use case_report::output::say_kept;
 use case_report::output::tell;
-use machine::Counts;
 
 pub fn put_counts(c: Counts) {
     say(

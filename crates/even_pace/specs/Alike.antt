@@ -16,10 +16,11 @@ use Rattle.effects.specs.declared.AluEffect.{AluEffect}
 use Rattle.effects.specs.declared.AluEffect.the-variants as alu
 use Rattle.effects.specs.declared.Effect.{Effect}
 use Rattle.effects.specs.declared.Effect.the-variants as effect
-use Rattle.machine.specs.declared.State.{State}
-use Rattle.machine.specs.declared.WaitingTransfer.{WaitingTransfer}
-use Rattle.machine.specs.declared.WaitingLoad.the-variants.{Nothing}
-use Rattle.machine.specs.Bundle.{writeAlu, writeOne, onward, nearer}
+use Rattle.state.specs.State.{State}
+use Rattle.state.specs.declared.WaitingTransfer.{WaitingTransfer}
+use Rattle.state.specs.declared.WaitingLoad.the-variants.{Nothing}
+use Rattle.state.specs.Writes.{writeAlu, nearer}
+use Rattle.bundle.specs.Bundle.{writeOne, onward}
 use Rattle.machine_laws.specs.StackKept.{Passed, passed-open}
 use Rattle.marking_rules.specs.declared.Marking.{Marking}
 use Rattle.marking_rules.specs.Marking.{privateStore, publicRegister, publicPredicate, publicSpecial}

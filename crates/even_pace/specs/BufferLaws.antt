@@ -18,8 +18,8 @@ use Rattle.stack_cache.specs.StackLaws.{length-putCacheNumber}
 use Rattle.stack_cache.specs.RangeLaws.{and-right}
 use Rattle.memory.specs.declared.Settings.{Settings}
 use Rattle.memory.specs.Access.{Buffers, mainOpen, accessOpen, readNumber, stored}
-use Rattle.machine.specs.declared.State.{State}
-use Rattle.machine.specs.Bundle.{area, stackMoved}
+use Rattle.state.specs.State.{State}
+use Rattle.bundle.specs.Bundle.{area, stackMoved}
 use Rattle.machine_laws.specs.StackKept.{stackMoved-lengths, area-same, stackMoved-area, stackMoved-outside}
 use Rattle.marking_rules.specs.declared.Marking.{Marking}
 use Rattle.marking_rules.specs.Marking.{privateStore}

@@ -12,10 +12,9 @@ use Rattle.memory.specs.declared.Verdict.the-variants.{Fine as Passing, Refused
 use Rattle.memory.specs.Answer.{Returned, done, refused}
 use Rattle.memory.specs.Access.{Buffers, verdict as verdictOf}
 use Rattle.effects.specs.Effect.{slotOne, slotTwo, isUndecodable}
-use Rattle.machine.specs.declared.State.{State}
-use Rattle.machine.specs.State.{startOf}
-use Rattle.machine.specs.Refusal.{effectTests}
-use Rattle.machine.specs.Bundle.{written, countsOf, buffersAfter, Outcome, outcome, bundleAt, followingAt, refusedOr, bundle}
+use Rattle.state.specs.State.{State, startOf}
+use Rattle.bundle.specs.Refusal.{effectTests}
+use Rattle.bundle.specs.Bundle.{written, countsOf, buffersAfter, Outcome, outcome, bundleAt, followingAt, refusedOr, bundle}
 use Rattle.marking_rules.specs.declared.Marking.{Marking}
 use Rattle.marking_rules.specs.declared.Rule.{Rule}
 use Rattle.marking_rules.specs.Rules.{breaks}

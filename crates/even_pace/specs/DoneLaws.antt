@@ -10,12 +10,12 @@ use Rattle.memory.specs.Access.{Buffers, storeScale, verdict as verdictOf}
 use Rattle.effects.specs.declared.AluEffect.{AluEffect}
 use Rattle.effects.specs.declared.Effect.{Effect}
 use Rattle.effects.specs.declared.Effect.the-variants as effect
-use Rattle.machine.specs.declared.State.{State}
-use Rattle.machine.specs.declared.WaitingTransfer.{WaitingTransfer}
-use Rattle.machine.specs.declared.WaitingLoad.the-variants.{Nothing}
-use Rattle.machine.specs.State.{state, specials, landed}
-use Rattle.machine.specs.Refusal.{effectTests}
-use Rattle.machine.specs.Bundle.{writeAlu, writeOne, onward, written, buffersAfter, stackMoved, countsOf}
+use Rattle.state.specs.State.{State, state, specials, landed}
+use Rattle.state.specs.declared.WaitingTransfer.{WaitingTransfer}
+use Rattle.state.specs.declared.WaitingLoad.the-variants.{Nothing}
+use Rattle.bundle.specs.Refusal.{effectTests}
+use Rattle.state.specs.Writes.{writeAlu}
+use Rattle.bundle.specs.Bundle.{writeOne, onward, written, buffersAfter, stackMoved, countsOf}
 use Rattle.machine_laws.specs.StackKept.{Passed, passed-open}
 use Rattle.marking_rules.specs.declared.Marking.{Marking}
 use Rattle.even_pace.specs.Terms.{SameState, SameBuffers, Agree}

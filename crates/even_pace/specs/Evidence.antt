@@ -9,10 +9,10 @@ use mathlib.Core.Path.{_≡_, refl, sym, ap, subst, _∙_}
 use native.Mathlib.Omega.{arith}
 use lib.ListN.{getElem?}
 use Rattle.memory.specs.Answer.{Returned, ended, refused}
-use Rattle.machine.specs.declared.State.{State}
-use Rattle.machine.specs.declared.WaitingLoad.the-variants as load
-use Rattle.machine.specs.declared.Counts.{Counts}
-use Rattle.machine.specs.Bundle.{noCounts, bundleAt, step}
+use Rattle.state.specs.State.{State}
+use Rattle.state.specs.declared.WaitingLoad.the-variants as load
+use Rattle.bundle.specs.declared.Counts.{Counts}
+use Rattle.bundle.specs.Bundle.{noCounts, bundleAt, step}
 use Rattle.run.specs.Run.{run, Tried, triedAt, tries}
 use Rattle.marking_rules.specs.Marking.{publicRegister}
 use Rattle.single_path.specs.Check.{Walked, first, accepted}

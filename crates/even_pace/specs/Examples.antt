@@ -16,13 +16,13 @@ use Rattle.memory.specs.Answer.{Returned}
 use Rattle.memory.specs.Settings.{admits}
 use Rattle.memory.specs.Access.{Buffers, buffers, loadScale, storeScale, readNumber, extended, loadedValue, stored, mainOpen, accessOpen, verdict}
 use Rattle.effects.specs.Effect.{predicatesWord, special, op2Value, aluEffect, accessAddress, amountWords, amountAligned, stackEffect, transferOf, effectOf, slotOneEffect, slotTwoEffect}
-use Rattle.machine.specs.declared.State.{State}
-use Rattle.machine.specs.declared.WaitingTransfer.the-variants as transfer
-use Rattle.machine.specs.declared.WaitingLoad.{WaitingLoad}
-use Rattle.machine.specs.declared.WaitingLoad.the-variants as load
-use Rattle.machine.specs.State.{Shaped, state, specials, withRegister, withPredicate, predicatesOf, withSpecial, landed, transferred, wellFormed, ended as hasEnded}
-use Rattle.machine.specs.Refusal.{outsideCode}
-use Rattle.machine.specs.Bundle.{stackMoved, buffersAfter, writeAlu, writeOne, delaySlots, written, bundleAt, noCounts, bundle, readiness, step}
+use Rattle.state.specs.State.{State, Shaped, state, specials, withRegister, withPredicate, predicatesOf, withSpecial, landed, transferred, wellFormed, ended as hasEnded}
+use Rattle.state.specs.declared.WaitingTransfer.the-variants as transfer
+use Rattle.state.specs.declared.WaitingLoad.{WaitingLoad}
+use Rattle.state.specs.declared.WaitingLoad.the-variants as load
+use Rattle.bundle.specs.Refusal.{outsideCode}
+use Rattle.bundle.specs.Bundle.{stackMoved, buffersAfter, writeOne, written, bundleAt, noCounts, bundle, readiness, step}
+use Rattle.state.specs.Writes.{writeAlu, delaySlots}
 use Rattle.run.specs.Run.{run, Tried, tries}
 use Rattle.marking_rules.specs.declared.Marking.{Marking}
 use Rattle.marking_rules.specs.declared.Rule.the-variants.{A, B, C, D, E}

@@ -6,13 +6,12 @@ use lib.Dec.{leb}
 use Rattle.word.specs.Word.{sub}
 use Rattle.effects.specs.declared.Transfer.{Transfer}
 use Rattle.effects.specs.declared.Transfer.the-variants.{Br, Call, Block}
-use Rattle.machine.specs.declared.State.{State}
-use Rattle.machine.specs.declared.WaitingTransfer.{WaitingTransfer}
-use Rattle.machine.specs.declared.WaitingTransfer.the-variants as transfer
-use Rattle.machine.specs.declared.WaitingLoad.{WaitingLoad}
-use Rattle.machine.specs.declared.WaitingLoad.the-variants.{Nothing, Waits}
-use Rattle.machine.specs.State.{withRegister, withFlow, goingOn, landing, landed, transferred}
-use Rattle.machine.specs.Bundle.{delaySlots, nearer, begun}
+use Rattle.state.specs.State.{State, withRegister, withFlow, goingOn, landing, landed, transferred}
+use Rattle.state.specs.declared.WaitingTransfer.{WaitingTransfer}
+use Rattle.state.specs.declared.WaitingTransfer.the-variants as transfer
+use Rattle.state.specs.declared.WaitingLoad.{WaitingLoad}
+use Rattle.state.specs.declared.WaitingLoad.the-variants.{Nothing, Waits}
+use Rattle.state.specs.Writes.{delaySlots, nearer, begun}
 use Rattle.marking_rules.specs.declared.Marking.{Marking}
 use Rattle.marking_rules.specs.Marking.{publicRegister}
 use Rattle.even_pace.specs.Terms.{SameState}

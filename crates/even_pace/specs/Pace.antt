@@ -11,10 +11,9 @@ use Rattle.memory.specs.Answer.{Returned, accepted, done, ended, spent, refused
 use Rattle.memory.specs.Settings.{admits}
 use Rattle.memory.specs.SettingsLaws.{area-ordered, area-inside}
 use Rattle.memory.specs.Access.{Buffers}
-use Rattle.machine.specs.declared.State.{State}
-use Rattle.machine.specs.declared.Counts.{Counts}
-use Rattle.machine.specs.State.{Shaped, noneWaits, wellFormed, ended as hasEnded}
-use Rattle.machine.specs.Bundle.{Outcome, outcome, noCounts, lent, bundleAt, bundle}
+use Rattle.state.specs.State.{State, Shaped, noneWaits, wellFormed, ended as hasEnded}
+use Rattle.bundle.specs.declared.Counts.{Counts}
+use Rattle.bundle.specs.Bundle.{Outcome, outcome, noCounts, lent, bundleAt, bundle}
 use Rattle.machine_laws.specs.StepCases.{isDone}
 use Rattle.machine_laws.specs.KeptLaws.{well-formed-parts, bundle-shaped}
 use Rattle.machine_laws.specs.StackKept.{bundle-lengths}

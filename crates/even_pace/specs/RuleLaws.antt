@@ -38,8 +38,7 @@ use Rattle.effects.specs.declared.Effect.the-variants as effect
 use Rattle.effects.specs.declared.Transfer as declared
 use Rattle.effects.specs.declared.Transfer.the-variants as transfer
 use Rattle.effects.specs.Effect.{holds, op2Value, predicatesWord, special as specialValue, aluEffect, address, accessAddress, amountWords, amountAligned, stackEffect, transferOf, effectOf, bytesOf}
-use Rattle.machine.specs.declared.State.{State}
-use Rattle.machine.specs.State.{startOf}
+use Rattle.state.specs.State.{State, startOf}
 use Rattle.marking_rules.specs.declared.Marking.{Marking}
 use Rattle.marking_rules.specs.Marking.{privateRegister, privatePredicate, privateOperand, privateSpecial}
 use Rattle.marking_rules.specs.Rules.{asked, breaksA, breaksB, breaksC, breaksD, breaksE, privateOp2, privateAmount}

@@ -16,9 +16,8 @@ use Rattle.effects.specs.declared.AluEffect.the-variants as alu
 use Rattle.effects.specs.declared.Effect.{Effect}
 use Rattle.effects.specs.declared.Effect.the-variants as effect
 use Rattle.effects.specs.Effect.{holds, aluEffect, effectOf, slotOneEffect, slotTwoEffect, slotOne, slotTwo, isUndecodable}
-use Rattle.machine.specs.declared.State.{State}
-use Rattle.machine.specs.State.{startOf}
-use Rattle.machine.specs.Refusal.{effectTests}
+use Rattle.state.specs.State.{State, startOf}
+use Rattle.bundle.specs.Refusal.{effectTests}
 use Rattle.marking_rules.specs.declared.Marking.{Marking}
 use Rattle.marking_rules.specs.declared.Rule.{Rule}
 use Rattle.marking_rules.specs.declared.Rule.the-variants as rule

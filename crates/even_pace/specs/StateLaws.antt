@@ -8,10 +8,9 @@ use native.Mathlib.Omega.{arith}
 use native.Mathlib.Decide.{ℕ-discrete}
 use Rattle.stack_cache.specs.RangeLaws.{or-left, or-right}
 use Rattle.effects.specs.declared.Specials.{Specials}
-use Rattle.machine.specs.declared.State.{State}
-use Rattle.machine.specs.declared.WaitingLoad.{WaitingLoad}
-use Rattle.machine.specs.declared.WaitingLoad.the-variants.{Nothing, Waits}
-use Rattle.machine.specs.State.{state, withRegister, withPredicate, withLoad, withPredicates, withSpecials}
+use Rattle.state.specs.State.{State, state, withRegister, withPredicate, withLoad, withPredicates, withSpecials}
+use Rattle.state.specs.declared.WaitingLoad.{WaitingLoad}
+use Rattle.state.specs.declared.WaitingLoad.the-variants.{Nothing, Waits}
 use Rattle.marking_rules.specs.declared.Marking.{Marking}
 use Rattle.marking_rules.specs.Marking.{privateRegister, privatePredicate, publicRegister, publicPredicate, some}
 use Rattle.even_pace.specs.Terms.{Same, SameSpecials, SameState}

@@ -4,9 +4,8 @@ use mathlib.Core.Bool.{true}
 use mathlib.Core.List.{List}
 use mathlib.Core.Path.{_≡_}
 use Rattle.memory.specs.Access.{Buffers}
-use Rattle.machine.specs.declared.State.{State}
-use Rattle.machine.specs.State.{Shaped, wellFormed}
-use Rattle.machine.specs.Bundle.{noCounts}
+use Rattle.state.specs.State.{State, Shaped, wellFormed}
+use Rattle.bundle.specs.Bundle.{noCounts}
 use Rattle.run.specs.Run.{run, tries}
 use Rattle.marking_rules.specs.declared.Marking.{Marking}
 use Rattle.even_pace.specs.Terms.{Accepted, Agree, EvenPace}

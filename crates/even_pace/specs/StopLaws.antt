@@ -20,10 +20,9 @@ use Rattle.memory.specs.Access.{Buffers, verdict as verdictOf, loadScale, store
 use Rattle.effects.specs.declared.AluEffect.the-variants as alu
 use Rattle.effects.specs.declared.Effect.the-variants as effect
 use Rattle.effects.specs.Effect.{holds, address, effectOf, slotOneEffect, slotOne}
-use Rattle.machine.specs.declared.State.{State}
-use Rattle.machine.specs.State.{startOf}
-use Rattle.machine.specs.Refusal.{effectTests}
-use Rattle.machine.specs.Bundle.{Outcome, bundleAt, followingAt, refusedOr, bundle}
+use Rattle.state.specs.State.{State, startOf}
+use Rattle.bundle.specs.Refusal.{effectTests}
+use Rattle.bundle.specs.Bundle.{Outcome, bundleAt, followingAt, refusedOr, bundle}
 use Rattle.marking_rules.specs.declared.Marking.{Marking}
 use Rattle.marking_rules.specs.declared.asked.Asked.{Asked}
 use Rattle.marking_rules.specs.Marking.{privateGuard}

@@ -13,9 +13,9 @@ use Rattle.decoder.specs.declared.Bundle.the-variants.{Undecodable, One, Two, L
 use Rattle.memory.specs.Answer.{Returned, refused}
 use Rattle.memory.specs.Access.{Buffers}
 use Rattle.effects.specs.declared.Specials.{Specials}
-use Rattle.machine.specs.declared.State.{State}
-use Rattle.machine.specs.declared.WaitingLoad.the-variants.{Waits}
-use Rattle.machine.specs.Bundle.{bundleAt}
+use Rattle.state.specs.State.{State}
+use Rattle.state.specs.declared.WaitingLoad.the-variants.{Waits}
+use Rattle.bundle.specs.Bundle.{bundleAt}
 use Rattle.run.specs.Run.{Tried}
 use Rattle.marking_rules.specs.declared.Marking.{Marking}
 use Rattle.marking_rules.specs.Marking.{privateRegister, privatePredicate, privateGuard, publicRegister}

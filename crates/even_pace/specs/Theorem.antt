@@ -9,9 +9,8 @@ use lib.ListN.{length, getElem?}
 use Rattle.stack_cache.specs.RangeLaws.{and-left}
 use Rattle.memory.specs.Access.{Buffers}
 use Rattle.memory.specs.Settings.{admits}
-use Rattle.machine.specs.declared.State.{State}
-use Rattle.machine.specs.State.{Shaped, wellFormed}
-use Rattle.machine.specs.Bundle.{Outcome, noCounts}
+use Rattle.state.specs.State.{State, Shaped, wellFormed}
+use Rattle.bundle.specs.Bundle.{Outcome, noCounts}
 use Rattle.run.specs.Run.{run, Tried, tries}
 use Rattle.marking_rules.specs.declared.Marking.{Marking}
 use Rattle.marking_rules.specs.Marking.{markingOk}

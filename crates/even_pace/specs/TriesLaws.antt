@@ -7,10 +7,9 @@ use lib.ListN.{length}
 use Rattle.memory.specs.Answer.{Returned, accepted, done, ended, spent, refused}
 use Rattle.memory.specs.Settings.{admits}
 use Rattle.memory.specs.Access.{Buffers}
-use Rattle.machine.specs.declared.State.{State}
-use Rattle.machine.specs.declared.Counts.{Counts}
-use Rattle.machine.specs.State.{wellFormed, ended as hasEnded}
-use Rattle.machine.specs.Bundle.{Outcome, outcome, noCounts, readiness, lent, bundle}
+use Rattle.state.specs.State.{State, wellFormed, ended as hasEnded}
+use Rattle.bundle.specs.declared.Counts.{Counts}
+use Rattle.bundle.specs.Bundle.{Outcome, outcome, noCounts, readiness, lent, bundle}
 use Rattle.machine_laws.specs.StepCases.{isDone, Going, step-bundle, step-ended}
 use Rattle.run.specs.Run.{plus, ifDone, counted, run, Tried, triedAt, tries}
 

@@ -22,9 +22,8 @@ use Rattle.memory.specs.Access.{Buffers}
 use Rattle.effects.specs.declared.AluEffect.the-variants as alu
 use Rattle.effects.specs.declared.Effect.the-variants as effect
 use Rattle.effects.specs.Effect.{Start, holds, effectOf, stackEffect, slotOneEffect, slotOne}
-use Rattle.machine.specs.declared.State.{State}
-use Rattle.machine.specs.State.{startOf, loadOk, wellFormed}
-use Rattle.machine.specs.Bundle.{bundle}
+use Rattle.state.specs.State.{State, startOf, loadOk, wellFormed}
+use Rattle.bundle.specs.Bundle.{bundle}
 use Rattle.machine_laws.specs.StepCases.{effectAt, bundle-cases}
 use Rattle.machine_laws.specs.KeptLaws.{loadBegun, well-formed-parts, well-formed-whole, written-well-formed}
 

@@ -10,10 +10,9 @@ use lib.Dec.{eqb·suc-zero}
 use lib.ListN.{length, getD, List·getD-eq-default}
 use Rattle.decoder.specs.declared.Special.{Special}
 use Rattle.decoder.specs.declared.Special.the-variants.{S0, Sl, Sh, Ss, St, Srb, Sro, Sxb, Sxo}
-use Rattle.machine.specs.declared.State.{State}
-use Rattle.machine.specs.declared.WaitingLoad.{WaitingLoad}
-use Rattle.machine.specs.declared.WaitingLoad.the-variants.{Nothing, Waits}
-use Rattle.machine.specs.State.{withRegister, withPredicate, withSpecial, withProduct, withStack, withLoad, predicatesOf}
+use Rattle.state.specs.State.{State, withRegister, withPredicate, withSpecial, withProduct, withStack, withLoad, predicatesOf}
+use Rattle.state.specs.declared.WaitingLoad.{WaitingLoad}
+use Rattle.state.specs.declared.WaitingLoad.the-variants.{Nothing, Waits}
 use Rattle.marking_rules.specs.declared.Marking.{Marking}
 use Rattle.marking_rules.specs.Marking.{privatePredicate, publicRegister, publicPredicate, publicSpecial}
 use Rattle.even_pace.specs.Terms.{Same, SameState}

@@ -1,9 +1,2 @@
-pub mod State
-pub mod Core
-pub mod CoreLaws
-pub mod Refusal
-pub mod Bundle
+pub mod Whole
 pub mod Open
-pub mod Execute
-pub mod ExecuteLaws
-pub mod BundleLaws

@@ -8,11 +8,11 @@ use lib.ListN.{length, replicate}
 use Rattle.word.specs.Word.{isMultipleOf4}
 use Rattle.memory.specs.Answer.{Returned, accepted, refused}
 use Rattle.memory.specs.Settings.{admits, settingsOf}
-use Rattle.machine.specs.declared.State.{State}
+use Rattle.state.specs.State.{State, fresh}
+use Rattle.machine.specs.Whole.{stateOf}
 use Rattle.machine.specs.declared.Opened as declared
 use Rattle.machine.specs.declared.Opening.{Opening}
 use Rattle.machine.specs.declared.Opening.the-variants.{Opened, Refused}
-use Rattle.machine.specs.State.{fresh}
 
 -- What an opening returns, with the state and the cache that it leaves; and what each answer of the function returns.
 pub record Open : Type 0 where
@@ -27,11 +27,8 @@ abbrev pub returned : Opening → Returned
 returned Opened = accepted
 returned (Refused n) = refused n
 
-abbrev pub openedAs : Opening → State → declared.Opened
-openedAs a s = record { answer = a; state = s }
-
 abbrev pub openWith : declared.Opened → List ℕ → Open
-openWith o c = openOf (returned (o .answer)) (o .state) c
+openWith o c = openOf (returned (o .answer)) (stateOf (o .state)) c
 
 unfoldable pub opening : List ℕ → List ℕ → List ℕ → List ℕ → ℕ → ℕ → ℕ → Open
 opening code main local cache lo hi entry =

@@ -1,18 +1,22 @@
 // The fresh state at an entry.
 ghost use mathlib.Core.Path.{_≡_};
+ghost use mathlib.Core.List.{List};
+ghost use Prim.Native.Nat.{ℕ};
 ghost use lib.ListN.{length, replicate};
-ghost use Rattle.machine.specs.State.{fresh};
-ghost use Rattle.machine.specs.Open.{openWith, opening, openedAs};
+ghost use Rattle.state.specs.State.{fresh};
+ghost use Rattle.memory.specs.Answer.{refused};
+ghost use Rattle.machine.specs.Whole.{stateOf};
+ghost use Rattle.machine.specs.Open.{openOf, openWith, opening};
 use crate::Opened;
 use crate::Opening;
 use crate::State;
-use crate::WaitingLoad;
-use crate::WaitingTransfer;
 use effects::Specials;
 use memory::Settings;
+use state::WaitingLoad;
+use state::WaitingTransfer;
 
 fn initial(code: u32, hi: u32, entry: u32) -> State
-    ensures { λ r. ⌜ r ≡ fresh code hi entry ⌝ }
+    ensures { λ r. ⌜ stateOf r ≡ fresh code hi entry ⌝ }
 {
     State {
         registers: [0; 32],
@@ -45,7 +49,7 @@ fn clear(cache: &mut [u32])
 }
 
 fn refused(n: u32) -> Opened
-    ensures { λ r. ⌜ r ≡ openedAs (Opening.Refused n) (fresh 0 0 0) ⌝ }
+    ensures { λ r. ⌜ ((c : List ℕ) → openWith r c ≡ openOf (refused n) (fresh 0 0 0) c) ⌝ }
 {
     let state = initial(0, 0, 0);
     Opened {

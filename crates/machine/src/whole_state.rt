@@ -1,20 +1,24 @@
 // The state of the core, by value, and what is done to it.
 ghost use mathlib.Core.Path.{_≡_};
-ghost use Rattle.machine.specs.State.{withRegister, landed, transferred};
-ghost use Rattle.machine.specs.Core.{joined};
-use crate::Core;
+ghost use Rattle.state.specs.State.{withRegister, landed, transferred};
+ghost use Rattle.state.specs.Core.{joined};
+ghost use Rattle.memory.specs.Access.{buffers};
+ghost use Rattle.bundle.specs.Bundle.{full, step};
+ghost use Rattle.machine.specs.Whole.{stateOf, steppedOf};
 use crate::State;
-use crate::waiting::load_words;
-use crate::waiting::transfer_words;
-use crate::waiting::waiting_load;
-use crate::waiting::waiting_transfer;
+use crate::Stepped;
 use effects::Transfer;
 use registers::write_register;
+use state::Core;
+use state::waiting::load_words;
+use state::waiting::transfer_words;
+use state::waiting::waiting_load;
+use state::waiting::waiting_transfer;
 
 impl State {
     // The state beside registers and predicates.
     pub fn core(self) -> Core
-        ensures { λ x. ⌜ joined (self .registers) (self .predicates) x ≡ self ⌝ }
+        ensures { λ x. ⌜ joined (self .registers) (self .predicates) x ≡ stateOf self ⌝ }
     {
         let specials = self.specials;
         let waiting = self.transfer;
@@ -32,7 +36,7 @@ impl State {
 
     // The state of its three parts.
     pub fn join(registers: [u32; 32], predicates: [bool; 8], core: Core) -> State
-        ensures { λ x. ⌜ x ≡ joined registers predicates core ⌝ }
+        ensures { λ x. ⌜ stateOf x ≡ joined registers predicates core ⌝ }
     {
         let specials = core.specials;
         let waiting = core.transfer;
@@ -52,7 +56,7 @@ impl State {
 
     // A register written; r0 stays zero.
     pub fn write_register(self, r: u32, v: u32) -> State
-        ensures { λ x. ⌜ x ≡ withRegister self r v ⌝ }
+        ensures { λ x. ⌜ stateOf x ≡ withRegister (stateOf self) r v ⌝ }
     {
         let mut registers = self.registers;
         let predicates = self.predicates;
@@ -62,7 +66,7 @@ impl State {
 
     // The load waiting from the bundle before is written, and waits no more.
     pub fn land_load(self) -> State
-        ensures { λ x. ⌜ x ≡ landed self ⌝ }
+        ensures { λ x. ⌜ stateOf x ≡ landed (stateOf self) ⌝ }
     {
         let mut registers = self.registers;
         let predicates = self.predicates;
@@ -72,7 +76,7 @@ impl State {
 
     // A transfer carried out at the end of a bundle, whose following address a call keeps, relative to the old base.
     pub fn transfer(self, transfer: Transfer, following: u32) -> State
-        ensures { λ x. ⌜ x ≡ transferred self transfer following ⌝ }
+        ensures { λ x. ⌜ stateOf x ≡ transferred (stateOf self) transfer following ⌝ }
     {
         let registers = self.registers;
         let predicates = self.predicates;
@@ -81,5 +85,40 @@ impl State {
             predicates,
             self.core().transfer(transfer, following),
         )
+    }
+
+    // One step: settings and state are judged, an ended state is left as it is, and else the bundle is done or refused.
+    pub fn step(
+        self,
+        code: &[u8],
+        main: &mut [u8],
+        local: &mut [u8],
+        cache: &mut [u32],
+        lo: u32,
+        hi: u32,
+    ) -> Stepped
+        ensures { λ r. ⌜ full (steppedOf r) (buffers (now (main .exit)) (now (local .exit)) (now (cache .exit))) ≡ step (now (code .entry)) lo hi (stateOf self) (buffers (now (main .entry)) (now (local .entry)) (now (cache .entry))) ⌝ }
+    {
+        let mut registers = self.registers;
+        let mut predicates = self.predicates;
+        let r = bundle::step::step(
+            self.core(),
+            &mut registers,
+            &mut predicates,
+            code,
+            &mut *main,
+            &mut *local,
+            &mut *cache,
+            lo,
+            hi,
+        );
+        let answer = r.answer;
+        let counts = r.counts;
+        let core = r.core;
+        Stepped {
+            answer,
+            state: State::join(registers, predicates, core),
+            counts,
+        }
     }
 }

@@ -23,9 +23,9 @@ use Rattle.effects.specs.declared.Transfer.{Transfer}
 use Rattle.effects.specs.declared.Transfer.the-variants.{Br, Call, Block}
 use Rattle.effects.specs.declared.Effect.{Effect}
 use Rattle.effects.specs.declared.Effect.the-variants as effect
-use Rattle.machine.specs.declared.State.{State}
-use Rattle.machine.specs.declared.Counts.{Counts}
-use Rattle.machine.specs.Bundle.{undelayedCycles, noCounts, countsOf, lent, step}
+use Rattle.state.specs.State.{State}
+use Rattle.bundle.specs.declared.Counts.{Counts}
+use Rattle.bundle.specs.Bundle.{undelayedCycles, noCounts, countsOf, lent, step}
 use Rattle.machine_laws.specs.StepCases.{effectAt, step-cases}
 use Rattle.machine_laws.specs.StackKept.{Passed, fine-effect, stack-accepted}
 

@@ -22,22 +22,22 @@ use Rattle.decoder_laws.specs.Ranges.{OperationInRange, InstructionInRange, InR
 use Rattle.decoder_laws.specs.RangeLaws.{decode-in-range}
 use Rattle.stack_cache.specs.RangeLaws.{and-left, and-right}
 use Rattle.memory.specs.declared.Settings.{Settings}
-use Rattle.machine.specs.declared.State.{State}
+use Rattle.state.specs.State.{State, Shaped, startOf, state, withRegister, withPredicate, withPredicates, withSpecial, withSpecials, predicatesOf, withFlow, goingOn, landing, landed, transferred, loadOk, waitOk, wellFormed}
 use Rattle.effects.specs.declared.Transfer.{Transfer}
 use Rattle.effects.specs.declared.Transfer.the-variants.{Br, Call, Block}
-use Rattle.machine.specs.declared.WaitingTransfer.{WaitingTransfer}
-use Rattle.machine.specs.declared.WaitingTransfer.the-variants as transfer
-use Rattle.machine.specs.declared.WaitingLoad.{WaitingLoad}
-use Rattle.machine.specs.declared.WaitingLoad.the-variants as load
+use Rattle.state.specs.declared.WaitingTransfer.{WaitingTransfer}
+use Rattle.state.specs.declared.WaitingTransfer.the-variants as transfer
+use Rattle.state.specs.declared.WaitingLoad.{WaitingLoad}
+use Rattle.state.specs.declared.WaitingLoad.the-variants as load
 use Rattle.effects.specs.declared.AluEffect.{AluEffect}
 use Rattle.effects.specs.declared.AluEffect.the-variants as alu
 use Rattle.effects.specs.declared.Effect.{Effect}
 use Rattle.effects.specs.declared.Effect.the-variants as effect
-use Rattle.machine.specs.State.{Shaped, startOf, state, withRegister, withPredicate, withPredicates, withSpecial, withSpecials, predicatesOf, withFlow, goingOn, landing, landed, transferred, loadOk, waitOk, wellFormed}
 use Rattle.memory.specs.Access.{Buffers, loadedValue}
 use Rattle.effects.specs.declared.Specials.{Specials}
 use Rattle.effects.specs.Effect.{Start, holds, slotOne, slotOneEffect, effectOf, stackEffect}
-use Rattle.machine.specs.Bundle.{writeAlu, writeOne, delaySlots, nearer, begun, onward, written, bundleAt, bundle, lent, step}
+use Rattle.state.specs.Writes.{writeAlu, delaySlots, nearer, begun}
+use Rattle.bundle.specs.Bundle.{writeOne, onward, written, bundleAt, bundle, lent, step}
 use Rattle.machine_laws.specs.StepCases.{effectAt, stateAfter, bundle-cases, step-cases}
 
 -- A special register written changes special registers alone, and s0 the predicates alone.

@@ -25,7 +25,7 @@ use Rattle.stack_cache.specs.PlanLaws.{spills-window, moves-window}
 use Rattle.stack_cache.specs.StackLaws.{length-putCacheNumber, length-spilled, length-filled}
 use Rattle.stack_cache.specs.RangeLaws.{and-left, and-right, every-at, in-area}
 use Rattle.memory.specs.declared.Settings.{Settings}
-use Rattle.machine.specs.declared.State.{State}
+use Rattle.state.specs.State.{State}
 use Rattle.effects.specs.declared.AluEffect.{AluEffect}
 use Rattle.effects.specs.declared.Effect.{Effect}
 use Rattle.effects.specs.declared.Effect.the-variants as effect
@@ -34,8 +34,8 @@ use Rattle.memory.specs.Answer.{done}
 use Rattle.memory.specs.SettingsLaws.{area-ordered}
 use Rattle.memory.specs.Access.{Buffers, stored, storeScale, Test, verdict as verdictOf, mainOpen, mainWritable, accessOpen, accessTests}
 use Rattle.effects.specs.Effect.{isUndecodable}
-use Rattle.machine.specs.Refusal.{effectTests, outsideCode}
-use Rattle.machine.specs.Bundle.{area, withArea, stackMoved, buffersAfter, writeOne, written, bundleAt, bundle, lent, step}
+use Rattle.bundle.specs.Refusal.{effectTests, outsideCode}
+use Rattle.bundle.specs.Bundle.{area, withArea, stackMoved, buffersAfter, writeOne, written, bundleAt, bundle, lent, step}
 use Rattle.machine_laws.specs.StepCases.{effectAt, judged, bundle-cases, bundle-fine, bundle-done-as, step-cases}
 use Rattle.machine_laws.specs.KeptLaws.{writeAlu-cases, onward-cases}
 

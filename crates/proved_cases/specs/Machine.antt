@@ -4,10 +4,10 @@ use Prim.Native.Nat.{ℕ, _+_}
 use mathlib.Core.List.{List, [], _∷_, map}
 use mathlib.Core.Path.{refl}
 use Rattle.effects.specs.declared.Transfer.the-variants.{Br}
-use Rattle.machine.specs.declared.WaitingTransfer.the-variants.{Nothing, Waits}
+use Rattle.state.specs.declared.WaitingTransfer.the-variants.{Nothing, Waits}
 use Rattle.memory.specs.Answer.{done, refused}
-use Rattle.machine.specs.declared.Counts.{Counts}
-use Rattle.machine.specs.Bundle.{noCounts}
+use Rattle.bundle.specs.declared.Counts.{Counts}
+use Rattle.bundle.specs.Bundle.{noCounts}
 use Rattle.proved_cases.specs.Case.{Case, AllHold}
 use Rattle.proved_cases.specs.Run.{Given, opened, seen, Trace, traced, Tried, Run, case, runs-hold}
 

@@ -11,17 +11,17 @@ use Rattle.decoder.specs.Decode as decoder
 use Rattle.decoder.specs.Decode.{bundleWords, guardOf, slotTwo, decode}
 use Rattle.stack_cache.specs.Stack.{isCacheSize, cacheWord, putCacheWord, partOf, putPart, cacheNumber, putCacheNumber, below, spillWhile, fillWhile}
 use Rattle.stack_cache.specs.Stack.{topAfter, spills, fills, spillAfter, badWindow, badAmount, every, movedOutside, spilled, filled}
-use Rattle.machine.specs.declared.State.{State}
-use Rattle.machine.specs.declared.WaitingTransfer.{WaitingTransfer}
+use Rattle.state.specs.State.{State, startOf, withRegister, withPredicate, predicatesOf, withSpecial, withStack, landed, goingOn, transferred, wellFormed, ended as hasEnded, fresh}
+use Rattle.state.specs.declared.WaitingTransfer.{WaitingTransfer}
 use Rattle.memory.specs.Answer.{Returned, accepted, done, ended, spent, refused}
-use Rattle.machine.specs.declared.Counts.{Counts}
+use Rattle.bundle.specs.declared.Counts.{Counts}
 use Rattle.memory.specs.Settings.{admits}
 use Rattle.memory.specs.Access.{Buffers, buffers, loadScale, storeScale, readNumber, extended, loadedValue, stored, mainOpen, accessOpen, verdict}
 use Rattle.effects.specs.Effect.{predicatesWord, special, op2Value, aluEffect, accessAddress, amountWords, amountAligned, stackEffect, transferOf, effectOf}
 use Rattle.effects.specs.Effect.{slotOneEffect, slotTwoEffect, slotOne, onEffect}
-use Rattle.machine.specs.State.{startOf, withRegister, withPredicate, predicatesOf, withSpecial, withStack, landed, goingOn, transferred, wellFormed, ended as hasEnded, fresh}
-use Rattle.machine.specs.Refusal.{outsideCode}
-use Rattle.machine.specs.Bundle.{stackMoved, buffersAfter, writeAlu, writeOne, delaySlots, written, Outcome, outcome, bundleAt, bundle, readiness, step}
+use Rattle.bundle.specs.Refusal.{outsideCode}
+use Rattle.bundle.specs.Bundle.{stackMoved, buffersAfter, writeOne, written, Outcome, outcome, bundleAt, bundle, readiness, step}
+use Rattle.state.specs.Writes.{writeAlu, delaySlots}
 use Rattle.machine.specs.Open.{Open, opening}
 use Rattle.proved_cases.specs.Case.{Case, AllHold}
 

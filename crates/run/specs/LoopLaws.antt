@@ -6,13 +6,12 @@ use mathlib.Core.Path.{_≡_, sym, ap, subst, _∙_}
 use native.Mathlib.Omega.{arith}
 use Rattle.memory.specs.Answer.{spent}
 use Rattle.memory.specs.Access.{Buffers}
-use Rattle.machine.specs.declared.State.{State}
-use Rattle.machine.specs.declared.Answer.{Answer}
-use Rattle.machine.specs.declared.Answer.the-variants.{Done}
-use Rattle.machine.specs.declared.Counts.{Counts}
-use Rattle.machine.specs.declared.Stepped.{Stepped}
-use Rattle.machine.specs.declared.Readiness.{Readiness}
-use Rattle.machine.specs.Bundle.{Outcome, outcome, noCounts, returned, full, readiness, readyOr, lent, step}
+use Rattle.state.specs.State.{State}
+use Rattle.bundle.specs.declared.Answer.{Answer}
+use Rattle.bundle.specs.declared.Answer.the-variants.{Done}
+use Rattle.bundle.specs.declared.Counts.{Counts}
+use Rattle.bundle.specs.Bundle.{Stepped, Outcome, outcome, noCounts, returned, full, readiness, readyOr, lent, step}
+use Rattle.bundle.specs.declared.Readiness.{Readiness}
 use Rattle.machine_laws.specs.StepCases.{isDone}
 use Rattle.machine_laws.specs.CountLaws.{Small, step-small}
 use Rattle.run.specs.declared.RunAnswer.{RunAnswer}

@@ -3,14 +3,15 @@ use Prim.Native.Nat.{ℕ, zero, suc, _+_}
 use mathlib.Core.List.{List, [], _∷_}
 use Rattle.memory.specs.Answer.{Returned, accepted, done, ended, spent, refused}
 use Rattle.memory.specs.Access.{Buffers}
-use Rattle.machine.specs.declared.State.{State}
-use Rattle.machine.specs.declared.Counts.{Counts}
-use Rattle.machine.specs.declared.Readiness.{Readiness}
-use Rattle.machine.specs.declared.Readiness.the-variants.{Ready, Ended, Refused}
+use Rattle.state.specs.State.{State}
+use Rattle.bundle.specs.declared.Counts.{Counts}
+use Rattle.bundle.specs.declared.Readiness.{Readiness}
+use Rattle.bundle.specs.declared.Readiness.the-variants.{Ready, Ended, Refused}
 use Rattle.run.specs.declared.RunAnswer.{RunAnswer}
 use Rattle.run.specs.declared.RunAnswer.the-variants as answer
 use Rattle.run.specs.declared.Ran.{Ran}
-use Rattle.machine.specs.Bundle.{Outcome, outcome, noCounts, readiness, readyOr, lent, step}
+use Rattle.machine.specs.Whole.{stateOf}
+use Rattle.bundle.specs.Bundle.{Outcome, outcome, noCounts, readiness, readyOr, lent, step}
 
 -- Counts are summed bundle by bundle.
 abbrev pub plus : Counts → Counts → Counts
@@ -87,4 +88,4 @@ returned answer.Spent = spent
 returned (answer.Refused n) = refused n
 
 abbrev pub whole : Ran → Buffers → Outcome
-whole r b = outcome (returned (r .answer)) (r .state) (r .counts) b
+whole r b = outcome (returned (r .answer)) (stateOf (r .state)) (r .counts) b

@@ -8,9 +8,9 @@ use native.Mathlib.Numerals.{add-one}
 use native.Mathlib.Nat.{add-zero, zero-add, add-assoc}
 use Rattle.memory.specs.Answer.{Returned, accepted, done, ended, spent, refused}
 use Rattle.memory.specs.Access.{Buffers}
-use Rattle.machine.specs.declared.State.{State}
-use Rattle.machine.specs.declared.Counts.{Counts}
-use Rattle.machine.specs.Bundle.{Outcome, outcome, noCounts, bundle, step}
+use Rattle.state.specs.State.{State}
+use Rattle.bundle.specs.declared.Counts.{Counts}
+use Rattle.bundle.specs.Bundle.{Outcome, outcome, noCounts, bundle, step}
 use Rattle.machine_laws.specs.StepCases.{isDone, step-unchanged}
 use Rattle.machine_laws.specs.CountLaws.{Small}
 use Rattle.run.specs.Run.{plus, ifDone, counted, stopped, run}

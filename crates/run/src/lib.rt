@@ -2,16 +2,18 @@
 ghost use mathlib.Core.Path.{_≡_};
 ghost use Prim.Native.Nat.{_+_, _^_, _<_};
 ghost use Rattle.memory.specs.Access.{Buffers, buffers};
-ghost use Rattle.machine.specs.Bundle.{noCounts, outcome, readyOr};
-ghost use Rattle.machine.specs.Core.{joined};
+ghost use Rattle.bundle.specs.Bundle.{noCounts, outcome, readyOr};
+ghost use Rattle.state.specs.Core.{joined};
+ghost use Rattle.machine.specs.Whole.{stateOf};
 ghost use Rattle.memory.specs.Answer.{spent};
+ghost use Rattle.state.specs.State.{State as MachineState};
 ghost use Rattle.run.specs.Run.{plus, run, returned, whole};
-use machine::Answer;
-use machine::Core;
-use machine::Counts;
-use machine::Readiness;
+use bundle::Answer;
+use bundle::Counts;
+use bundle::Readiness;
 use machine::State;
 use memory::Settings;
+use state::Core;
 
 // What a run answers; Refused holds document 01's number.
 pub enum RunAnswer {
@@ -41,7 +43,7 @@ fn sum(c: Counts, d: Counts) -> Counts
 
 // What a run answers whose budget is used up.
 fn standing(r: Readiness) -> RunAnswer
-    ensures { λ x. ⌜ ((s : State) (b : Buffers) → outcome (returned x) s noCounts b ≡ readyOr r s b (outcome spent s noCounts b)) ⌝ }
+    ensures { λ x. ⌜ ((s : MachineState) (b : Buffers) → outcome (returned x) s noCounts b ≡ readyOr r s b (outcome spent s noCounts b)) ⌝ }
 {
     match r {
         Readiness::Refused(n) => RunAnswer::Refused(n),
@@ -79,7 +81,7 @@ pub fn run(
     hi: u32,
     budget: u32,
 ) -> Ran
-    ensures { λ r. ⌜ whole r (buffers (now (main .exit)) (now (local .exit)) (now (cache .exit))) ≡ run (now (code .entry)) lo hi budget start (buffers (now (main .entry)) (now (local .entry)) (now (cache .entry))) ⌝ }
+    ensures { λ r. ⌜ whole r (buffers (now (main .exit)) (now (local .exit)) (now (cache .exit))) ≡ run (now (code .entry)) lo hi budget (stateOf start) (buffers (now (main .entry)) (now (local .entry)) (now (cache .entry))) ⌝ }
 {
     let mut registers = start.registers;
     let mut predicates = start.predicates;
@@ -92,7 +94,8 @@ pub fn run(
     };
     let mut left = budget;
     while 0 < left {
-        let r = core.step(
+        let r = bundle::step::step(
+            core,
             &mut registers,
             &mut predicates,
             code,
@@ -127,6 +130,6 @@ pub fn run(
         lo,
         hi,
     };
-    let answer = standing(core.readiness(&registers, &predicates, g));
+    let answer = standing(bundle::step::readiness(core, &registers, &predicates, g));
     result(answer, registers, predicates, core, counts)
 }

@@ -8,8 +8,8 @@ use lib.ListN.{length}
 use Rattle.memory.specs.declared.Settings.{Settings}
 use Rattle.memory.specs.Settings.{admits}
 use Rattle.effects.specs.Effect.{isUndecodable}
-use Rattle.machine.specs.Refusal.{outsideCode}
-use Rattle.machine.specs.Bundle.{bundleAt, followingAt}
+use Rattle.bundle.specs.Refusal.{outsideCode}
+use Rattle.bundle.specs.Bundle.{bundleAt, followingAt}
 use Rattle.marking_rules.specs.declared.Marking.{Marking}
 use Rattle.marking_rules.specs.Marking.{markingOk}
 use Rattle.marking_rules.specs.Rules.{breaks, keeps}

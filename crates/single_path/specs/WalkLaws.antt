@@ -10,7 +10,7 @@ use lib.Dec.{leb, eqb}
 use lib.ListN.{length}
 use Rattle.word.specs.Bytes.{wordAt}
 use Rattle.decoder.specs.Decode.{isTwoWords, bundleWords}
-use Rattle.machine.specs.Bundle.{followingAt}
+use Rattle.bundle.specs.Bundle.{followingAt}
 use Rattle.single_path.specs.Check.{Walked, first, later}
 
 -- A bundle has one word or two.

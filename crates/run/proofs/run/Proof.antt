@@ -4,8 +4,9 @@ use native.Mathlib.Omega.{arith}
 use borrow.Author.Needs.{needs}
 use lib.ListN.{length}
 use Rattle.memory.specs.Access.{buffers}
-use Rattle.machine.specs.declared.State.{State}
-use Rattle.machine.specs.Core.{joined, steppedAs}
+use Rattle.state.specs.State.{State}
+use Rattle.state.specs.Core.{joined}
+use Rattle.bundle.specs.Execute.{steppedAs}
 use Rattle.run.specs.Run.{counted, run}
 use Rattle.run.specs.RunLaws.{Few, few-none, few-more, few-fit, counted-none}
 use Rattle.run.specs.LoopLaws.{turn-stops, turn-goes-on, turn-spent, step-few}

@@ -1,9 +1,6 @@
+use Rattle.machine.specs.Whole.{stateOf}
 use Rattle.machine.proofs.State.core.Statement.{statement}
 use Rattle.machine.proofs.State.core.Tie as tie
-use Rattle.machine.proofs.State.core.Reads as reads
-use Rattle.machine.proofs.State.core.Lts as lts
-use Rattle.machine.proofs.waiting.load_words.Reads as load-words-reads
-use Rattle.machine.proofs.waiting.transfer_words.Reads as transfer-words-reads
 
 transfer-words-requires : tie.Need-transfer-words-requires
 transfer-words-requires c κs = tt
@@ -12,6 +9,7 @@ load-words-requires : tie.Need-load-words-requires
 load-words-requires c κs = tt
 
 returns : tie.Need-returns
+unfolding stateOf
 returns c = rw (c .before .transfer-words .ensures, c .load-words .ensures)
 
 pub core-spec : {M : Type 1} → statement M

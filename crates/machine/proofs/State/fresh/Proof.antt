@@ -15,21 +15,21 @@ refused-requires c κs = tt
 
 returns : tie.Need-returns
 unfolding opening
-returns c = rw (← c .before .before .admits .ensures, c .before .if1 .taken, c .refused .ensures)
+returns c = rw (← c .before .before .admits .ensures, c .before .if1 .taken) (c .refused .ensures _)
 
 refused-requires-2 : tie.Need-refused-requires-2
 refused-requires-2 c κs = tt
 
 returns-2 : tie.Need-returns-2
 unfolding opening
-returns-2 c = rw (← c .before .before .before .admits .ensures, c .before .before .if1 .left, ne-eqb _ _ (c .before .if2 .taken), c .refused2 .ensures)
+returns-2 c = rw (← c .before .before .before .admits .ensures, c .before .before .if1 .left, ne-eqb _ _ (c .before .if2 .taken)) (c .refused2 .ensures _)
 
 refused-requires-3 : tie.Need-refused-requires-3
 refused-requires-3 c κs = tt
 
 returns-3 : tie.Need-returns-3
 unfolding opening
-returns-3 c = rw (← c .before .before .before .before .admits .ensures, c .before .before .before .if1 .left, c .before .before .if2 .left, le-leb _ _ (c .before .if3 .taken), c .refused3 .ensures)
+returns-3 c = rw (← c .before .before .before .before .admits .ensures, c .before .before .before .if1 .left, c .before .before .if2 .left, le-leb _ _ (c .before .if3 .taken)) (c .refused3 .ensures _)
 
 clear-requires : tie.Need-clear-requires
 clear-requires c κs = tt

@@ -1,5 +1,5 @@
 use mathlib.Core.Path.{ap, _∙_}
-use Rattle.machine.specs.State.{landed}
+use Rattle.state.specs.State.{landed}
 use Rattle.machine.proofs.State.land_load.Statement.{statement}
 use Rattle.machine.proofs.State.land_load.Tie as tie
 

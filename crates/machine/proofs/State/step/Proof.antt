@@ -1,6 +1,6 @@
 use mathlib.Core.Path.{ap, _∙_}
-use Rattle.machine.specs.declared.State.{State}
-use Rattle.machine.specs.Bundle.{step}
+use Rattle.state.specs.State.{State}
+use Rattle.bundle.specs.Bundle.{step}
 use Rattle.memory.specs.Access.{buffers}
 use Rattle.machine.proofs.State.step.Statement.{statement}
 use Rattle.machine.proofs.State.step.Tie as tie

@@ -1,6 +1,5 @@
 use mathlib.Core.Path.{ap, _∙_}
-use Rattle.machine.specs.declared.State.{State}
-use Rattle.machine.specs.State.{transferred}
+use Rattle.state.specs.State.{State, transferred}
 use Rattle.machine.proofs.State.transfer.Statement.{statement}
 use Rattle.machine.proofs.State.transfer.Tie as tie
 

@@ -1,9 +1,8 @@
 use Prim.Native.Nat.{ℕ}
 use mathlib.Core.List.{List}
 use mathlib.Core.Path.{ap, _∙_}
-use Rattle.machine.specs.declared.State.{State}
-use Rattle.machine.specs.State.{withRegister}
-use Rattle.machine.specs.Core.{joined}
+use Rattle.state.specs.State.{State, withRegister}
+use Rattle.state.specs.Core.{joined}
 use borrow.Author.Needs.{needs}
 use Rattle.machine.proofs.State.write_register.Statement.{statement}
 use Rattle.machine.proofs.State.write_register.Tie as tie

@@ -1,10 +1,11 @@
-use Rattle.machine.specs.State.{fresh, predicatesOf}
+use Rattle.state.specs.State.{fresh, predicatesOf}
+use Rattle.machine.specs.Whole.{stateOf}
 use mathlib.Core.Path.{refl}
 use Rattle.machine.proofs.open.initial.Statement.{statement}
 use Rattle.machine.proofs.open.initial.Tie as tie
 
 returns : tie.Need-returns
-unfolding fresh predicatesOf
+unfolding stateOf fresh predicatesOf
 returns c = refl
 
 pub initial-spec : {M : Type 1} → statement M

@@ -5,7 +5,7 @@ initial-requires : tie.Need-initial-requires
 initial-requires c κs = tt
 
 returns : tie.Need-returns
-returns c = rw (c .initial .ensures)
+returns c = λ l. rw (c .initial .ensures)
 
 pub refused-spec : {M : Type 1} → statement M
 refused-spec = tie.close (tie.spec initial-requires returns)

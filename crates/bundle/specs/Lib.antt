@@ -1,0 +1,5 @@
+pub mod Refusal
+pub mod Bundle
+pub mod Execute
+pub mod ExecuteLaws
+pub mod BundleLaws

@@ -1,0 +1,58 @@
+// What a bundle gives.
+ghost use mathlib.Core.Path.{_≡_};
+ghost use mathlib.Core.Bool.{Bool};
+ghost use mathlib.Core.List.{List};
+ghost use Prim.Native.Nat.{ℕ};
+ghost use Rattle.state.specs.Core.{joined};
+ghost use Rattle.bundle.specs.Execute.{steppedAs, refusedWith, endedWith, doneWith};
+use crate::Advanced;
+use crate::Answer;
+use crate::Counts;
+use state::Core;
+
+// A refused bundle changes nothing and counts nothing.
+pub(crate) fn refused(core: Core, n: u32) -> Advanced
+    ensures { λ r. ⌜ ((rs : List ℕ) (ps : List Bool) → steppedAs rs ps r ≡ refusedWith (joined rs ps core) n) ⌝ }
+{
+    Advanced {
+        answer: Answer::Refused(n),
+        core,
+        counts: Counts {
+            bundles: 0,
+            cycles: 0,
+            spilled: 0,
+            filled: 0,
+        },
+    }
+}
+
+// A step on an ended state changes nothing and counts nothing.
+pub(crate) fn ended(core: Core) -> Advanced
+    ensures { λ r. ⌜ ((rs : List ℕ) (ps : List Bool) → steppedAs rs ps r ≡ endedWith (joined rs ps core)) ⌝ }
+{
+    Advanced {
+        answer: Answer::Ended,
+        core,
+        counts: Counts {
+            bundles: 0,
+            cycles: 0,
+            spilled: 0,
+            filled: 0,
+        },
+    }
+}
+
+pub(crate) fn done(core: Core, cycles: u64, spilled: u64, filled: u64) -> Advanced
+    ensures { λ r. ⌜ ((rs : List ℕ) (ps : List Bool) → steppedAs rs ps r ≡ doneWith (joined rs ps core) cycles spilled filled) ⌝ }
+{
+    Advanced {
+        answer: Answer::Done,
+        core,
+        counts: Counts {
+            bundles: 1,
+            cycles,
+            spilled,
+            filled,
+        },
+    }
+}
