@@ -4,14 +4,14 @@ use mathlib.Core.Bool.{Bool, not, _&&_, _||_, Bool·beq}
 use lib.Bits.{bitAnd, bitOr, bitXor}
 use lib.Dec.{eqb, ltb, leb}
 use Rattle.word.specs.Word.{add, sub, nor, shiftLeft, shiftRight, shiftRightSigned, lessSigned, lessEqualSigned, testBit, product, productSigned}
-use Rattle.decoder.specs.declared.AluFunction.{AluFunction}
-use Rattle.decoder.specs.declared.AluFunction.the-variants.{Add, Sub, Xor, Sl, Sr, Sra, Or, And, Nor, Shadd, Shadd2}
-use Rattle.decoder.specs.declared.CompareFunction.{CompareFunction}
-use Rattle.decoder.specs.declared.CompareFunction.the-variants.{Cmpeq, Cmpneq, Cmplt, Cmple, Cmpult, Cmpule, Btest}
-use Rattle.decoder.specs.declared.PredicateFunction.{PredicateFunction}
-use Rattle.decoder.specs.declared.PredicateFunction.the-variants.{Por, Pand, Pxor}
-use Rattle.decoder.specs.declared.MultiplyFunction.{MultiplyFunction}
-use Rattle.decoder.specs.declared.MultiplyFunction.the-variants.{Mul, Mulu}
+use Rattle.isa.specs.declared.AluFunction.{AluFunction}
+use Rattle.isa.specs.declared.AluFunction.the-variants.{Add, Sub, Xor, Sl, Sr, Sra, Or, And, Nor, Shadd, Shadd2}
+use Rattle.isa.specs.declared.CompareFunction.{CompareFunction}
+use Rattle.isa.specs.declared.CompareFunction.the-variants.{Cmpeq, Cmpneq, Cmplt, Cmple, Cmpult, Cmpule, Btest}
+use Rattle.isa.specs.declared.PredicateFunction.{PredicateFunction}
+use Rattle.isa.specs.declared.PredicateFunction.the-variants.{Por, Pand, Pxor}
+use Rattle.isa.specs.declared.MultiplyFunction.{MultiplyFunction}
+use Rattle.isa.specs.declared.MultiplyFunction.the-variants.{Mul, Mulu}
 
 -- Table 2.1, of Rs1 and Op2.
 unfoldable pub arithmetic : AluFunction → ℕ → ℕ → ℕ

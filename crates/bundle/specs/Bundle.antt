@@ -3,16 +3,16 @@ use Prim.Native.Nat.{ℕ, _+_, _-_, _*_, _^_}
 use mathlib.Core.Bool.{Bool, not, cond}
 use mathlib.Core.List.{List, _++_}
 use lib.ListN.{length, take, drop}
-use Rattle.word.specs.Bytes.{wordAt}
+use Rattle.big_endian.specs.Bytes.{wordAt}
 use Rattle.decoder.specs.Decode.{bundleWords, decode}
-use Rattle.decoder.specs.declared.Bundle.{Bundle}
+use Rattle.isa.specs.declared.Bundle.{Bundle}
 use Rattle.stack_cache.specs.declared.StackControl.{StackControl}
 use Rattle.stack_cache.specs.Stack.{topAfter, spillAfter, spills, fills, spilled, filled}
-use Rattle.memory.specs.declared.Settings.{Settings}
+use Rattle.settings.specs.declared.Settings.{Settings}
 use Rattle.memory.specs.declared.Verdict.{Verdict}
 use Rattle.memory.specs.declared.Verdict.the-variants as verdict
-use Rattle.memory.specs.Answer.{Returned, done, ended, refused}
-use Rattle.memory.specs.Settings.{admits, settingsOf}
+use Rattle.settings.specs.Answer.{Returned, done, ended, refused}
+use Rattle.settings.specs.Settings.{admits, settingsOf}
 use Rattle.memory.specs.Access.{storeScale, Buffers, buffers, loadedValue, stored, verdict}
 use Rattle.effects.specs.declared.Transfer.{Transfer}
 use Rattle.effects.specs.declared.Transfer.the-variants.{Br, Call, Block}

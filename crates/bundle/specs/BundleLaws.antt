@@ -3,17 +3,17 @@ use Prim.Native.Nat.{ℕ}
 use mathlib.Core.Bool.{Bool, true, false, not, cond}
 use mathlib.Core.List.{List}
 use mathlib.Core.Path.{_≡_, refl, ap, _∙_}
-use Rattle.memory.specs.declared.Settings.{Settings}
+use Rattle.settings.specs.declared.Settings.{Settings}
 use Rattle.state.specs.State.{State, startOf, wellFormed, ended}
 use Rattle.effects.specs.declared.AluEffect.{AluEffect}
 use Rattle.effects.specs.declared.Effect.{Effect}
 use Rattle.bundle.specs.declared.Fetched.the-variants as fetch
-use Rattle.memory.specs.Answer.{refused}
+use Rattle.settings.specs.Answer.{refused}
 use Rattle.memory.specs.Access.{Buffers, verdict}
 use Rattle.effects.specs.declared.Effects.{Effects}
 use Rattle.effects.specs.declared.Effects.the-variants as effects
 use Rattle.effects.specs.Effect.{slotOne, slotTwo, isUndecodable, effectsOf}
-use Rattle.memory.specs.Settings.{admits}
+use Rattle.settings.specs.Settings.{admits}
 use Rattle.bundle.specs.declared.Readiness.the-variants as ready
 use Rattle.bundle.specs.Refusal.{outsideCode}
 use Rattle.bundle.specs.Bundle.{outcome, noCounts, bundleAt, followingAt, bundle, readiness}

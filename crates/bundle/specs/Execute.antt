@@ -1,23 +1,29 @@
 -- Parts of a bundle, for the contracts of the functions that do it: the outcome of a decoded bundle.
 use Prim.Native.Nat.{ℕ}
-use mathlib.Core.Bool.{Bool, true, false, cond}
+use mathlib.Core.Bool.{Bool, cond}
 use mathlib.Core.List.{List}
 use mathlib.Core.Path.{_≡_}
-use Rattle.stack_cache.specs.Stack.{below, above, spilled, filled}
-use Rattle.memory.specs.declared.Settings.{Settings}
-use Rattle.memory.specs.Answer.{done}
-use Rattle.memory.specs.Access.{Buffers, verdict}
+use Rattle.stack_cache.specs.Stack.{topAfter, spillAfter, below, above, spilled, filled}
+use Rattle.settings.specs.declared.Settings.{Settings}
+use Rattle.settings.specs.Answer.{done}
+use Rattle.memory.specs.declared.Verdict.{Verdict}
+use Rattle.memory.specs.declared.Verdict.the-variants as verdict
+use Rattle.memory.specs.Access.{Buffers, loadedValue, verdict}
 use Rattle.effects.specs.declared.AluEffect.{AluEffect}
 use Rattle.effects.specs.declared.Effect.{Effect}
 use Rattle.effects.specs.declared.Effect.the-variants as effect
 use Rattle.effects.specs.declared.Effects.{Effects}
 use Rattle.effects.specs.declared.Effects.the-variants as effects
-use Rattle.effects.specs.Effect.{effectsOf}
-use Rattle.state.specs.State.{State, startOf}
+use Rattle.effects.specs.Effect.{effectsOf, onEffect}
+use Rattle.state.specs.declared.WaitingLoad.the-variants as load
+use Rattle.state.specs.State.{State, startOf, withSpecial, withProduct, withLoad, withStack}
+use Rattle.state.specs.Writes.{writeAlu}
+use Rattle.bundle.specs.declared.Carried.{Carried}
+use Rattle.bundle.specs.declared.Carried.the-variants as carried
 use Rattle.bundle.specs.declared.Fetched.{Fetched}
 use Rattle.bundle.specs.declared.Fetched.the-variants as fetch
 use Rattle.bundle.specs.declared.Advanced.{Advanced}
-use Rattle.bundle.specs.Bundle.{Stepped, area, withArea, Outcome, outcome, noCounts, written, countsOf, buffersAfter, refusedOr, bundleAt, followingAt}
+use Rattle.bundle.specs.Bundle.{Stepped, area, withArea, Outcome, outcome, noCounts, written, spilledBy, filledBy, countsOf, buffersAfter, refusedOr, bundleAt, followingAt}
 use Rattle.state.specs.Core.{joined}
 use Rattle.bundle.specs.declared.Answer.the-variants.{Done, Ended, Refused}
 use Rattle.bundle.specs.Refusal.{outsideCode, effectTests}
@@ -41,16 +47,50 @@ executed g s one two following b =
     refusedOr (verdict (effectTests g s one)) s b
     (outcome done (written g b s one two following) (countsOf g s one) (buffersAfter g s one b))
 
--- Whether an effect leaves memory, stack and flow alone. An exception is one of them: it does nothing.
-abbrev pub isPlain : Effect → Bool
-isPlain (effect.Alu a) = true
-isPlain (effect.Special d v) = true
-isPlain (effect.Product l h) = true
-isPlain (effect.Load k w r a) = false
-isPlain (effect.Store k w a v) = false
-isPlain (effect.Stack c n m) = false
-isPlain (effect.Transfer d t) = false
-isPlain effect.Exception = true
+-- Slot one carried out on the stores, with the buffers that it leaves; refused, it leaves them as they were.
+pub record CarriedOut : Type 0 where
+  pub carried : Carried
+  pub buffers : Buffers
+
+abbrev pub carriedAs : Carried → Buffers → CarriedOut
+carriedAs c b = record { carried = c; buffers = b }
+
+abbrev pub unlessRefused : Verdict → Buffers → CarriedOut → CarriedOut
+unlessRefused verdict.Fine b other = other
+unlessRefused (verdict.Refused n) b other = carriedAs (carried.Refused n) b
+
+-- What it loads, and where it leaves st and ss.
+abbrev pub loadedBy : Buffers → Effect → ℕ
+loadedBy b (effect.Alu a) = 0
+loadedBy b (effect.Special d v) = 0
+loadedBy b (effect.Product l h) = 0
+loadedBy b (effect.Load k w r a) = loadedValue b k w a
+loadedBy b (effect.Store k w a v) = 0
+loadedBy b (effect.Stack c n m) = 0
+loadedBy b (effect.Transfer d t) = 0
+loadedBy b effect.Exception = 0
+
+abbrev pub topBy : State → Effect → ℕ
+topBy s = onEffect 0 (λ c n m. topAfter c (s .specials .st) n) (λ d t. 0)
+
+abbrev pub spillBy : Settings → State → Effect → ℕ
+spillBy g s = onEffect 0 (λ c n m. spillAfter c (g .words) (s .specials .st) (s .specials .ss) n) (λ d t. 0)
+
+unfoldable pub carriedOut : Settings → State → Effect → Buffers → CarriedOut
+carriedOut g s one b =
+    unlessRefused (verdict (effectTests g s one)) b
+    (carriedAs (carried.Done (loadedBy b one) (topBy s one) (spillBy g s one) (spilledBy g s one) (filledBy s one)) (buffersAfter g s one b))
+
+-- What slot one writes to the state, of the value loaded and st and ss.
+unfoldable pub writeDone : Effect → ℕ → ℕ → ℕ → State → State
+writeDone (effect.Alu a) loaded st ss onto = writeAlu a onto
+writeDone (effect.Special d v) loaded st ss onto = withSpecial onto d v
+writeDone (effect.Product l h) loaded st ss onto = withProduct onto l h
+writeDone (effect.Load k w r a) loaded st ss onto = withLoad onto (load.Waits r loaded)
+writeDone (effect.Store k w a v) loaded st ss onto = onto
+writeDone (effect.Stack c n m) loaded st ss onto = withStack onto st ss
+writeDone (effect.Transfer d t) loaded st ss onto = onto
+writeDone effect.Exception loaded st ss onto = onto
 
 -- The buffers after a number of words below ss were spilled and a number from ss up were filled.
 pub record Moved (lo hi ss j k : ℕ) (main cache main′ cache′ : List ℕ) : Type 0 where

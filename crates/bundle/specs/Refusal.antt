@@ -5,12 +5,12 @@ use mathlib.Core.List.{List, [], _∷_}
 use lib.Dec.{ltb}
 use lib.ListN.{length}
 use Rattle.word.specs.Word.{isMultipleOf4}
-use Rattle.word.specs.Bytes.{wordAt}
+use Rattle.big_endian.specs.Bytes.{wordAt}
 use Rattle.decoder.specs.Decode.{bundleWords}
-use Rattle.decoder.specs.declared.Bundle.{Bundle}
+use Rattle.isa.specs.declared.Bundle.{Bundle}
 use Rattle.stack_cache.specs.declared.StackControl.{StackControl}
 use Rattle.stack_cache.specs.Stack.{badWindow, badAmount, movedOutside}
-use Rattle.memory.specs.declared.Settings.{Settings}
+use Rattle.settings.specs.declared.Settings.{Settings}
 use Rattle.memory.specs.Access.{Test, test, loadScale, storeScale, mainReadable, mainWritable, accessTests}
 use Rattle.effects.specs.declared.Effect.{Effect}
 use Rattle.effects.specs.declared.Effect.the-variants as effect

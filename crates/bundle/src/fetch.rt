@@ -6,9 +6,9 @@ ghost use Rattle.decoder.specs.Decode.{bundleWords};
 ghost use Rattle.state.specs.Core.{joined};
 ghost use Rattle.bundle.specs.Execute.{fetched};
 use crate::Fetched;
+use big_endian::read_word;
 use effects::Effects;
 use state::Core;
-use word::bytes::read_word;
 
 // The bundle at the fetch address, read and told as what its slots do.
 pub(crate) fn fetch_bundle<'a>(

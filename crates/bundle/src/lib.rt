@@ -2,9 +2,10 @@
 mod execute;
 mod fetch;
 mod outcome;
-mod plain;
+mod slot_one;
 mod stack_moves;
 pub mod step;
+mod writes;
 
 use effects::AluEffect;
 use effects::Effect;
@@ -46,5 +47,18 @@ pub enum Fetched {
         one: Effect,
         two: AluEffect,
         following: u32,
+    },
+}
+
+// Slot one carried out on the stores: refused with a number, or done. What is done tells the value that was loaded, where a stack
+// instruction leaves st and ss, and the words that it spilled and filled; what does not apply is 0.
+pub enum Carried {
+    Refused(u32),
+    Done {
+        value: u32,
+        st: u32,
+        ss: u32,
+        spilled: u32,
+        filled: u32,
     },
 }

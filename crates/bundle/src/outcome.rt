@@ -42,7 +42,7 @@ pub(crate) fn ended(core: Core) -> Advanced
     }
 }
 
-pub(crate) fn done(core: Core, cycles: u64, spilled: u64, filled: u64) -> Advanced
+pub(crate) fn done(core: Core, cycles: u64, spilled: u32, filled: u32) -> Advanced
     ensures { λ r. ⌜ ((rs : List ℕ) (ps : List Bool) → steppedAs rs ps r ≡ doneWith (joined rs ps core) cycles spilled filled) ⌝ }
 {
     Advanced {
@@ -51,8 +51,14 @@ pub(crate) fn done(core: Core, cycles: u64, spilled: u64, filled: u64) -> Advanc
         counts: Counts {
             bundles: 1,
             cycles,
-            spilled,
-            filled,
+            spilled: wide(spilled),
+            filled: wide(filled),
         },
     }
+}
+
+fn wide(n: u32) -> u64
+    ensures { λ r. ⌜ r ≡ n ⌝ }
+{
+    n as u64
 }

@@ -1,53 +1,45 @@
 // Stack instructions: planned, and their words moved.
 ghost use mathlib.Core.Path.{_≡_};
-ghost use mathlib.Core.Bool.{true};
+ghost use mathlib.Core.Bool.{Bool, true};
 ghost use mathlib.Core.List.{List};
 ghost use Prim.Native.Nat.{ℕ, _≤_};
 ghost use lib.ListN.{length};
-ghost use Rattle.memory.specs.Settings.{admits};
+ghost use Rattle.settings.specs.Settings.{admits};
 ghost use Rattle.memory.specs.Access.{buffers};
-ghost use Rattle.bundle.specs.Bundle.{full};
 ghost use Rattle.state.specs.Core.{joined};
-ghost use Rattle.bundle.specs.Execute.{steppedAs, executed, Moved};
-use crate::Advanced;
-use crate::outcome::done;
-use crate::outcome::refused;
-use effects::AluEffect;
+ghost use Rattle.bundle.specs.Execute.{carriedAs, carriedOut, Moved};
+use crate::Carried;
 use effects::Effect;
-use memory::Settings;
+use settings::Settings;
 use stack_cache::Plan;
 use stack_cache::StackCache;
 use stack_cache::StackControl;
 use stack_cache::moves::fill;
 use stack_cache::moves::spill;
+use stack_control::plan;
 use state::Core;
-use state::flow::write_alu;
 
 // A stack instruction: the words that it moves are judged whole, and then moved.
 pub(crate) fn do_stack(
     core: Core,
-    registers: &mut [u32; 32],
-    predicates: &mut [bool; 8],
     g: Settings,
     control: StackControl,
     words: u32,
     aligned: bool,
-    two: AluEffect,
-    following: u32,
     main: &mut [u8],
     cache: &mut [u32],
-) -> Advanced
+) -> Carried
     requires { ⌜ (admits g ≡ true) × (g .main ≡ length (now main)) ⌝ }
-    ensures { λ r. ⌜ ((l : List ℕ) → full (steppedAs (now (registers .exit)) (now (predicates .exit)) r) (buffers (now (main .exit)) l (now (cache .exit))) ≡ executed g (joined (now (registers .entry)) (now (predicates .entry)) core) (Effect.Stack control words aligned) two following (buffers (now (main .entry)) l (now (cache .entry)))) ⌝ }
+    ensures { λ r. ⌜ ((rs : List ℕ) (ps : List Bool) (l : List ℕ) → carriedAs r (buffers (now (main .exit)) l (now (cache .exit))) ≡ carriedOut g (joined rs ps core) (Effect.Stack control words aligned) (buffers (now (main .entry)) l (now (cache .entry)))) ⌝ }
 {
     if !aligned {
-        return refused(core, 5);
+        return Carried::Refused(5);
     }
     let size = g.words as u32;
     let stack = StackCache { words: size };
     let old = core.specials.ss;
-    match stack.plan(control, g.lo, g.hi, core.specials.st, old, words) {
-        Plan::Refused(number) => refused(core, number),
+    match plan(stack, control, g.lo, g.hi, core.specials.st, old, words) {
+        Plan::Refused(number) => Carried::Refused(number),
         Plan::Moves {
             st,
             ss,
@@ -55,11 +47,13 @@ pub(crate) fn do_stack(
             filled,
         } => {
             move_words(&mut *main, &mut *cache, g.lo, g.hi, old, spilled, filled);
-            let waiting = core.transfer;
-            let onto = core.land_load(&mut *registers).write_stack(st, ss);
-            write_alu(&mut *registers, &mut *predicates, two);
-            let next = onto.nearer(waiting, following);
-            done(next, 1, wide(spilled), wide(filled))
+            Carried::Done {
+                value: 0,
+                st,
+                ss,
+                spilled,
+                filled,
+            }
         }
     }
 }
@@ -84,10 +78,4 @@ fn move_words(
         return;
     }
     fill(&main[from..to], &mut *cache, lo, ss, filled);
-}
-
-fn wide(n: u32) -> u64
-    ensures { λ r. ⌜ r ≡ n ⌝ }
-{
-    n as u64
 }

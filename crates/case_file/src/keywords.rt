@@ -1,8 +1,7 @@
 // The words that a line can start with, and the names that it can hold.
 ghost use mathlib.Core.Path.{_≡_};
 ghost use lib.ListN.{drop};
-ghost use Rattle.case_file.specs.Names.{lookUp, keywords, keywordOf, transferKindOf, specialNameOf};
-ghost use Rattle.case_file.specs.Names.{numbered, otherItems, itemOf};
+ghost use Rattle.case_file.specs.Names.{lookUp, keywords, keywordOf, transferKindOf, specialNameOf, numbered, otherItems, itemOf};
 use crate::Item;
 use crate::Keyword;
 use crate::NumberAndWord;

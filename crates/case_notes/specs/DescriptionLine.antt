@@ -4,7 +4,7 @@ use mathlib.Core.Bool.{cond}
 use mathlib.Core.List.{List, _++_}
 use lib.ListN.{length, take, drop}
 use lib.Dec.{leb, eqb}
-use Rattle.word.specs.Bytes.{putWord}
+use Rattle.big_endian.specs.Bytes.{putWord}
 use Rattle.case_file.specs.declared.CodeEntry.{CodeEntry}
 use Rattle.case_file.specs.declared.CodeEntry.the-variants as CodeEntry
 use Rattle.case_file.specs.declared.Line.{Line}

@@ -9,7 +9,7 @@ use Rattle.case_file.specs.declared.Item.the-variants as Item
 use Rattle.case_file.specs.declared.PrivateEntry.{PrivateEntry}
 use Rattle.case_file.specs.declared.PrivateEntry.the-variants as PrivateEntry
 use Rattle.case_file.specs.Arguments.{privateEntry}
-use Rattle.marking_rules.specs.declared.Marking.{Marking}
+use Rattle.marking.specs.declared.Marking.{Marking}
 use Rattle.case_notes.specs.PlaceNumbers.{PRIVATE-REGISTERS, PRIVATE-PREDICATES, PRIVATE-SL, PRIVATE-SH, PRIVATE-MAIN, PRIVATE-LOCAL, PRIVATE-STACK}
 use Rattle.case_notes.specs.Kept.{isSet, put, flagsAt}
 use Rattle.case_notes.specs.Mistake.{rowOf}

@@ -10,17 +10,17 @@ use crate::clearing::put_in_copy;
 use crate::description::give;
 use crate::kept::CODE;
 use crate::kept::Kept;
-use crate::marking::mark_items;
+use crate::marked::mark_items;
 use crate::mistake::NO_MISTAKE;
 use crate::mistake::TOO_MUCH_CODE;
 use crate::mistake::row_of;
 use crate::places::Store;
 use crate::places::last_byte;
 use crate::places::note;
+use big_endian::write_word;
 use case_file::CodeEntry;
 use case_file::Line;
 use case_file::arguments::code_entry;
-use word::bytes::write_word;
 
 // Appends a word to the code, or answers the mistake that there is no room.
 fn append_word(kept: &mut Kept, word: u32, code: &mut Bytes) -> usize

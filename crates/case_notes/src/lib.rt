@@ -7,6 +7,6 @@ pub mod description_line;
 pub mod extent;
 pub mod kept;
 pub mod kept_parts;
-pub mod marking;
+pub mod marked;
 pub mod mistake;
 pub mod places;

@@ -4,7 +4,7 @@ use case_notes::buffers::least;
 use case_notes::extent::Extents;
 use case_notes::extent::extents_of;
 use case_notes::kept::Kept;
-use case_notes::marking::marking_of;
+use case_notes::marked::marking_of;
 use case_report::output::say;
 use case_report::output::tell;
 use single_path::Checked;

@@ -2,14 +2,14 @@
 use Prim.Native.Nat.{ℕ}
 use mathlib.Core.Bool.{Bool, cond}
 use mathlib.Core.Option.{Option, none, some}
-use Rattle.decoder.specs.Format.{_⋯_, bits, reading}
-use Rattle.decoder.specs.Formats.{isSet, predicateOperand, longFormats, aluFormats, firstFormats}
-use Rattle.decoder.specs.declared.PredicateOperand.{PredicateOperand}
-use Rattle.decoder.specs.declared.AluOperation.{AluOperation}
-use Rattle.decoder.specs.declared.Operation.{Operation}
-use Rattle.decoder.specs.declared.Operation.the-variants.{Alu}
-use Rattle.decoder.specs.declared.Bundle.{Bundle}
-use Rattle.decoder.specs.declared.Bundle.the-variants.{Undecodable, One, Two, Long}
+use Rattle.isa.specs.Format.{_⋯_, bits, reading}
+use Rattle.isa.specs.Formats.{isSet, predicateOperand, longFormats, applied, aluFormats, firstFormats}
+use Rattle.isa.specs.declared.PredicateOperand.{PredicateOperand}
+use Rattle.isa.specs.declared.AluOperation.{AluOperation}
+use Rattle.isa.specs.declared.Operation.{Operation}
+use Rattle.isa.specs.declared.Operation.the-variants.{Alu}
+use Rattle.isa.specs.declared.Bundle.{Bundle}
+use Rattle.isa.specs.declared.Bundle.the-variants.{Undecodable, One, Two, Long}
 
 -- A bundle has two words if bit 31 of its first is set.
 abbrev pub isTwoWords : ℕ → Bool
@@ -49,11 +49,6 @@ two g (some o) h (some a) = Two (record { guard = g; operation = o }) (record { 
 abbrev pub long : PredicateOperand → Option AluOperation → Bundle → Bundle
 long g none other = other
 long g (some a) other = Long (record { guard = g; operation = Alu a })
-
--- The second word of a long immediate is its constant.
-abbrev pub applied : Option (ℕ → AluOperation) → ℕ → Option AluOperation
-applied none constant = none
-applied (some f) constant = some (f constant)
 
 unfoldable pub decode : ℕ → ℕ → Bundle
 decode first second =

@@ -4,15 +4,15 @@ use mathlib.Core.Bool.{Bool, true, false, cond}
 use mathlib.Core.Option.{Option, none, some}
 use mathlib.Core.Path.{_≡_, refl, ap}
 use native.Mathlib.Omega.{arith}
-use Rattle.decoder.specs.Format.{reading}
-use Rattle.decoder.specs.Formats.{longFormats}
-use Rattle.decoder.specs.Decode.{isTwoWords, bundleWords, guardOf, slotOne, slotTwo, one, two, long, applied, decode}
-use Rattle.decoder.specs.declared.AluOperation.{AluOperation}
-use Rattle.decoder.specs.declared.Operation.{Operation}
-use Rattle.decoder.specs.declared.Instruction.{Instruction}
-use Rattle.decoder.specs.declared.AluInstruction.{AluInstruction}
-use Rattle.decoder.specs.declared.Bundle.{Bundle}
-use Rattle.decoder.specs.declared.Bundle.the-variants.{Undecodable, One, Two, Long}
+use Rattle.isa.specs.Format.{reading}
+use Rattle.isa.specs.Formats.{longFormats, applied}
+use Rattle.decoder.specs.Decode.{isTwoWords, bundleWords, guardOf, slotOne, slotTwo, one, two, long, decode}
+use Rattle.isa.specs.declared.AluOperation.{AluOperation}
+use Rattle.isa.specs.declared.Operation.{Operation}
+use Rattle.isa.specs.declared.Instruction.{Instruction}
+use Rattle.isa.specs.declared.AluInstruction.{AluInstruction}
+use Rattle.isa.specs.declared.Bundle.{Bundle}
+use Rattle.isa.specs.declared.Bundle.the-variants.{Undecodable, One, Two, Long}
 
 -- The number of words tells whether there are two.
 pub words-one : (first : ℕ) → bundleWords first ≡ 1 → isTwoWords first ≡ false

@@ -5,8 +5,8 @@ use mathlib.Core.List.{List, [], _∷_, _++_, map}
 use mathlib.Core.Path.{_≡_, refl}
 use lib.Dec.{eqb, leb, ltb}
 use lib.ListN.{length}
-use Rattle.decoder.specs.Format.{Range, Fixed, Format}
-use Rattle.decoder.specs.Formats.{longFormats, aluFormats, firstFormats}
+use Rattle.isa.specs.Format.{Range, Fixed, Format}
+use Rattle.isa.specs.Formats.{longFormats, aluFormats, firstFormats}
 
 -- A format without its meaning.
 pub record Shape : Type 0 where

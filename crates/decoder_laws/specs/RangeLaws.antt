@@ -9,18 +9,18 @@ use lib.Pow.{pow-pos}
 use native.Mathlib.Nat.{mod-lt}
 use native.Mathlib.Omega.{arith}
 use Rattle.word.specs.WordLaws.{signed-mag}
-use Rattle.decoder.specs.Format.{Range, bits, Meaning, Format, matches, said, reading, Row, row}
-use Rattle.decoder.specs.Formats.{longFormats, aluFormats, firstFormats}
-use Rattle.decoder.specs.Decode.{isTwoWords, guardOf, either, slotOne, slotTwo, one, two, long, applied, decode}
+use Rattle.isa.specs.Format.{Range, bits, Meaning, Format, matches, said, reading, Row, row}
+use Rattle.isa.specs.Formats.{longFormats, applied, aluFormats, firstFormats}
+use Rattle.decoder.specs.Decode.{isTwoWords, guardOf, either, slotOne, slotTwo, one, two, long, decode}
 use Rattle.decoder_laws.specs.Ranges.{IsPredicate, AluInRange, OperationInRange, InstructionInRange, AluInstructionInRange, InRange}
-use Rattle.decoder.specs.declared.AccessKind.{AccessKind}
-use Rattle.decoder.specs.declared.LoadWidth.{LoadWidth}
-use Rattle.decoder.specs.declared.AluOperation.{AluOperation}
-use Rattle.decoder.specs.declared.Operation.{Operation}
-use Rattle.decoder.specs.declared.Operation.the-variants.{Load}
-use Rattle.decoder.specs.declared.Instruction.{Instruction}
-use Rattle.decoder.specs.declared.AluInstruction.{AluInstruction}
-use Rattle.decoder.specs.declared.Bundle.the-variants.{One, Two, Long}
+use Rattle.isa.specs.declared.AccessKind.{AccessKind}
+use Rattle.isa.specs.declared.LoadWidth.{LoadWidth}
+use Rattle.isa.specs.declared.AluOperation.{AluOperation}
+use Rattle.isa.specs.declared.Operation.{Operation}
+use Rattle.isa.specs.declared.Operation.the-variants.{Load}
+use Rattle.isa.specs.declared.Instruction.{Instruction}
+use Rattle.isa.specs.declared.AluInstruction.{AluInstruction}
+use Rattle.isa.specs.declared.Bundle.the-variants.{One, Two, Long}
 
 infixr 60 _also_
 -- If there is a value, P holds of it.

@@ -1,23 +1,23 @@
 -- The numbers of an instruction lie in the ranges of their fields.
 use Prim.Native.Nat.{ℕ, _<_, _^_}
 use lib.Signed.{mag}
-use Rattle.decoder.specs.declared.PredicateOperand.{PredicateOperand}
-use Rattle.decoder.specs.declared.Op2.{Op2}
-use Rattle.decoder.specs.declared.Op2.the-variants as op2
-use Rattle.decoder.specs.declared.AluOperation.{AluOperation}
-use Rattle.decoder.specs.declared.AluOperation.the-variants.{Arithmetic, Compare, Predicate, BitCopy}
-use Rattle.decoder.specs.declared.StackAmount.{StackAmount}
-use Rattle.decoder.specs.declared.StackAmount.the-variants as amount
-use Rattle.decoder.specs.declared.StackOperation.{StackOperation}
-use Rattle.decoder.specs.declared.StackOperation.the-variants.{Sres, Sens, Sfree, Sspill}
-use Rattle.decoder.specs.declared.Target.{Target}
-use Rattle.decoder.specs.declared.Target.the-variants.{Call, CallRegister, Br, BrRegister, Brcf, BrcfRegister, Ret}
-use Rattle.decoder.specs.declared.Operation.{Operation}
-use Rattle.decoder.specs.declared.Operation.the-variants.{Alu, Multiply, Mts, Mfs, Load, Store, StackControl, Transfer, Trap, Xret}
-use Rattle.decoder.specs.declared.Instruction.{Instruction}
-use Rattle.decoder.specs.declared.AluInstruction.{AluInstruction}
-use Rattle.decoder.specs.declared.Bundle.{Bundle}
-use Rattle.decoder.specs.declared.Bundle.the-variants as bundle
+use Rattle.isa.specs.declared.PredicateOperand.{PredicateOperand}
+use Rattle.isa.specs.declared.Op2.{Op2}
+use Rattle.isa.specs.declared.Op2.the-variants as op2
+use Rattle.isa.specs.declared.AluOperation.{AluOperation}
+use Rattle.isa.specs.declared.AluOperation.the-variants.{Arithmetic, Compare, Predicate, BitCopy}
+use Rattle.isa.specs.declared.StackAmount.{StackAmount}
+use Rattle.isa.specs.declared.StackAmount.the-variants as amount
+use Rattle.isa.specs.declared.StackOperation.{StackOperation}
+use Rattle.isa.specs.declared.StackOperation.the-variants.{Sres, Sens, Sfree, Sspill}
+use Rattle.isa.specs.declared.Target.{Target}
+use Rattle.isa.specs.declared.Target.the-variants.{Call, CallRegister, Br, BrRegister, Brcf, BrcfRegister, Ret}
+use Rattle.isa.specs.declared.Operation.{Operation}
+use Rattle.isa.specs.declared.Operation.the-variants.{Alu, Multiply, Mts, Mfs, Load, Store, StackControl, Transfer, Trap, Xret}
+use Rattle.isa.specs.declared.Instruction.{Instruction}
+use Rattle.isa.specs.declared.AluInstruction.{AluInstruction}
+use Rattle.isa.specs.declared.Bundle.{Bundle}
+use Rattle.isa.specs.declared.Bundle.the-variants as bundle
 
 -- A number of a register, of a predicate, and of k bits.
 abbrev pub IsRegister : ℕ → Type 0

@@ -8,27 +8,27 @@ use mir.Syntax.{w32}
 use mir.Val.{ofZ}
 use Rattle.word.specs.Word.{add, shiftLeft, copyBit}
 use Rattle.alu.specs.Alu.{arithmetic, multiply, compare, combine}
-use Rattle.decoder.specs.declared.PredicateOperand.{PredicateOperand}
-use Rattle.decoder.specs.declared.Op2.{Op2}
-use Rattle.decoder.specs.declared.Op2.the-variants as op2
-use Rattle.decoder.specs.declared.AluOperation.{AluOperation}
-use Rattle.decoder.specs.declared.AluOperation.the-variants.{Arithmetic, Compare, Predicate, BitCopy}
-use Rattle.decoder.specs.declared.Special.{Special}
-use Rattle.decoder.specs.declared.Special.the-variants.{S0, Sl, Sh, Ss, St, Srb, Sro, Sxb, Sxo}
-use Rattle.decoder.specs.declared.AccessKind.{AccessKind}
-use Rattle.decoder.specs.declared.AccessKind.the-variants.{Stack, Local, Cached, Main}
-use Rattle.decoder.specs.declared.StackAmount.{StackAmount}
-use Rattle.decoder.specs.declared.StackAmount.the-variants.{Words, Register}
-use Rattle.decoder.specs.declared.StackOperation.{StackOperation}
-use Rattle.decoder.specs.declared.StackOperation.the-variants as operation
-use Rattle.decoder.specs.declared.Target.{Target}
-use Rattle.decoder.specs.declared.Target.the-variants as target
-use Rattle.decoder.specs.declared.Operation.{Operation}
-use Rattle.decoder.specs.declared.Operation.the-variants.{Alu, Multiply, Mts, Mfs, Load, Store, StackControl, Transfer, Trap, Xret}
-use Rattle.decoder.specs.declared.Instruction.{Instruction}
-use Rattle.decoder.specs.declared.AluInstruction.{AluInstruction}
-use Rattle.decoder.specs.declared.Bundle.{Bundle}
-use Rattle.decoder.specs.declared.Bundle.the-variants.{Undecodable, One, Two, Long}
+use Rattle.isa.specs.declared.PredicateOperand.{PredicateOperand}
+use Rattle.isa.specs.declared.Op2.{Op2}
+use Rattle.isa.specs.declared.Op2.the-variants as op2
+use Rattle.isa.specs.declared.AluOperation.{AluOperation}
+use Rattle.isa.specs.declared.AluOperation.the-variants.{Arithmetic, Compare, Predicate, BitCopy}
+use Rattle.isa.specs.declared.Special.{Special}
+use Rattle.isa.specs.declared.Special.the-variants.{S0, Sl, Sh, Ss, St, Srb, Sro, Sxb, Sxo}
+use Rattle.isa.specs.declared.AccessKind.{AccessKind}
+use Rattle.isa.specs.declared.AccessKind.the-variants.{Stack, Local, Cached, Main}
+use Rattle.isa.specs.declared.StackAmount.{StackAmount}
+use Rattle.isa.specs.declared.StackAmount.the-variants.{Words, Register}
+use Rattle.isa.specs.declared.StackOperation.{StackOperation}
+use Rattle.isa.specs.declared.StackOperation.the-variants as operation
+use Rattle.isa.specs.declared.Target.{Target}
+use Rattle.isa.specs.declared.Target.the-variants as target
+use Rattle.isa.specs.declared.Operation.{Operation}
+use Rattle.isa.specs.declared.Operation.the-variants.{Alu, Multiply, Mts, Mfs, Load, Store, StackControl, Transfer, Trap, Xret}
+use Rattle.isa.specs.declared.Instruction.{Instruction}
+use Rattle.isa.specs.declared.AluInstruction.{AluInstruction}
+use Rattle.isa.specs.declared.Bundle.{Bundle}
+use Rattle.isa.specs.declared.Bundle.the-variants.{Undecodable, One, Two, Long}
 use Rattle.stack_cache.specs.declared.StackControl as stack
 use Rattle.stack_cache.specs.declared.StackControl.the-variants as control
 use Rattle.memory.specs.Access.{loadScale, storeScale}

@@ -3,10 +3,10 @@ ghost use mathlib.Core.Path.{_≡_};
 ghost use lib.ListN.{getD};
 ghost use Rattle.effects.specs.Effect.{holds, op2Value, aluEffect, slotTwoEffect};
 use crate::AluEffect;
-use decoder::AluInstruction;
-use decoder::AluOperation;
-use decoder::Op2;
-use decoder::PredicateOperand;
+use isa::AluInstruction;
+use isa::AluOperation;
+use isa::Op2;
+use isa::PredicateOperand;
 
 pub(crate) fn register(registers: &[u32], r: u32) -> u32
     ensures { λ x. ⌜ x ≡ getD (now (registers .entry)) r 0 ⌝ }

@@ -3,11 +3,11 @@ pub mod either_slot;
 pub mod slot;
 pub mod special;
 
-use decoder::AccessKind;
-use decoder::Instruction;
-use decoder::LoadWidth;
-use decoder::Special;
-use decoder::StoreWidth;
+use isa::AccessKind;
+use isa::Instruction;
+use isa::LoadWidth;
+use isa::Special;
+use isa::StoreWidth;
 use stack_cache::StackControl;
 
 // A transfer of control that is to be carried out. Block is brcf and ret, which set the base.

@@ -4,7 +4,7 @@ ghost use mathlib.Core.Bool.{cond};
 ghost use Prim.Native.Nat.{_<_};
 ghost use Rattle.effects.specs.Effect.{predicatesWord, special};
 use crate::Specials;
-use decoder::Special;
+use isa::Special;
 
 fn bit(b: bool) -> u32
     ensures { λ r. ⌜ (r ≡ cond b 1 0) × (r < 2) ⌝ }

@@ -3,13 +3,13 @@ use Prim.Native.Nat.{ℕ, _^_}
 use mathlib.Core.Bool.{Bool, true, false}
 use mathlib.Core.Path.{_≡_, refl, sym, ap, _∙_}
 use lib.ListN.{length, getD}
-use Rattle.decoder.specs.declared.Special.{Special}
-use Rattle.decoder.specs.declared.AccessKind.{AccessKind}
-use Rattle.decoder.specs.declared.LoadWidth.{LoadWidth}
-use Rattle.decoder.specs.declared.StoreWidth.{StoreWidth}
+use Rattle.isa.specs.declared.Special.{Special}
+use Rattle.isa.specs.declared.AccessKind.{AccessKind}
+use Rattle.isa.specs.declared.LoadWidth.{LoadWidth}
+use Rattle.isa.specs.declared.StoreWidth.{StoreWidth}
 use Rattle.stack_cache.specs.declared.StackControl.{StackControl}
 use Rattle.stack_cache.specs.Stack.{topAfter, spillAfter}
-use Rattle.memory.specs.declared.Settings.{Settings}
+use Rattle.settings.specs.declared.Settings.{Settings}
 use Rattle.memory.specs.Access.{Buffers, loadScale, loadedValue, extended}
 use Rattle.effects.specs.declared.Transfer.{Transfer}
 use Rattle.effects.specs.declared.AluEffect.{AluEffect}
@@ -22,8 +22,8 @@ use Rattle.state.specs.declared.WaitingLoad.the-variants.{Nothing}
 use Rattle.state.specs.Writes.{writeAlu, nearer}
 use Rattle.bundle.specs.Bundle.{writeOne, onward}
 use Rattle.machine_laws.specs.StackKept.{Passed, passed-open}
-use Rattle.marking_rules.specs.declared.Marking.{Marking}
-use Rattle.marking_rules.specs.Marking.{privateStore, publicRegister, publicPredicate, publicSpecial}
+use Rattle.marking.specs.declared.Marking.{Marking}
+use Rattle.marking.specs.Marking.{privateStore, publicRegister, publicPredicate, publicSpecial}
 use Rattle.even_pace.specs.Terms.{SameState, SameBuffers}
 use Rattle.even_pace.specs.StateLaws.{state-refl, state-sym, state-trans, register-both, predicate-both}
 use Rattle.even_pace.specs.WriteLaws.{special-both, product-both, stack-both, load-both, register-quiet, predicate-quiet, product-quiet, special-quiet, load-quiet, waits-private, waits-none}

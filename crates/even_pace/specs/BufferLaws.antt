@@ -9,20 +9,20 @@ use borrow.Author.Tests.{leb-true, leb-false, ltb-true, ltb-false, lt-ltb, le-le
 use lib.Dec.{leb, ltb}
 use lib.ListN.{length, getD, drop}
 use lib.Seq.{getD-take, getD-drop}
-use Rattle.word.specs.Bytes.{numberAt}
-use Rattle.decoder.specs.declared.AccessKind.{AccessKind}
-use Rattle.decoder.specs.declared.AccessKind.the-variants.{Stack, Local, Cached, Main}
+use Rattle.big_endian.specs.Bytes.{numberAt}
+use Rattle.isa.specs.declared.AccessKind.{AccessKind}
+use Rattle.isa.specs.declared.AccessKind.the-variants.{Stack, Local, Cached, Main}
 use Rattle.stack_cache.specs.declared.StackControl.{StackControl}
 use Rattle.stack_cache.specs.Stack.{spills, fills, spilled, filled, cacheNumber, putCacheNumber}
 use Rattle.stack_cache.specs.StackLaws.{length-putCacheNumber}
 use Rattle.stack_cache.specs.RangeLaws.{and-right}
-use Rattle.memory.specs.declared.Settings.{Settings}
+use Rattle.settings.specs.declared.Settings.{Settings}
 use Rattle.memory.specs.Access.{Buffers, mainOpen, accessOpen, readNumber, stored}
 use Rattle.state.specs.State.{State}
 use Rattle.bundle.specs.Bundle.{area, stackMoved}
 use Rattle.machine_laws.specs.StackKept.{stackMoved-lengths, area-same, stackMoved-area, stackMoved-outside}
-use Rattle.marking_rules.specs.declared.Marking.{Marking}
-use Rattle.marking_rules.specs.Marking.{privateStore}
+use Rattle.marking.specs.declared.Marking.{Marking}
+use Rattle.marking.specs.Marking.{privateStore}
 use Rattle.even_pace.specs.Terms.{Same, privateByte, SameBuffers}
 use Rattle.even_pace.specs.SameLaws.{same-refl, same-sym, same-trans, same-public, same-whole, same-number, same-put, same-put-left}
 

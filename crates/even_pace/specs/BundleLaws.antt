@@ -5,17 +5,17 @@ use mathlib.Core.Bool.{Bool, true, false, false≢true}
 use mathlib.Core.List.{List}
 use mathlib.Core.Path.{_≡_, refl, sym, ap, subst, _∙_}
 use lib.ListN.{length, getD}
-use Rattle.decoder.specs.declared.Bundle.{Bundle}
-use Rattle.memory.specs.declared.Settings.{Settings}
+use Rattle.isa.specs.declared.Bundle.{Bundle}
+use Rattle.settings.specs.declared.Settings.{Settings}
 use Rattle.memory.specs.declared.Verdict.{Verdict}
 use Rattle.memory.specs.declared.Verdict.the-variants.{Fine as Passing, Refused}
-use Rattle.memory.specs.Answer.{Returned, done, refused}
+use Rattle.settings.specs.Answer.{Returned, done, refused}
 use Rattle.memory.specs.Access.{Buffers, verdict as verdictOf}
 use Rattle.effects.specs.Effect.{slotOne, slotTwo, isUndecodable}
 use Rattle.state.specs.State.{State, startOf}
 use Rattle.bundle.specs.Refusal.{effectTests}
 use Rattle.bundle.specs.Bundle.{written, countsOf, buffersAfter, Outcome, outcome, bundleAt, followingAt, refusedOr, bundle}
-use Rattle.marking_rules.specs.declared.Marking.{Marking}
+use Rattle.marking.specs.declared.Marking.{Marking}
 use Rattle.marking_rules.specs.declared.Rule.{Rule}
 use Rattle.marking_rules.specs.Rules.{breaks}
 use Rattle.marking_rules.specs.RuleLaws.{keeps-each}

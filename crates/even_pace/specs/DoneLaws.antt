@@ -5,7 +5,7 @@ use mathlib.Core.List.{List, []}
 use mathlib.Core.Path.{_≡_, refl, sym, ap, subst, _∙_}
 use lib.ListN.{length, getD}
 use Rattle.stack_cache.specs.declared.StackControl.{StackControl}
-use Rattle.memory.specs.declared.Settings.{Settings}
+use Rattle.settings.specs.declared.Settings.{Settings}
 use Rattle.memory.specs.Access.{Buffers, storeScale, verdict as verdictOf}
 use Rattle.effects.specs.declared.AluEffect.{AluEffect}
 use Rattle.effects.specs.declared.Effect.{Effect}
@@ -17,7 +17,7 @@ use Rattle.bundle.specs.Refusal.{effectTests}
 use Rattle.state.specs.Writes.{writeAlu}
 use Rattle.bundle.specs.Bundle.{writeOne, onward, written, buffersAfter, stackMoved, countsOf}
 use Rattle.machine_laws.specs.StackKept.{Passed, passed-open}
-use Rattle.marking_rules.specs.declared.Marking.{Marking}
+use Rattle.marking.specs.declared.Marking.{Marking}
 use Rattle.even_pace.specs.Terms.{SameState, SameBuffers, Agree}
 use Rattle.even_pace.specs.FlowLaws.{landed-both, landed-predicates, landed-none}
 use Rattle.even_pace.specs.BufferLaws.{buffers-refl, buffers-sym, buffers-trans, store-both, store-quiet, moved-both}

@@ -8,13 +8,13 @@ use mathlib.Core.Option.{some}
 use mathlib.Core.Path.{_≡_, refl, sym, ap, subst, _∙_}
 use native.Mathlib.Omega.{arith}
 use lib.ListN.{getElem?}
-use Rattle.memory.specs.Answer.{Returned, ended, refused}
+use Rattle.settings.specs.Answer.{Returned, ended, refused}
 use Rattle.state.specs.State.{State}
 use Rattle.state.specs.declared.WaitingLoad.the-variants as load
 use Rattle.bundle.specs.declared.Counts.{Counts}
 use Rattle.bundle.specs.Bundle.{noCounts, bundleAt, step}
 use Rattle.run.specs.Run.{run, Tried, triedAt, tries}
-use Rattle.marking_rules.specs.Marking.{publicRegister}
+use Rattle.marking.specs.Marking.{publicRegister}
 use Rattle.single_path.specs.Check.{Walked, first, accepted}
 use Rattle.single_path.specs.WalkLaws.{walked-inside}
 use Rattle.even_pace.specs.Terms.{Agree, hasPrivateAccess, Stops, not-walked, refused-access, SameTried, StopsAt, EvenPace}

@@ -5,15 +5,14 @@ use mathlib.Core.List.{List, [], _∷_, map}
 use mathlib.Core.Path.{_≡_, refl, sym}
 use lib.ListN.{getD, replicate}
 use Rattle.word.specs.Word.{signed, lessSigned, lessEqualSigned, shiftRightSigned, copyBit, productSigned, signExtend}
-use Rattle.word.specs.Bytes.{numberAt, putNumber}
+use Rattle.big_endian.specs.Bytes.{numberAt, putNumber}
 use Rattle.alu.specs.Alu.{arithmetic, multiply, compare, combine}
-use Rattle.decoder.specs.Format.{reading, row}
+use Rattle.isa.specs.Format.{reading, row}
 use Rattle.decoder.specs.Decode as decoder
 use Rattle.decoder.specs.Decode.{bundleWords, guardOf, slotTwo, decode}
-use Rattle.stack_cache.specs.Stack.{isCacheSize, cacheWord, putCacheWord, partOf, putPart, cacheNumber, putCacheNumber, below, spillWhile, fillWhile}
-use Rattle.stack_cache.specs.Stack.{topAfter, spills, fills, spillAfter, badWindow, badAmount, every, movedOutside, spilled, filled}
-use Rattle.memory.specs.Answer.{Returned}
-use Rattle.memory.specs.Settings.{admits}
+use Rattle.stack_cache.specs.Stack.{isCacheSize, cacheWord, putCacheWord, partOf, putPart, cacheNumber, putCacheNumber, below, spillWhile, fillWhile, topAfter, spills, fills, spillAfter, badWindow, badAmount, every, movedOutside, spilled, filled}
+use Rattle.settings.specs.Answer.{Returned}
+use Rattle.settings.specs.Settings.{admits}
 use Rattle.memory.specs.Access.{Buffers, buffers, loadScale, storeScale, readNumber, extended, loadedValue, stored, mainOpen, accessOpen, verdict}
 use Rattle.effects.specs.Effect.{predicatesWord, special, op2Value, aluEffect, accessAddress, amountWords, amountAligned, stackEffect, transferOf, effectOf, slotOneEffect, slotTwoEffect}
 use Rattle.state.specs.State.{State, Shaped, state, specials, withRegister, withPredicate, predicatesOf, withSpecial, landed, transferred, wellFormed, ended as hasEnded}
@@ -24,9 +23,9 @@ use Rattle.bundle.specs.Refusal.{outsideCode}
 use Rattle.bundle.specs.Bundle.{stackMoved, buffersAfter, writeOne, written, bundleAt, noCounts, bundle, readiness, step}
 use Rattle.state.specs.Writes.{writeAlu, delaySlots}
 use Rattle.run.specs.Run.{run, Tried, tries}
-use Rattle.marking_rules.specs.declared.Marking.{Marking}
+use Rattle.marking.specs.declared.Marking.{Marking}
 use Rattle.marking_rules.specs.declared.Rule.the-variants.{A, B, C, D, E}
-use Rattle.marking_rules.specs.Marking.{privateStore, some as someOf, markingOk}
+use Rattle.marking.specs.Marking.{privateStore, some as someOf, markingOk}
 use Rattle.marking_rules.specs.Rules.{asked, breaksA, breaksB, breaksC, breaksD, breaksE, operationBreaks, breaks, keeps}
 use Rattle.single_path.specs.Check.{CheckAnswer, walkFrom, checked}
 use Rattle.even_pace.specs.Terms.{Agree, hasPrivateAccess}

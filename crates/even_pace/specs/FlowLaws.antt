@@ -12,8 +12,8 @@ use Rattle.state.specs.declared.WaitingTransfer.the-variants as transfer
 use Rattle.state.specs.declared.WaitingLoad.{WaitingLoad}
 use Rattle.state.specs.declared.WaitingLoad.the-variants.{Nothing, Waits}
 use Rattle.state.specs.Writes.{delaySlots, nearer, begun}
-use Rattle.marking_rules.specs.declared.Marking.{Marking}
-use Rattle.marking_rules.specs.Marking.{publicRegister}
+use Rattle.marking.specs.declared.Marking.{Marking}
+use Rattle.marking.specs.Marking.{publicRegister}
 use Rattle.even_pace.specs.Terms.{SameState}
 use Rattle.even_pace.specs.StateLaws.{state-sym, state-trans, register-both, with-loads}
 use Rattle.even_pace.specs.WriteLaws.{register-quiet, waits-private, waits-none}

@@ -9,7 +9,7 @@ use native.Mathlib.Omega.{arith}
 use lib.ListN.{length}
 use Rattle.bundle.specs.Bundle.{Outcome}
 use Rattle.run.specs.Run.{plus, counted, Tried}
-use Rattle.marking_rules.specs.declared.Marking.{Marking}
+use Rattle.marking.specs.declared.Marking.{Marking}
 use Rattle.even_pace.specs.Terms.{Stops, SameTried, EvenAt, StopsAt}
 use Rattle.even_pace.specs.BundleLaws.{SameOutcome}
 

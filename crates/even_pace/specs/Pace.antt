@@ -6,10 +6,10 @@ use mathlib.Core.Logic.{_⊎_, inl, inr}
 use mathlib.Core.Path.{_≡_, refl, sym, ap, subst, _∙_}
 use lib.Dec.{eqb}
 use lib.ListN.{length}
-use Rattle.memory.specs.declared.Settings.{Settings}
-use Rattle.memory.specs.Answer.{Returned, accepted, done, ended, spent, refused}
-use Rattle.memory.specs.Settings.{admits}
-use Rattle.memory.specs.SettingsLaws.{area-ordered, area-inside}
+use Rattle.settings.specs.declared.Settings.{Settings}
+use Rattle.settings.specs.Answer.{Returned, accepted, done, ended, spent, refused}
+use Rattle.settings.specs.Settings.{admits}
+use Rattle.settings.specs.SettingsLaws.{area-ordered, area-inside}
 use Rattle.memory.specs.Access.{Buffers}
 use Rattle.state.specs.State.{State, Shaped, noneWaits, wellFormed, ended as hasEnded}
 use Rattle.bundle.specs.declared.Counts.{Counts}
@@ -18,7 +18,7 @@ use Rattle.machine_laws.specs.StepCases.{isDone}
 use Rattle.machine_laws.specs.KeptLaws.{well-formed-parts, bundle-shaped}
 use Rattle.machine_laws.specs.StackKept.{bundle-lengths}
 use Rattle.run.specs.Run.{plus, counted, run, Tried, triedAt, tries}
-use Rattle.marking_rules.specs.declared.Marking.{Marking}
+use Rattle.marking.specs.declared.Marking.{Marking}
 use Rattle.single_path.specs.Check.{Walked, settings}
 use Rattle.single_path.specs.WalkLaws.{walked-decided}
 use Rattle.single_path.specs.CheckLaws.{Fine}

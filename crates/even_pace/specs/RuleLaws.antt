@@ -13,23 +13,23 @@ use mir.Syntax.{w32}
 use mir.Val.{ofZ}
 use Rattle.word.specs.Word.{add, shiftLeft, copyBit}
 use Rattle.alu.specs.Alu.{arithmetic, multiply, compare, combine}
-use Rattle.decoder.specs.declared.PredicateOperand.{PredicateOperand}
-use Rattle.decoder.specs.declared.MultiplyFunction.{MultiplyFunction}
-use Rattle.decoder.specs.declared.Op2.{Op2}
-use Rattle.decoder.specs.declared.Op2.the-variants as op2
-use Rattle.decoder.specs.declared.AluOperation.{AluOperation}
-use Rattle.decoder.specs.declared.AluOperation.the-variants.{Arithmetic, Compare, Predicate, BitCopy}
-use Rattle.decoder.specs.declared.Special.{Special}
-use Rattle.decoder.specs.declared.Special.the-variants.{S0, Sl, Sh, Ss, St, Srb, Sro, Sxb, Sxo}
-use Rattle.decoder.specs.declared.AccessKind.{AccessKind}
-use Rattle.decoder.specs.declared.StackAmount.{StackAmount}
-use Rattle.decoder.specs.declared.StackAmount.the-variants.{Words, Register}
-use Rattle.decoder.specs.declared.StackOperation.{StackOperation}
-use Rattle.decoder.specs.declared.StackOperation.the-variants.{Sres, Sens, Sfree, Sspill}
-use Rattle.decoder.specs.declared.Target.{Target}
-use Rattle.decoder.specs.declared.Target.the-variants.{Call, CallRegister, Br, BrRegister, Brcf, BrcfRegister, Ret}
-use Rattle.decoder.specs.declared.Operation.{Operation}
-use Rattle.decoder.specs.declared.Operation.the-variants.{Alu, Multiply, Mts, Mfs, Load, Store, StackControl, Transfer, Trap, Xret}
+use Rattle.isa.specs.declared.PredicateOperand.{PredicateOperand}
+use Rattle.isa.specs.declared.MultiplyFunction.{MultiplyFunction}
+use Rattle.isa.specs.declared.Op2.{Op2}
+use Rattle.isa.specs.declared.Op2.the-variants as op2
+use Rattle.isa.specs.declared.AluOperation.{AluOperation}
+use Rattle.isa.specs.declared.AluOperation.the-variants.{Arithmetic, Compare, Predicate, BitCopy}
+use Rattle.isa.specs.declared.Special.{Special}
+use Rattle.isa.specs.declared.Special.the-variants.{S0, Sl, Sh, Ss, St, Srb, Sro, Sxb, Sxo}
+use Rattle.isa.specs.declared.AccessKind.{AccessKind}
+use Rattle.isa.specs.declared.StackAmount.{StackAmount}
+use Rattle.isa.specs.declared.StackAmount.the-variants.{Words, Register}
+use Rattle.isa.specs.declared.StackOperation.{StackOperation}
+use Rattle.isa.specs.declared.StackOperation.the-variants.{Sres, Sens, Sfree, Sspill}
+use Rattle.isa.specs.declared.Target.{Target}
+use Rattle.isa.specs.declared.Target.the-variants.{Call, CallRegister, Br, BrRegister, Brcf, BrcfRegister, Ret}
+use Rattle.isa.specs.declared.Operation.{Operation}
+use Rattle.isa.specs.declared.Operation.the-variants.{Alu, Multiply, Mts, Mfs, Load, Store, StackControl, Transfer, Trap, Xret}
 use Rattle.stack_cache.specs.RangeLaws.{or-left, or-right}
 use Rattle.stack_cache.specs.declared.StackControl.the-variants as control
 use Rattle.memory.specs.Access.{loadScale, storeScale}
@@ -39,8 +39,8 @@ use Rattle.effects.specs.declared.Transfer as declared
 use Rattle.effects.specs.declared.Transfer.the-variants as transfer
 use Rattle.effects.specs.Effect.{holds, op2Value, predicatesWord, special as specialValue, aluEffect, address, accessAddress, amountWords, amountAligned, stackEffect, transferOf, effectOf, bytesOf}
 use Rattle.state.specs.State.{State, startOf}
-use Rattle.marking_rules.specs.declared.Marking.{Marking}
-use Rattle.marking_rules.specs.Marking.{privateRegister, privatePredicate, privateOperand, privateSpecial}
+use Rattle.marking.specs.declared.Marking.{Marking}
+use Rattle.marking.specs.Marking.{privateRegister, privatePredicate, privateOperand, privateSpecial}
 use Rattle.marking_rules.specs.Rules.{asked, breaksA, breaksB, breaksC, breaksD, breaksE, privateOp2, privateAmount}
 use Rattle.marking_rules.specs.RuleLaws.{stack-row, transfer-row}
 use Rattle.even_pace.specs.Terms.{SameState}

@@ -9,8 +9,8 @@ use borrow.Author.Tests.{not-false}
 use lib.Dec.{eqb}
 use lib.ListN.{length, getD, set, length-set}
 use lib.Seq.{getD-set-same, getD-set-other, set-out, ext-getD}
-use Rattle.word.specs.Bytes.{numberAt, putNumber}
-use Rattle.word.specs.BytesLaws.{number-same}
+use Rattle.big_endian.specs.Bytes.{numberAt, putNumber}
+use Rattle.big_endian.specs.BytesLaws.{number-same}
 use Rattle.even_pace.specs.Terms.{Same}
 
 module _ {A : Type 0} {private : ℕ → Bool} {d : A} {l₁ l₂ : List A} (s : Same private d l₁ l₂) where

@@ -2,14 +2,14 @@
 use mathlib.Core.Bool.{Bool, true, false, cond, _&&_, false≢true}
 use mathlib.Core.Path.{_≡_, refl, sym, _∙_}
 use lib.ListN.{length}
-use Rattle.decoder.specs.declared.Operation.{Operation}
-use Rattle.decoder.specs.declared.Operation.the-variants.{Alu, Multiply, Mts, Mfs, Load, Store, StackControl, Transfer, Trap, Xret}
-use Rattle.decoder.specs.declared.Instruction.{Instruction}
-use Rattle.decoder.specs.declared.AluInstruction.{AluInstruction}
-use Rattle.decoder.specs.declared.Bundle.{Bundle}
-use Rattle.decoder.specs.declared.Bundle.the-variants.{Undecodable, One, Two, Long}
+use Rattle.isa.specs.declared.Operation.{Operation}
+use Rattle.isa.specs.declared.Operation.the-variants.{Alu, Multiply, Mts, Mfs, Load, Store, StackControl, Transfer, Trap, Xret}
+use Rattle.isa.specs.declared.Instruction.{Instruction}
+use Rattle.isa.specs.declared.AluInstruction.{AluInstruction}
+use Rattle.isa.specs.declared.Bundle.{Bundle}
+use Rattle.isa.specs.declared.Bundle.the-variants.{Undecodable, One, Two, Long}
 use Rattle.stack_cache.specs.RangeLaws.{or-left, or-right}
-use Rattle.memory.specs.declared.Settings.{Settings}
+use Rattle.settings.specs.declared.Settings.{Settings}
 use Rattle.memory.specs.declared.Verdict.the-variants as verdict
 use Rattle.memory.specs.Access.{verdict as verdictOf}
 use Rattle.effects.specs.declared.AluEffect.the-variants as alu
@@ -18,10 +18,10 @@ use Rattle.effects.specs.declared.Effect.the-variants as effect
 use Rattle.effects.specs.Effect.{holds, aluEffect, effectOf, slotOneEffect, slotTwoEffect, slotOne, slotTwo, isUndecodable}
 use Rattle.state.specs.State.{State, startOf}
 use Rattle.bundle.specs.Refusal.{effectTests}
-use Rattle.marking_rules.specs.declared.Marking.{Marking}
+use Rattle.marking.specs.declared.Marking.{Marking}
 use Rattle.marking_rules.specs.declared.Rule.{Rule}
 use Rattle.marking_rules.specs.declared.Rule.the-variants as rule
-use Rattle.marking_rules.specs.Marking.{privateGuard}
+use Rattle.marking.specs.Marking.{privateGuard}
 use Rattle.marking_rules.specs.Rules.{asked, breaksA, breaksB, operationBreaks, instructionBreaks, breaks}
 use Rattle.even_pace.specs.Terms.{SameState, privateAccess, hasPrivateAccess}
 use Rattle.even_pace.specs.Alike.{SameEffect, of-alu, no-write, QuietAlu, quiet-none, QuietEffect, quiet-alu, AlikeAlu, same-alu, both-quiet}

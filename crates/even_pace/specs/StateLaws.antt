@@ -11,8 +11,8 @@ use Rattle.effects.specs.declared.Specials.{Specials}
 use Rattle.state.specs.State.{State, state, withRegister, withPredicate, withLoad, withPredicates, withSpecials}
 use Rattle.state.specs.declared.WaitingLoad.{WaitingLoad}
 use Rattle.state.specs.declared.WaitingLoad.the-variants.{Nothing, Waits}
-use Rattle.marking_rules.specs.declared.Marking.{Marking}
-use Rattle.marking_rules.specs.Marking.{privateRegister, privatePredicate, publicRegister, publicPredicate, some}
+use Rattle.marking.specs.declared.Marking.{Marking}
+use Rattle.marking.specs.Marking.{privateRegister, privatePredicate, publicRegister, publicPredicate, some}
 use Rattle.even_pace.specs.Terms.{Same, SameSpecials, SameState}
 use Rattle.even_pace.specs.SameLaws.{same-refl, same-sym, same-trans, same-write}
 

@@ -7,7 +7,7 @@ use Rattle.memory.specs.Access.{Buffers}
 use Rattle.state.specs.State.{State, Shaped, wellFormed}
 use Rattle.bundle.specs.Bundle.{noCounts}
 use Rattle.run.specs.Run.{run, tries}
-use Rattle.marking_rules.specs.declared.Marking.{Marking}
+use Rattle.marking.specs.declared.Marking.{Marking}
 use Rattle.even_pace.specs.Terms.{Accepted, Agree, EvenPace}
 
 -- Take accepted code, and two runs of it whose settings, marking and budget are the same. If both first states are well formed and all

@@ -5,17 +5,17 @@ use mathlib.Core.List.{List}
 use mathlib.Core.Logic.{_⊎_, inl, inr}
 use mathlib.Core.Path.{_≡_, refl, sym, ap, _∙_}
 use lib.Dec.{eqb}
-use Rattle.decoder.specs.declared.AccessKind.{AccessKind}
-use Rattle.decoder.specs.declared.Operation.{Operation}
-use Rattle.decoder.specs.declared.Operation.the-variants.{Alu, Multiply, Mts, Mfs, Load, Store, StackControl, Transfer, Trap, Xret}
-use Rattle.decoder.specs.declared.Instruction.{Instruction}
-use Rattle.decoder.specs.declared.Bundle.{Bundle}
-use Rattle.decoder.specs.declared.Bundle.the-variants.{Undecodable, One, Two, Long}
+use Rattle.isa.specs.declared.AccessKind.{AccessKind}
+use Rattle.isa.specs.declared.Operation.{Operation}
+use Rattle.isa.specs.declared.Operation.the-variants.{Alu, Multiply, Mts, Mfs, Load, Store, StackControl, Transfer, Trap, Xret}
+use Rattle.isa.specs.declared.Instruction.{Instruction}
+use Rattle.isa.specs.declared.Bundle.{Bundle}
+use Rattle.isa.specs.declared.Bundle.the-variants.{Undecodable, One, Two, Long}
 use Rattle.stack_cache.specs.RangeLaws.{and-right}
-use Rattle.memory.specs.declared.Settings.{Settings}
+use Rattle.settings.specs.declared.Settings.{Settings}
 use Rattle.memory.specs.declared.Verdict.{Verdict}
 use Rattle.memory.specs.declared.Verdict.the-variants.{Fine as Passing, Refused}
-use Rattle.memory.specs.Answer.{Returned, accepted, done, ended, spent, refused}
+use Rattle.settings.specs.Answer.{Returned, accepted, done, ended, spent, refused}
 use Rattle.memory.specs.Access.{Buffers, verdict as verdictOf, loadScale, storeScale, badAccess, mainReadable, mainWritable, accessOpen, accessTests}
 use Rattle.effects.specs.declared.AluEffect.the-variants as alu
 use Rattle.effects.specs.declared.Effect.the-variants as effect
@@ -23,9 +23,9 @@ use Rattle.effects.specs.Effect.{holds, address, effectOf, slotOneEffect, slotO
 use Rattle.state.specs.State.{State, startOf}
 use Rattle.bundle.specs.Refusal.{effectTests}
 use Rattle.bundle.specs.Bundle.{Outcome, bundleAt, followingAt, refusedOr, bundle}
-use Rattle.marking_rules.specs.declared.Marking.{Marking}
-use Rattle.marking_rules.specs.declared.asked.Asked.{Asked}
-use Rattle.marking_rules.specs.Marking.{privateGuard}
+use Rattle.marking.specs.declared.Marking.{Marking}
+use Rattle.marking_rules.specs.declared.Asked.{Asked}
+use Rattle.marking.specs.Marking.{privateGuard}
 use Rattle.marking_rules.specs.Rules.{asked}
 use Rattle.marking_rules.specs.RuleLaws.{alu-row, stack-row, transfer-row}
 use Rattle.single_path.specs.CheckLaws.{Fine}

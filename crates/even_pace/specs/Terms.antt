@@ -7,23 +7,23 @@ use mathlib.Core.Option.{some}
 use mathlib.Core.Path.{_≡_}
 use lib.Dec.{leb, ltb}
 use lib.ListN.{length, getD, getElem?}
-use Rattle.decoder.specs.declared.Instruction.{Instruction}
-use Rattle.decoder.specs.declared.Bundle.{Bundle}
-use Rattle.decoder.specs.declared.Bundle.the-variants.{Undecodable, One, Two, Long}
-use Rattle.memory.specs.Answer.{Returned, refused}
+use Rattle.isa.specs.declared.Instruction.{Instruction}
+use Rattle.isa.specs.declared.Bundle.{Bundle}
+use Rattle.isa.specs.declared.Bundle.the-variants.{Undecodable, One, Two, Long}
+use Rattle.settings.specs.Answer.{Returned, refused}
 use Rattle.memory.specs.Access.{Buffers}
 use Rattle.effects.specs.declared.Specials.{Specials}
 use Rattle.state.specs.State.{State}
 use Rattle.state.specs.declared.WaitingLoad.the-variants.{Waits}
 use Rattle.bundle.specs.Bundle.{bundleAt}
 use Rattle.run.specs.Run.{Tried}
-use Rattle.marking_rules.specs.declared.Marking.{Marking}
-use Rattle.marking_rules.specs.Marking.{privateRegister, privatePredicate, privateGuard, publicRegister}
+use Rattle.marking.specs.declared.Marking.{Marking}
+use Rattle.marking.specs.Marking.{privateRegister, privatePredicate, privateGuard, publicRegister}
 use Rattle.marking_rules.specs.Rules.{asked}
 use Rattle.single_path.specs.Check.{Walked, accepted, checked}
 
--- Terms that stand elsewhere: `settings` and `Walked` (single_path, Check), `privateGuard` (marking_rules, Marking), well formed as
--- `wellFormed` (machine, State), and the bundles that a run tries as `tries` (run, Run).
+-- Terms that stand elsewhere: `settings` and `Walked` (single_path, Check), `privateGuard` (marking, Marking), well formed as
+-- `wellFormed` (state, State), and the bundles that a run tries as `tries` (run, Run).
 
 -- Accepted code: the check of it answers so under the settings and the marking. The lengths are those of what is lent.
 abbrev pub Accepted : List ℕ → ℕ → ℕ → Marking → Buffers → Type 0

@@ -8,12 +8,12 @@ use mathlib.Core.Path.{_≡_, refl}
 use lib.ListN.{length, getElem?}
 use Rattle.stack_cache.specs.RangeLaws.{and-left}
 use Rattle.memory.specs.Access.{Buffers}
-use Rattle.memory.specs.Settings.{admits}
+use Rattle.settings.specs.Settings.{admits}
 use Rattle.state.specs.State.{State, Shaped, wellFormed}
 use Rattle.bundle.specs.Bundle.{Outcome, noCounts}
 use Rattle.run.specs.Run.{run, Tried, tries}
-use Rattle.marking_rules.specs.declared.Marking.{Marking}
-use Rattle.marking_rules.specs.Marking.{markingOk}
+use Rattle.marking.specs.declared.Marking.{Marking}
+use Rattle.marking.specs.Marking.{markingOk}
 use Rattle.single_path.specs.Check.{settings}
 use Rattle.single_path.specs.CheckLaws.{accepted-passes, accepted-fine}
 use Rattle.even_pace.specs.Terms.{Accepted, Agree, Stops, EvenPace}

@@ -4,8 +4,8 @@ use mathlib.Core.Bool.{true, false, cond}
 use mathlib.Core.List.{List, [], _∷_}
 use mathlib.Core.Path.{_≡_, refl, ap}
 use lib.ListN.{length}
-use Rattle.memory.specs.Answer.{Returned, accepted, done, ended, spent, refused}
-use Rattle.memory.specs.Settings.{admits}
+use Rattle.settings.specs.Answer.{Returned, accepted, done, ended, spent, refused}
+use Rattle.settings.specs.Settings.{admits}
 use Rattle.memory.specs.Access.{Buffers}
 use Rattle.state.specs.State.{State, wellFormed, ended as hasEnded}
 use Rattle.bundle.specs.declared.Counts.{Counts}

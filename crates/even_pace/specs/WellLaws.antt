@@ -6,18 +6,18 @@ use mathlib.Core.Option.{Option, none, some}
 use mathlib.Core.Path.{_≡_, refl}
 use native.Mathlib.Omega.{arith}
 use borrow.Author.Tests.{le-leb}
-use Rattle.word.specs.Bytes.{wordAt}
-use Rattle.decoder.specs.declared.PredicateOperand.{PredicateOperand}
-use Rattle.decoder.specs.declared.AluOperation.{AluOperation}
-use Rattle.decoder.specs.declared.StackOperation.the-variants.{Sres, Sens, Sfree, Sspill}
-use Rattle.decoder.specs.declared.Operation.{Operation}
-use Rattle.decoder.specs.declared.Operation.the-variants.{Alu, Multiply, Mts, Mfs, Load, Store, StackControl, Transfer, Trap, Xret}
-use Rattle.decoder.specs.Decode.{isTwoWords, guardOf, slotOne as firstSlot, slotTwo as secondSlot, one, two, long, applied, decode}
-use Rattle.decoder.specs.Formats.{longFormats}
-use Rattle.decoder.specs.Format.{reading}
+use Rattle.big_endian.specs.Bytes.{wordAt}
+use Rattle.isa.specs.declared.PredicateOperand.{PredicateOperand}
+use Rattle.isa.specs.declared.AluOperation.{AluOperation}
+use Rattle.isa.specs.declared.StackOperation.the-variants.{Sres, Sens, Sfree, Sspill}
+use Rattle.isa.specs.declared.Operation.{Operation}
+use Rattle.isa.specs.declared.Operation.the-variants.{Alu, Multiply, Mts, Mfs, Load, Store, StackControl, Transfer, Trap, Xret}
+use Rattle.decoder.specs.Decode.{isTwoWords, guardOf, slotOne as firstSlot, slotTwo as secondSlot, one, two, long, decode}
+use Rattle.isa.specs.Formats.{longFormats, applied}
+use Rattle.isa.specs.Format.{reading}
 use Rattle.decoder_laws.specs.Ranges.{OperationInRange}
 use Rattle.decoder_laws.specs.RangeLaws.{IfSome, slot-one-in-range}
-use Rattle.memory.specs.declared.Settings.{Settings}
+use Rattle.settings.specs.declared.Settings.{Settings}
 use Rattle.memory.specs.Access.{Buffers}
 use Rattle.effects.specs.declared.AluEffect.the-variants as alu
 use Rattle.effects.specs.declared.Effect.the-variants as effect

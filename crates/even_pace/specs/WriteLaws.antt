@@ -8,13 +8,13 @@ use native.Mathlib.Decide.{decLt}
 use borrow.Author.Tests.{not-false}
 use lib.Dec.{eqb·suc-zero}
 use lib.ListN.{length, getD, List·getD-eq-default}
-use Rattle.decoder.specs.declared.Special.{Special}
-use Rattle.decoder.specs.declared.Special.the-variants.{S0, Sl, Sh, Ss, St, Srb, Sro, Sxb, Sxo}
+use Rattle.isa.specs.declared.Special.{Special}
+use Rattle.isa.specs.declared.Special.the-variants.{S0, Sl, Sh, Ss, St, Srb, Sro, Sxb, Sxo}
 use Rattle.state.specs.State.{State, withRegister, withPredicate, withSpecial, withProduct, withStack, withLoad, predicatesOf}
 use Rattle.state.specs.declared.WaitingLoad.{WaitingLoad}
 use Rattle.state.specs.declared.WaitingLoad.the-variants.{Nothing, Waits}
-use Rattle.marking_rules.specs.declared.Marking.{Marking}
-use Rattle.marking_rules.specs.Marking.{privatePredicate, publicRegister, publicPredicate, publicSpecial}
+use Rattle.marking.specs.declared.Marking.{Marking}
+use Rattle.marking.specs.Marking.{privatePredicate, publicRegister, publicPredicate, publicSpecial}
 use Rattle.even_pace.specs.Terms.{Same, SameState}
 use Rattle.even_pace.specs.SameLaws.{same-refl, same-write-left}
 use Rattle.even_pace.specs.StateLaws.{state-refl, waitingRegister, some-none, with-registers, with-predicates, with-specials, with-loads}

@@ -6,8 +6,8 @@ use mathlib.Core.List.{List}
 use lib.Dec.{leb}
 use lib.ListN.{length, replicate}
 use Rattle.word.specs.Word.{isMultipleOf4}
-use Rattle.memory.specs.Answer.{Returned, accepted, refused}
-use Rattle.memory.specs.Settings.{admits, settingsOf}
+use Rattle.settings.specs.Answer.{Returned, accepted, refused}
+use Rattle.settings.specs.Settings.{admits, settingsOf}
 use Rattle.state.specs.State.{State, fresh}
 use Rattle.machine.specs.Whole.{stateOf}
 use Rattle.machine.specs.declared.Opened as declared

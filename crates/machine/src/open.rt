@@ -4,14 +4,14 @@ ghost use mathlib.Core.List.{List};
 ghost use Prim.Native.Nat.{ℕ};
 ghost use lib.ListN.{length, replicate};
 ghost use Rattle.state.specs.State.{fresh};
-ghost use Rattle.memory.specs.Answer.{refused};
+ghost use Rattle.settings.specs.Answer.{refused};
 ghost use Rattle.machine.specs.Whole.{stateOf};
 ghost use Rattle.machine.specs.Open.{openOf, openWith, opening};
 use crate::Opened;
 use crate::Opening;
 use crate::State;
 use effects::Specials;
-use memory::Settings;
+use settings::Settings;
 use state::WaitingLoad;
 use state::WaitingTransfer;
 

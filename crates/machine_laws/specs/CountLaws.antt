@@ -15,9 +15,9 @@ use Rattle.stack_cache.specs.Stack.{badWindow, badAmount, below, spillWhile, fi
 use Rattle.stack_cache.specs.Count.{Accepted}
 use Rattle.stack_cache.specs.StackLaws.{length-below}
 use Rattle.stack_cache.specs.RangeLaws.{or-right}
-use Rattle.stack_cache.specs.PlanLaws.{accepted-window}
-use Rattle.memory.specs.declared.Settings.{Settings}
-use Rattle.memory.specs.SettingsLaws.{words-small}
+use Rattle.stack_control.specs.PlanLaws.{accepted-window}
+use Rattle.settings.specs.declared.Settings.{Settings}
+use Rattle.settings.specs.SettingsLaws.{words-small}
 use Rattle.memory.specs.Access.{Buffers}
 use Rattle.effects.specs.declared.Transfer.{Transfer}
 use Rattle.effects.specs.declared.Transfer.the-variants.{Br, Call, Block}

@@ -8,20 +8,20 @@ use borrow.Author.Tests.{leb-true, leb-false, le-leb, eq-eqb, eqb-true}
 use lib.Dec.{eqb, leb, eqb·suc-zero}
 use lib.ListN.{length, getD, set, length-set}
 use lib.Seq.{getD-set-other}
-use Rattle.word.specs.Bytes.{wordAt}
-use Rattle.word.specs.BytesLaws.{number-bound}
-use Rattle.decoder.specs.declared.Special.{Special}
-use Rattle.decoder.specs.declared.Special.the-variants.{S0, Sl, Sh, Ss, St, Srb, Sro, Sxb, Sxo}
-use Rattle.decoder.specs.declared.Operation.{Operation}
-use Rattle.decoder.specs.declared.Operation.the-variants as operation
-use Rattle.decoder.specs.declared.Instruction.{Instruction}
-use Rattle.decoder.specs.declared.StackOperation.the-variants.{Sres, Sens, Sfree, Sspill}
-use Rattle.decoder.specs.declared.Bundle.{Bundle}
-use Rattle.decoder.specs.declared.Bundle.the-variants.{Undecodable, One, Two, Long}
+use Rattle.big_endian.specs.Bytes.{wordAt}
+use Rattle.big_endian.specs.BytesLaws.{number-bound}
+use Rattle.isa.specs.declared.Special.{Special}
+use Rattle.isa.specs.declared.Special.the-variants.{S0, Sl, Sh, Ss, St, Srb, Sro, Sxb, Sxo}
+use Rattle.isa.specs.declared.Operation.{Operation}
+use Rattle.isa.specs.declared.Operation.the-variants as operation
+use Rattle.isa.specs.declared.Instruction.{Instruction}
+use Rattle.isa.specs.declared.StackOperation.the-variants.{Sres, Sens, Sfree, Sspill}
+use Rattle.isa.specs.declared.Bundle.{Bundle}
+use Rattle.isa.specs.declared.Bundle.the-variants.{Undecodable, One, Two, Long}
 use Rattle.decoder_laws.specs.Ranges.{OperationInRange, InstructionInRange, InRange}
 use Rattle.decoder_laws.specs.RangeLaws.{decode-in-range}
 use Rattle.stack_cache.specs.RangeLaws.{and-left, and-right}
-use Rattle.memory.specs.declared.Settings.{Settings}
+use Rattle.settings.specs.declared.Settings.{Settings}
 use Rattle.state.specs.State.{State, Shaped, startOf, state, withRegister, withPredicate, withPredicates, withSpecial, withSpecials, predicatesOf, withFlow, goingOn, landing, landed, transferred, loadOk, waitOk, wellFormed}
 use Rattle.effects.specs.declared.Transfer.{Transfer}
 use Rattle.effects.specs.declared.Transfer.the-variants.{Br, Call, Block}

@@ -12,26 +12,26 @@ use borrow.Rule.Slice.PartMut.{putMid, post-is, same-len-mid, mid-len, take-put,
 use lib.Dec.{leb, ltb}
 use lib.ListN.{length, getD, take, drop, length-take, length-drop}
 use lib.Seq.{length-take-le, getD-take, getD-drop, take-at, drop-at, ext-getD}
-use Rattle.word.specs.BytesLaws.{length-putNumber, byte-outside}
-use Rattle.decoder.specs.declared.AccessKind.{AccessKind}
-use Rattle.decoder.specs.declared.AccessKind.the-variants as kind
-use Rattle.decoder.specs.declared.LoadWidth.{LoadWidth}
-use Rattle.decoder.specs.declared.StoreWidth.{StoreWidth}
+use Rattle.big_endian.specs.BytesLaws.{length-putNumber, byte-outside}
+use Rattle.isa.specs.declared.AccessKind.{AccessKind}
+use Rattle.isa.specs.declared.AccessKind.the-variants as kind
+use Rattle.isa.specs.declared.LoadWidth.{LoadWidth}
+use Rattle.isa.specs.declared.StoreWidth.{StoreWidth}
 use Rattle.stack_cache.specs.declared.StackControl.{StackControl}
 use Rattle.stack_cache.specs.declared.Plan.the-variants.{Moves}
 use Rattle.stack_cache.specs.Stack.{spills, fills, spilled, topAfter, spillAfter, badWindow, inArea, spillOpen, fillOpen, every, movedOutside, planned}
 use Rattle.stack_cache.specs.Count.{Accepted}
-use Rattle.stack_cache.specs.PlanLaws.{spills-window, moves-window}
+use Rattle.stack_control.specs.PlanLaws.{spills-window, moves-window}
 use Rattle.stack_cache.specs.StackLaws.{length-putCacheNumber, length-spilled, length-filled}
 use Rattle.stack_cache.specs.RangeLaws.{and-left, and-right, every-at, in-area}
-use Rattle.memory.specs.declared.Settings.{Settings}
+use Rattle.settings.specs.declared.Settings.{Settings}
 use Rattle.state.specs.State.{State}
 use Rattle.effects.specs.declared.AluEffect.{AluEffect}
 use Rattle.effects.specs.declared.Effect.{Effect}
 use Rattle.effects.specs.declared.Effect.the-variants as effect
 use Rattle.memory.specs.declared.Verdict.the-variants as verdict
-use Rattle.memory.specs.Answer.{done}
-use Rattle.memory.specs.SettingsLaws.{area-ordered}
+use Rattle.settings.specs.Answer.{done}
+use Rattle.settings.specs.SettingsLaws.{area-ordered}
 use Rattle.memory.specs.Access.{Buffers, stored, storeScale, Test, verdict as verdictOf, mainOpen, mainWritable, accessOpen, accessTests}
 use Rattle.effects.specs.Effect.{isUndecodable}
 use Rattle.bundle.specs.Refusal.{effectTests, outsideCode}

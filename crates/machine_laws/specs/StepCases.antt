@@ -4,14 +4,14 @@ use mathlib.Core.Bool.{Bool, true, false, not, cond}
 use mathlib.Core.List.{List}
 use mathlib.Core.Path.{_≡_, refl, ap, _∙_}
 use lib.ListN.{length}
-use Rattle.memory.specs.declared.Settings.{Settings}
+use Rattle.settings.specs.declared.Settings.{Settings}
 use Rattle.state.specs.State.{State, startOf, wellFormed, ended as hasEnded}
 use Rattle.effects.specs.declared.Effect.{Effect}
 use Rattle.memory.specs.declared.Verdict.{Verdict}
 use Rattle.memory.specs.declared.Verdict.the-variants as verdict
 use Rattle.bundle.specs.declared.Readiness.the-variants as ready
-use Rattle.memory.specs.Answer.{Returned, accepted, done, ended, spent, refused}
-use Rattle.memory.specs.Settings.{admits}
+use Rattle.settings.specs.Answer.{Returned, accepted, done, ended, spent, refused}
+use Rattle.settings.specs.Settings.{admits}
 use Rattle.memory.specs.Access.{Buffers, verdict as verdictOf}
 use Rattle.effects.specs.Effect.{slotOne, slotTwo}
 use Rattle.bundle.specs.Refusal.{bundleTests}

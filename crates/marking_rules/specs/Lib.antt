@@ -1,4 +1,2 @@
-pub mod Marking
 pub mod Rules
 pub mod RuleLaws
-pub mod Found

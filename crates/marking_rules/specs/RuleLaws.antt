@@ -2,15 +2,15 @@
 use mathlib.Core.Bool.{Bool, true, false, _||_, false≢true}
 use mathlib.Core.Path.{_≡_, refl, sym}
 use borrow.Author.Tests.{not-true, not-false}
-use Rattle.decoder.specs.declared.AluOperation.{AluOperation}
-use Rattle.decoder.specs.declared.AluOperation.the-variants.{Arithmetic, Compare, Predicate, BitCopy}
-use Rattle.decoder.specs.declared.StackOperation.{StackOperation}
-use Rattle.decoder.specs.declared.StackOperation.the-variants.{Sres, Sens, Sfree, Sspill}
-use Rattle.decoder.specs.declared.Target.{Target}
-use Rattle.decoder.specs.declared.Target.the-variants.{Call, CallRegister, Br, BrRegister, Brcf, BrcfRegister, Ret}
-use Rattle.decoder.specs.declared.Operation.the-variants.{Alu, StackControl, Transfer}
-use Rattle.decoder.specs.declared.Bundle.{Bundle}
-use Rattle.marking_rules.specs.declared.Marking.{Marking}
+use Rattle.isa.specs.declared.AluOperation.{AluOperation}
+use Rattle.isa.specs.declared.AluOperation.the-variants.{Arithmetic, Compare, Predicate, BitCopy}
+use Rattle.isa.specs.declared.StackOperation.{StackOperation}
+use Rattle.isa.specs.declared.StackOperation.the-variants.{Sres, Sens, Sfree, Sspill}
+use Rattle.isa.specs.declared.Target.{Target}
+use Rattle.isa.specs.declared.Target.the-variants.{Call, CallRegister, Br, BrRegister, Brcf, BrcfRegister, Ret}
+use Rattle.isa.specs.declared.Operation.the-variants.{Alu, StackControl, Transfer}
+use Rattle.isa.specs.declared.Bundle.{Bundle}
+use Rattle.marking.specs.declared.Marking.{Marking}
 use Rattle.marking_rules.specs.declared.Rule.{Rule}
 use Rattle.marking_rules.specs.declared.Rule.the-variants.{A, B, C, D, E}
 use Rattle.marking_rules.specs.Rules.{result, controlling, asked, breaks, keeps}

@@ -1,22 +1,22 @@
 -- The marking rules A to E, judged on the instruction alone: no value is looked at.
 use mathlib.Core.Bool.{Bool, true, false, not, _&&_, _||_}
-use Rattle.decoder.specs.declared.Op2.{Op2}
-use Rattle.decoder.specs.declared.Op2.the-variants as op2
-use Rattle.decoder.specs.declared.AluOperation.the-variants.{Arithmetic, Compare, Predicate, BitCopy}
-use Rattle.decoder.specs.declared.StackAmount.{StackAmount}
-use Rattle.decoder.specs.declared.StackAmount.the-variants.{Words, Register}
-use Rattle.decoder.specs.declared.StackOperation.the-variants.{Sres, Sens, Sfree, Sspill}
-use Rattle.decoder.specs.declared.Target.the-variants.{Call, CallRegister, Br, BrRegister, Brcf, BrcfRegister, Ret}
-use Rattle.decoder.specs.declared.Operation.{Operation}
-use Rattle.decoder.specs.declared.Operation.the-variants.{Alu, Multiply, Mts, Mfs, Load, Store, StackControl, Transfer, Trap, Xret}
-use Rattle.decoder.specs.declared.Instruction.{Instruction}
-use Rattle.decoder.specs.declared.Bundle.{Bundle}
-use Rattle.decoder.specs.declared.Bundle.the-variants.{Undecodable, One, Two, Long}
-use Rattle.marking_rules.specs.declared.Marking.{Marking}
+use Rattle.isa.specs.declared.Op2.{Op2}
+use Rattle.isa.specs.declared.Op2.the-variants as op2
+use Rattle.isa.specs.declared.AluOperation.the-variants.{Arithmetic, Compare, Predicate, BitCopy}
+use Rattle.isa.specs.declared.StackAmount.{StackAmount}
+use Rattle.isa.specs.declared.StackAmount.the-variants.{Words, Register}
+use Rattle.isa.specs.declared.StackOperation.the-variants.{Sres, Sens, Sfree, Sspill}
+use Rattle.isa.specs.declared.Target.the-variants.{Call, CallRegister, Br, BrRegister, Brcf, BrcfRegister, Ret}
+use Rattle.isa.specs.declared.Operation.{Operation}
+use Rattle.isa.specs.declared.Operation.the-variants.{Alu, Multiply, Mts, Mfs, Load, Store, StackControl, Transfer, Trap, Xret}
+use Rattle.isa.specs.declared.Instruction.{Instruction}
+use Rattle.isa.specs.declared.Bundle.{Bundle}
+use Rattle.isa.specs.declared.Bundle.the-variants.{Undecodable, One, Two, Long}
+use Rattle.marking.specs.declared.Marking.{Marking}
 use Rattle.marking_rules.specs.declared.Rule.{Rule}
 use Rattle.marking_rules.specs.declared.Rule.the-variants.{A, B, C, D, E}
-use Rattle.marking_rules.specs.declared.asked.Asked.{Asked}
-use Rattle.marking_rules.specs.Marking.{privateRegister, privateOperand, privateGuard, privateStore, onSpecial, privateSpecial, publicRegister, publicPredicate, publicSpecial}
+use Rattle.marking_rules.specs.declared.Asked.{Asked}
+use Rattle.marking.specs.Marking.{privateRegister, privateOperand, privateGuard, privateStore, onSpecial, privateSpecial, publicRegister, publicPredicate, publicSpecial}
 
 -- A second operand, and an amount of stack control. Immediates are public.
 abbrev pub privateOp2 : Marking → Op2 → Bool

@@ -4,15 +4,15 @@ use mathlib.Core.Bool.{Bool, true, false, not, cond, _&&_}
 use mathlib.Core.List.{List, [], _∷_}
 use lib.Dec.{eqb, ltb, leb}
 use Rattle.word.specs.Word.{signExtend}
-use Rattle.word.specs.Bytes.{numberAt, putNumber}
-use Rattle.decoder.specs.declared.AccessKind.{AccessKind}
-use Rattle.decoder.specs.declared.AccessKind.the-variants.{Stack, Local, Cached, Main}
-use Rattle.decoder.specs.declared.LoadWidth.{LoadWidth}
-use Rattle.decoder.specs.declared.LoadWidth.the-variants.{Word, Half, Byte, HalfUnsigned, ByteUnsigned}
-use Rattle.decoder.specs.declared.StoreWidth.{StoreWidth}
-use Rattle.decoder.specs.declared.StoreWidth.the-variants as store
+use Rattle.big_endian.specs.Bytes.{numberAt, putNumber}
+use Rattle.isa.specs.declared.AccessKind.{AccessKind}
+use Rattle.isa.specs.declared.AccessKind.the-variants.{Stack, Local, Cached, Main}
+use Rattle.isa.specs.declared.LoadWidth.{LoadWidth}
+use Rattle.isa.specs.declared.LoadWidth.the-variants.{Word, Half, Byte, HalfUnsigned, ByteUnsigned}
+use Rattle.isa.specs.declared.StoreWidth.{StoreWidth}
+use Rattle.isa.specs.declared.StoreWidth.the-variants as store
 use Rattle.stack_cache.specs.Stack.{badWindow, cacheNumber, putCacheNumber}
-use Rattle.memory.specs.declared.Settings.{Settings}
+use Rattle.settings.specs.declared.Settings.{Settings}
 use Rattle.memory.specs.declared.Verdict.{Verdict}
 use Rattle.memory.specs.declared.Verdict.the-variants.{Fine, Refused}
 

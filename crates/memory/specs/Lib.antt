@@ -1,4 +1,1 @@
-pub mod Answer
-pub mod Settings
 pub mod Access
-pub mod SettingsLaws

@@ -1,25 +1,24 @@
 // Loads and stores, once they are judged. Cached and main are one memory.
 ghost use mathlib.Core.Path.{_≡_};
 ghost use Prim.Native.Nat.{_^_};
-ghost use Rattle.word.specs.Bytes.{numberAt, putNumber};
+ghost use Rattle.big_endian.specs.Bytes.{numberAt, putNumber};
 ghost use Rattle.stack_cache.specs.Stack.{cacheNumber, putCacheNumber};
 ghost use Rattle.memory.specs.Access.{loadScale, storeScale, buffers, extended, loadedValue, stored};
-use decoder::AccessKind;
-use decoder::LoadWidth;
-use decoder::StoreWidth;
+use isa::AccessKind;
+use isa::LoadWidth;
+use isa::StoreWidth;
 use stack_cache::access;
-use word::bytes;
 use word::sign;
 
 fn load_bytes(s: &[u8], width: LoadWidth, a: u32) -> u32
     ensures { λ r. ⌜ r ≡ extended width (numberAt (2 ^ loadScale width) (now (s .entry)) a) ⌝ }
 {
     match width {
-        LoadWidth::Word => bytes::read_word(s, a),
-        LoadWidth::Half => sign::sign_extend_16(bytes::read_half(s, a)),
-        LoadWidth::Byte => sign::sign_extend_8(bytes::read_byte(s, a)),
-        LoadWidth::HalfUnsigned => bytes::read_half(s, a),
-        LoadWidth::ByteUnsigned => bytes::read_byte(s, a),
+        LoadWidth::Word => big_endian::read_word(s, a),
+        LoadWidth::Half => sign::sign_extend_16(big_endian::read_half(s, a)),
+        LoadWidth::Byte => sign::sign_extend_8(big_endian::read_byte(s, a)),
+        LoadWidth::HalfUnsigned => big_endian::read_half(s, a),
+        LoadWidth::ByteUnsigned => big_endian::read_byte(s, a),
     }
 }
 
@@ -58,9 +57,9 @@ fn store_bytes(s: &mut [u8], width: StoreWidth, a: u32, v: u32)
     ensures { λ _. ⌜ now (s .exit) ≡ putNumber (2 ^ storeScale width) (now (s .entry)) a v ⌝ }
 {
     match width {
-        StoreWidth::Word => bytes::write_word(&mut *s, a, v),
-        StoreWidth::Half => bytes::write_half(&mut *s, a, v),
-        StoreWidth::Byte => bytes::write_byte(&mut *s, a, v),
+        StoreWidth::Word => big_endian::write_word(&mut *s, a, v),
+        StoreWidth::Half => big_endian::write_half(&mut *s, a, v),
+        StoreWidth::Byte => big_endian::write_byte(&mut *s, a, v),
     }
 }
 

@@ -2,13 +2,13 @@
 ghost use mathlib.Core.Path.{_≡_};
 ghost use Prim.Native.Nat.{_<_, _^_};
 ghost use Rattle.memory.specs.Access.{loadScale, storeScale, isStack, mainOpen, accessOpen, accessVerdict};
-use crate::Settings;
 use crate::Verdict;
 use crate::width::load_size;
 use crate::width::store_size;
-use decoder::AccessKind;
-use decoder::LoadWidth;
-use decoder::StoreWidth;
+use isa::AccessKind;
+use isa::LoadWidth;
+use isa::StoreWidth;
+use settings::Settings;
 
 // Whether an access of n bytes lies wholly inside main memory and touches no byte of the stack area.
 fn main_open(g: Settings, a: u32, n: u32) -> bool
@@ -51,7 +51,7 @@ fn judge(g: Settings, st: u32, ss: u32, kind: AccessKind, a: u32, n: u32) -> Ver
     if a % n != 0 {
         return Verdict::Refused(5);
     }
-    let bad = stack_cache::control::bad_window(g.words, st, ss);
+    let bad = stack_cache::window::bad_window(g.words, st, ss);
     if is_stack(kind) & bad {
         return Verdict::Refused(7);
     }

@@ -2,8 +2,8 @@
 ghost use mathlib.Core.Path.{_≡_};
 ghost use Prim.Native.Nat.{_<_, _^_};
 ghost use Rattle.memory.specs.Access.{loadScale, storeScale};
-use decoder::LoadWidth;
-use decoder::StoreWidth;
+use isa::LoadWidth;
+use isa::StoreWidth;
 
 // How many places an access's immediate is shifted: the access has 2 to that power bytes.
 pub fn load_scale(w: LoadWidth) -> u32

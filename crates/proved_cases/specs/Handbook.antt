@@ -4,17 +4,17 @@
 use Prim.Native.Nat.{ℕ}
 use mathlib.Core.List.{List, [], _∷_}
 use mathlib.Core.Path.{refl}
-use Rattle.decoder.specs.Format.{reading, row}
+use Rattle.isa.specs.Format.{reading, row}
 use Rattle.decoder.specs.Decode.{guardOf, slotOne, slotTwo, decode}
-use Rattle.decoder.specs.declared.AluFunction.the-variants.{Add, Sub, Nor}
-use Rattle.decoder.specs.declared.CompareFunction.the-variants.{Cmpneq, Btest}
-use Rattle.decoder.specs.declared.PredicateFunction.the-variants.{Por, Pxor}
-use Rattle.decoder.specs.declared.Op2.the-variants.{Register, Immediate, Long}
-use Rattle.decoder.specs.declared.AluOperation.{AluOperation}
-use Rattle.decoder.specs.declared.AluOperation.the-variants.{Arithmetic, Compare, Predicate, BitCopy}
-use Rattle.decoder.specs.declared.Operation.the-variants.{Alu}
-use Rattle.decoder.specs.declared.Bundle.{Bundle}
-use Rattle.decoder.specs.declared.Bundle.the-variants as bundle
+use Rattle.isa.specs.declared.AluFunction.the-variants.{Add, Sub, Nor}
+use Rattle.isa.specs.declared.CompareFunction.the-variants.{Cmpneq, Btest}
+use Rattle.isa.specs.declared.PredicateFunction.the-variants.{Por, Pxor}
+use Rattle.isa.specs.declared.Op2.the-variants.{Register, Immediate, Long}
+use Rattle.isa.specs.declared.AluOperation.{AluOperation}
+use Rattle.isa.specs.declared.AluOperation.the-variants.{Arithmetic, Compare, Predicate, BitCopy}
+use Rattle.isa.specs.declared.Operation.the-variants.{Alu}
+use Rattle.isa.specs.declared.Bundle.{Bundle}
+use Rattle.isa.specs.declared.Bundle.the-variants as bundle
 use Rattle.proved_cases.specs.Case.{Case, AllHold}
 use Rattle.proved_cases.specs.Words.{Pair, decoded, _is_, p, not-p, always}
 

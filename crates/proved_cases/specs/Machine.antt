@@ -5,7 +5,7 @@ use mathlib.Core.List.{List, [], _∷_, map}
 use mathlib.Core.Path.{refl}
 use Rattle.effects.specs.declared.Transfer.the-variants.{Br}
 use Rattle.state.specs.declared.WaitingTransfer.the-variants.{Nothing, Waits}
-use Rattle.memory.specs.Answer.{done, refused}
+use Rattle.settings.specs.Answer.{done, refused}
 use Rattle.bundle.specs.declared.Counts.{Counts}
 use Rattle.bundle.specs.Bundle.{noCounts}
 use Rattle.proved_cases.specs.Case.{Case, AllHold}

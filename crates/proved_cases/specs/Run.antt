@@ -4,21 +4,19 @@ use mathlib.Core.List.{List, [], _∷_, _++_, map}
 use mathlib.Core.Path.{_≡_, refl, ap}
 use lib.ListN.{length, replicate}
 use Rattle.word.specs.Word.{signed, lessSigned, lessEqualSigned, shiftRightSigned, copyBit, productSigned, signExtend}
-use Rattle.word.specs.Bytes.{numberAt, putNumber}
+use Rattle.big_endian.specs.Bytes.{numberAt, putNumber}
 use Rattle.alu.specs.Alu.{arithmetic, multiply, compare, combine}
-use Rattle.decoder.specs.Format.{reading, row}
+use Rattle.isa.specs.Format.{reading, row}
 use Rattle.decoder.specs.Decode as decoder
 use Rattle.decoder.specs.Decode.{bundleWords, guardOf, slotTwo, decode}
-use Rattle.stack_cache.specs.Stack.{isCacheSize, cacheWord, putCacheWord, partOf, putPart, cacheNumber, putCacheNumber, below, spillWhile, fillWhile}
-use Rattle.stack_cache.specs.Stack.{topAfter, spills, fills, spillAfter, badWindow, badAmount, every, movedOutside, spilled, filled}
+use Rattle.stack_cache.specs.Stack.{isCacheSize, cacheWord, putCacheWord, partOf, putPart, cacheNumber, putCacheNumber, below, spillWhile, fillWhile, topAfter, spills, fills, spillAfter, badWindow, badAmount, every, movedOutside, spilled, filled}
 use Rattle.state.specs.State.{State, startOf, withRegister, withPredicate, predicatesOf, withSpecial, withStack, landed, goingOn, transferred, wellFormed, ended as hasEnded, fresh}
 use Rattle.state.specs.declared.WaitingTransfer.{WaitingTransfer}
-use Rattle.memory.specs.Answer.{Returned, accepted, done, ended, spent, refused}
+use Rattle.settings.specs.Answer.{Returned, accepted, done, ended, spent, refused}
 use Rattle.bundle.specs.declared.Counts.{Counts}
-use Rattle.memory.specs.Settings.{admits}
+use Rattle.settings.specs.Settings.{admits}
 use Rattle.memory.specs.Access.{Buffers, buffers, loadScale, storeScale, readNumber, extended, loadedValue, stored, mainOpen, accessOpen, verdict}
-use Rattle.effects.specs.Effect.{predicatesWord, special, op2Value, aluEffect, accessAddress, amountWords, amountAligned, stackEffect, transferOf, effectOf}
-use Rattle.effects.specs.Effect.{slotOneEffect, slotTwoEffect, slotOne, onEffect}
+use Rattle.effects.specs.Effect.{predicatesWord, special, op2Value, aluEffect, accessAddress, amountWords, amountAligned, stackEffect, transferOf, effectOf, slotOneEffect, slotTwoEffect, slotOne, onEffect}
 use Rattle.bundle.specs.Refusal.{outsideCode}
 use Rattle.bundle.specs.Bundle.{stackMoved, buffersAfter, writeOne, written, Outcome, outcome, bundleAt, bundle, readiness, step}
 use Rattle.state.specs.Writes.{writeAlu, delaySlots}

@@ -5,16 +5,16 @@ use mathlib.Core.List.{List, [], _∷_}
 use mathlib.Core.Path.{refl}
 use lib.IntN.{negsuc}
 use Rattle.word.specs.Word.{signed}
-use Rattle.decoder.specs.Format.{reading, row}
+use Rattle.isa.specs.Format.{reading, row}
 use Rattle.decoder.specs.Decode.{guardOf, slotOne, decode}
-use Rattle.decoder.specs.declared.PredicateOperand.{PredicateOperand}
-use Rattle.decoder.specs.declared.StackAmount.the-variants.{Words, Register}
-use Rattle.decoder.specs.declared.StackOperation.the-variants.{Sres, Sens, Sfree, Sspill}
-use Rattle.decoder.specs.declared.Target.the-variants.{Call, CallRegister, Br, Ret}
-use Rattle.decoder.specs.declared.Operation.{Operation}
-use Rattle.decoder.specs.declared.Operation.the-variants.{StackControl, Transfer}
-use Rattle.decoder.specs.declared.Bundle.{Bundle}
-use Rattle.decoder.specs.declared.Bundle.the-variants.{Undecodable, One}
+use Rattle.isa.specs.declared.PredicateOperand.{PredicateOperand}
+use Rattle.isa.specs.declared.StackAmount.the-variants.{Words, Register}
+use Rattle.isa.specs.declared.StackOperation.the-variants.{Sres, Sens, Sfree, Sspill}
+use Rattle.isa.specs.declared.Target.the-variants.{Call, CallRegister, Br, Ret}
+use Rattle.isa.specs.declared.Operation.{Operation}
+use Rattle.isa.specs.declared.Operation.the-variants.{StackControl, Transfer}
+use Rattle.isa.specs.declared.Bundle.{Bundle}
+use Rattle.isa.specs.declared.Bundle.the-variants.{Undecodable, One}
 use Rattle.proved_cases.specs.Case.{Case, AllHold}
 
 infix 70 _is_

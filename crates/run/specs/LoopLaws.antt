@@ -4,7 +4,7 @@ use mathlib.Core.Bool.{false}
 use mathlib.Core.List.{List}
 use mathlib.Core.Path.{_≡_, sym, ap, subst, _∙_}
 use native.Mathlib.Omega.{arith}
-use Rattle.memory.specs.Answer.{spent}
+use Rattle.settings.specs.Answer.{spent}
 use Rattle.memory.specs.Access.{Buffers}
 use Rattle.state.specs.State.{State}
 use Rattle.bundle.specs.declared.Answer.{Answer}

@@ -1,7 +1,7 @@
 -- A run with a budget: the bundle repeated, and beside it the list of the bundles that it tries.
 use Prim.Native.Nat.{ℕ, zero, suc, _+_}
 use mathlib.Core.List.{List, [], _∷_}
-use Rattle.memory.specs.Answer.{Returned, accepted, done, ended, spent, refused}
+use Rattle.settings.specs.Answer.{Returned, accepted, done, ended, spent, refused}
 use Rattle.memory.specs.Access.{Buffers}
 use Rattle.state.specs.State.{State}
 use Rattle.bundle.specs.declared.Counts.{Counts}

@@ -6,7 +6,7 @@ use mathlib.Core.Path.{_≡_, refl, sym, ap, _∙_}
 use native.Mathlib.Omega.{arith}
 use native.Mathlib.Numerals.{add-one}
 use native.Mathlib.Nat.{add-zero, zero-add, add-assoc}
-use Rattle.memory.specs.Answer.{Returned, accepted, done, ended, spent, refused}
+use Rattle.settings.specs.Answer.{Returned, accepted, done, ended, spent, refused}
 use Rattle.memory.specs.Access.{Buffers}
 use Rattle.state.specs.State.{State}
 use Rattle.bundle.specs.declared.Counts.{Counts}

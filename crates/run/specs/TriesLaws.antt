@@ -4,7 +4,7 @@ use mathlib.Core.Bool.{false}
 use mathlib.Core.List.{List, [], _∷_}
 use mathlib.Core.Path.{_≡_, refl, sym, ap, _∙_}
 use native.Mathlib.Omega.{arith}
-use Rattle.memory.specs.Answer.{Returned, accepted, done, ended, spent, refused}
+use Rattle.settings.specs.Answer.{Returned, accepted, done, ended, spent, refused}
 use Rattle.memory.specs.Access.{Buffers}
 use Rattle.state.specs.State.{State}
 use Rattle.bundle.specs.declared.Counts.{Counts}

@@ -5,14 +5,14 @@ ghost use Rattle.memory.specs.Access.{Buffers, buffers};
 ghost use Rattle.bundle.specs.Bundle.{noCounts, outcome, readyOr};
 ghost use Rattle.state.specs.Core.{joined};
 ghost use Rattle.machine.specs.Whole.{stateOf};
-ghost use Rattle.memory.specs.Answer.{spent};
+ghost use Rattle.settings.specs.Answer.{spent};
 ghost use Rattle.state.specs.State.{State as MachineState};
 ghost use Rattle.run.specs.Run.{plus, run, returned, whole};
 use bundle::Answer;
 use bundle::Counts;
 use bundle::Readiness;
 use machine::State;
-use memory::Settings;
+use settings::Settings;
 use state::Core;
 
 // What a run answers; Refused holds document 01's number.

@@ -5,13 +5,13 @@ use mathlib.Core.List.{List}
 use mathlib.Core.Path.{_≡_}
 use lib.Dec.{leb}
 use lib.ListN.{length}
-use Rattle.memory.specs.declared.Settings.{Settings}
-use Rattle.memory.specs.Settings.{admits}
+use Rattle.settings.specs.declared.Settings.{Settings}
+use Rattle.settings.specs.Settings.{admits}
 use Rattle.effects.specs.Effect.{isUndecodable}
 use Rattle.bundle.specs.Refusal.{outsideCode}
 use Rattle.bundle.specs.Bundle.{bundleAt, followingAt}
-use Rattle.marking_rules.specs.declared.Marking.{Marking}
-use Rattle.marking_rules.specs.Marking.{markingOk}
+use Rattle.marking.specs.declared.Marking.{Marking}
+use Rattle.marking.specs.Marking.{markingOk}
 use Rattle.marking_rules.specs.Rules.{breaks, keeps}
 use Rattle.single_path.specs.declared.Checked.{Checked}
 use Rattle.single_path.specs.declared.Checked.the-variants as enum

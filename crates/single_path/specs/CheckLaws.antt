@@ -13,7 +13,7 @@ use lib.ListN.{length}
 use Rattle.effects.specs.Effect.{isUndecodable}
 use Rattle.bundle.specs.Refusal.{outsideCode}
 use Rattle.bundle.specs.Bundle.{bundleAt, followingAt}
-use Rattle.marking_rules.specs.declared.Marking.{Marking}
+use Rattle.marking.specs.declared.Marking.{Marking}
 use Rattle.marking_rules.specs.Rules.{keeps}
 use Rattle.single_path.specs.Check.{Walked, first, later, CheckAnswer, accepted, refused, walkFrom, passes, checked}
 use Rattle.single_path.specs.WalkLaws.{following-above, walked-inside, walked-gap}

@@ -1,15 +1,15 @@
 -- What is found of a bundle, in the terms of the check.
 use mathlib.Core.Bool.{Bool, true, false, false≢true}
 use mathlib.Core.Path.{_≡_, refl, sym, _∙_}
-use Rattle.decoder.specs.declared.Bundle.{Bundle}
-use Rattle.decoder.specs.declared.Bundle.the-variants as bundle
+use Rattle.isa.specs.declared.Bundle.{Bundle}
+use Rattle.isa.specs.declared.Bundle.the-variants as bundle
 use Rattle.effects.specs.Effect.{isUndecodable}
-use Rattle.marking_rules.specs.declared.Marking.{Marking}
+use Rattle.marking.specs.declared.Marking.{Marking}
 use Rattle.marking_rules.specs.declared.Rule.{Rule}
-use Rattle.marking_rules.specs.declared.rules.Found.the-variants.{Nothing, Breaks, Undecodable}
+use Rattle.broken_rules.specs.declared.Found.the-variants.{Nothing, Breaks, Undecodable}
 use Rattle.marking_rules.specs.Rules.{breaks, keeps}
 use Rattle.marking_rules.specs.RuleLaws.{keeps-each}
-use Rattle.marking_rules.specs.Found.{right, judged}
+use Rattle.broken_rules.specs.Found.{right, judged}
 
 module _ (m : Marking) where
   pub found-undecodable : (b : Bundle) → judged m b Undecodable ≡ true → isUndecodable b ≡ true

@@ -13,7 +13,7 @@ use Rattle.stack_cache.specs.RangeLaws.{or-right}
 use Rattle.effects.specs.Effect.{isUndecodable}
 use Rattle.bundle.specs.Refusal.{outsideCode}
 use Rattle.bundle.specs.Bundle.{bundleAt, followingAt}
-use Rattle.marking_rules.specs.declared.Marking.{Marking}
+use Rattle.marking.specs.declared.Marking.{Marking}
 use Rattle.marking_rules.specs.Rules.{keeps}
 use Rattle.single_path.specs.Check.{accepted, refused, walkFrom}
 

@@ -8,7 +8,7 @@ use native.Mathlib.Decide.{decLt}
 use borrow.Author.Tests.{leb-false, lt-leb, eqb-true, eq-eqb}
 use lib.Dec.{leb, eqb}
 use lib.ListN.{length}
-use Rattle.word.specs.Bytes.{wordAt}
+use Rattle.big_endian.specs.Bytes.{wordAt}
 use Rattle.decoder.specs.Decode.{isTwoWords, bundleWords}
 use Rattle.bundle.specs.Bundle.{followingAt}
 use Rattle.single_path.specs.Check.{Walked, first, later}

@@ -5,12 +5,12 @@ ghost use Prim.Native.Nat.{_≤_, _+_, _*_, _/_};
 ghost use lib.ListN.{length};
 ghost use Rattle.decoder.specs.Decode.{bundleWords};
 ghost use Rattle.single_path.specs.Check.{returned, letterBroken, walkFrom, checked};
-pub use marking_rules::Marking;
+use big_endian::read_word;
+use broken_rules::Found;
+use broken_rules::judge;
+pub use marking::Marking;
 pub use marking_rules::Rule;
-use marking_rules::rules::Found;
-use marking_rules::rules::judge;
-use memory::Settings;
-use word::bytes::read_word;
+use settings::Settings;
 
 // What the check answers: Refused holds document 01's number and the address of the bundle (0 for number 1), Broken, which is
 // refusal 9, the address of the bundle and a rule that it breaks.

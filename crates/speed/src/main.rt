@@ -24,7 +24,7 @@ fn put_code(code: &mut [u8], words: &[u32]) {
     let mut at: u32 = 0;
     let mut i = 0;
     while i < words.len() {
-        word::bytes::write_word(&mut *code, at, words[i]);
+        big_endian::write_word(&mut *code, at, words[i]);
         at = std::num::wrapping_add_u32(at, 4);
         i += 1;
     }

@@ -2,4 +2,3 @@ pub mod Stack
 pub mod Count
 pub mod StackLaws
 pub mod RangeLaws
-pub mod PlanLaws

@@ -6,7 +6,7 @@ use mathlib.Core.List.{List, [], _∷_}
 use lib.Dec.{eqb, ltb, leb}
 use lib.ListN.{length, getD, set}
 use Rattle.word.specs.Word.{add, sub}
-use Rattle.word.specs.Bytes.{wordAt, putWord}
+use Rattle.big_endian.specs.Bytes.{wordAt, putWord}
 use Rattle.stack_cache.specs.declared.StackControl.{StackControl}
 use Rattle.stack_cache.specs.declared.StackControl.the-variants.{Sres, Sens, Sfree, Sspill}
 use Rattle.stack_cache.specs.declared.Plan.{Plan}

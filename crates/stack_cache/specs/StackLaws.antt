@@ -12,8 +12,8 @@ use lib.Pow.{pow-add}
 use lib.Dec.{ltb}
 use lib.ListN.{length, length-set}
 use Rattle.word.specs.Word.{add, sub}
-use Rattle.word.specs.Bytes.{wordAt, putWord}
-use Rattle.word.specs.BytesLaws.{length-putNumber}
+use Rattle.big_endian.specs.Bytes.{wordAt, putWord}
+use Rattle.big_endian.specs.BytesLaws.{length-putNumber}
 use Rattle.stack_cache.specs.Stack.{isCacheSize, cacheWord, putCacheWord, unit, partOf, putPart, cacheNumber, putCacheNumber, below, above, spillWhile, fillWhile, spilled, filled}
 
 -- Lengths.

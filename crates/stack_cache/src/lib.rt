@@ -1,10 +1,10 @@
-// The stack cache: its limits, what its instructions move, and the words themselves, which are lent.
+// The stack cache: its limits, its window, and its words, which are lent; what moves between it and the stack area.
 ghost use mathlib.Core.Path.{_≡_};
 ghost use Rattle.stack_cache.specs.Stack.{makeCache};
 
 pub mod access;
-pub mod control;
 pub mod moves;
+pub mod window;
 
 // What a stack instruction does.
 pub enum StackControl {

@@ -3,10 +3,10 @@ ghost use mathlib.Core.Path.{_≡_};
 ghost use Rattle.stack_cache.specs.Stack.{below, above, spilled, filled};
 use crate::access::cache_word;
 use crate::access::put_cache_word;
+use big_endian::read_word;
+use big_endian::write_word;
 use word::arithmetic::add;
 use word::arithmetic::sub;
-use word::bytes::read_word;
-use word::bytes::write_word;
 
 // As many words as asked below ss are spilled, the one at ss - 4 first.
 pub fn spill(area: &mut [u8], cache: &[u32], lo: u32, ss: u32, words: u32)

@@ -7,8 +7,8 @@ use lib.Dec.{eqb, leb}
 use lib.ListN.{length, getD, replicate}
 use Rattle.word.specs.Word.{sub}
 use Rattle.registers.specs.Registers.{putLater}
-use Rattle.decoder.specs.declared.Special.{Special}
-use Rattle.decoder.specs.declared.Special.the-variants.{S0, Sl, Sh, Ss, St, Srb, Sro, Sxb, Sxo}
+use Rattle.isa.specs.declared.Special.{Special}
+use Rattle.isa.specs.declared.Special.the-variants.{S0, Sl, Sh, Ss, St, Srb, Sro, Sxb, Sxo}
 use Rattle.effects.specs.declared.Specials.{Specials}
 use Rattle.effects.specs.declared.Transfer.{Transfer}
 use Rattle.effects.specs.declared.Transfer.the-variants.{Br, Call, Block}

@@ -6,7 +6,7 @@ ghost use Prim.Native.Nat.{ℕ, _/_};
 ghost use Rattle.state.specs.Core.{joined};
 ghost use Rattle.state.specs.State.{predicatesOf, withSpecial, withProduct, withStack};
 use crate::Core;
-use decoder::Special;
+use isa::Special;
 
 // The predicates that a word written to s0 makes: p0 is true, p1 to p7 are bits 1 to 7.
 fn predicates_of(v: u32) -> [bool; 8]

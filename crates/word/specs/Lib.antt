@@ -1,4 +1,2 @@
 pub mod Word
 pub mod WordLaws
-pub mod Bytes
-pub mod BytesLaws

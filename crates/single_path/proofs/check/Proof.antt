@@ -1,6 +1,6 @@
 use mathlib.Core.Path.{refl, sym, _∙_}
 use Rattle.stack_cache.specs.RangeLaws.{and-left}
-use Rattle.memory.specs.SettingsLaws.{code-small}
+use Rattle.settings.specs.SettingsLaws.{code-small}
 use Rattle.single_path.specs.Check.{settings, checked}
 use Rattle.single_path.proofs.check.Statement.{statement}
 use Rattle.single_path.proofs.check.Tie as tie

@@ -1,7 +1,6 @@
 use mathlib.Core.Path.{refl}
 use mathlib.Core.Path.{refl}
 use Rattle.case_file.specs.Names.{lookUp, transferKinds}
-use Rattle.case_file.specs.Names.{lookUp, transferKinds}
 use Rattle.case_file.proofs.keywords.transfer_kind.Statement.{statement}
 use Rattle.case_file.proofs.keywords.transfer_kind.Tie as tie
 

@@ -1,6 +1,6 @@
 use borrow.Author.Tests.{ne-eqb, le-leb, lt-leb, not-false}
 use Rattle.machine.specs.Open.{opening}
-use Rattle.memory.specs.SettingsLaws.{code-small}
+use Rattle.settings.specs.SettingsLaws.{code-small}
 use mathlib.Core.Path.{sym, _∙_}
 use native.Mathlib.Omega.{arith}
 use borrow.Author.Needs.{needs}

@@ -1,5 +1,4 @@
-use Rattle.memory.specs.Access.{loadScale}
-use Rattle.memory.specs.Access.{extended}
+use Rattle.memory.specs.Access.{loadScale, extended}
 use Rattle.memory.proofs.access.load_bytes.Statement.{statement}
 use Rattle.memory.proofs.access.load_bytes.Tie as tie
 

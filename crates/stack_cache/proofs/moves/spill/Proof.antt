@@ -1,7 +1,7 @@
 use native.Mathlib.Omega.{arith}
 use mathlib.Core.Path.{_≡_, refl, sym, ap, _∙_}
 use lib.ListN.{length}
-use Rattle.word.specs.BytesLaws.{length-putNumber}
+use Rattle.big_endian.specs.BytesLaws.{length-putNumber}
 use Rattle.stack_cache.specs.Stack.{below, spilled}
 use Rattle.stack_cache.specs.StackLaws.{spilled-step, spilled-none}
 use Rattle.stack_cache.proofs.moves.spill.Statement.{statement}

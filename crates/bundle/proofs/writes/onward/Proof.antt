@@ -1,0 +1,48 @@
+use Rattle.state.specs.Core.{joined, waitingTransfer}
+use Prim.Native.Nat.{ℕ}
+use mathlib.Core.List.{List, [], _∷_}
+use mathlib.Core.Path.{_≡_, refl, sym, ap, _∙_}
+use denote.Enum.Declared.{tagOf}
+use types.Run.{OneOf, miss}
+use Rattle.effects.specs.declared.Effect.{Effect}
+use Rattle.effects.specs.declared.Effect.the-variants.{Alu, Special, Product, Load, Store, Stack, Transfer, Exception}
+use Rattle.effects.proofs.Effect.{the-type}
+use Rattle.state.specs.declared.WaitingTransfer.{WaitingTransfer}
+use Rattle.state.specs.State.{State}
+use Rattle.state.specs.Writes.{nearer}
+use Rattle.bundle.specs.Bundle.{onward}
+use borrow.Author.Needs.{needs}
+use Rattle.bundle.proofs.writes.onward.Statement.{statement}
+use Rattle.bundle.proofs.writes.onward.Tie as tie
+
+-- The effects that are not told apart by name.
+abbrev others : List ℕ
+others = 0 ∷ 1 ∷ 2 ∷ 3 ∷ 4 ∷ 5 ∷ 7 ∷ []
+
+goes-on : (waiting : WaitingTransfer) (following : ℕ) (onto : State) (e : Effect) → OneOf others (tagOf the-type e) → nearer waiting following onto ≡ onward e waiting following onto
+goes-on waiting following onto (Alu a) h = refl
+goes-on waiting following onto (Special d v) h = refl
+goes-on waiting following onto (Product l k) h = refl
+goes-on waiting following onto (Load k w r a) h = refl
+goes-on waiting following onto (Store k w a v) h = refl
+goes-on waiting following onto (Stack c n m) h = refl
+goes-on waiting following onto (Transfer d t) h = absurd (miss others 6 tt h)
+goes-on waiting following onto Exception h = refl
+
+enum-known-one : tie.Need-enum-known-one
+enum-known-one c = c .match .keys1
+
+begin-requires : tie.Need-begin-requires
+begin-requires c κs = tt
+
+returns : tie.Need-returns
+returns c = λ rs ps. rw (c .before .before .one .given .1) (c .begin .ensures rs ps)
+
+nearer-requires : tie.Need-nearer-requires
+nearer-requires c κs = tt
+
+returns-2 : tie.Need-returns-2
+returns-2 c = λ rs ps. let a = c .before .before .args in c .nearer .ensures rs ps ∙ goes-on (waitingTransfer (a .waiting)) (a .following) (joined rs ps (a .core)) (a .one) (c .before .match .keys2)
+
+pub onward-spec : {M : Type 1} → statement M
+onward-spec = tie.close (tie.spec enum-known-one begin-requires returns nearer-requires returns-2)

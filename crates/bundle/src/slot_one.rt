@@ -1,0 +1,155 @@
+// Slot one carried out on the stores. Each kind of effect is judged whole before anything is written.
+ghost use mathlib.Core.Path.{_≡_};
+ghost use mathlib.Core.Bool.{Bool, true, not, cond};
+ghost use mathlib.Core.List.{List};
+ghost use Prim.Native.Nat.{ℕ, _^_};
+ghost use lib.ListN.{length};
+ghost use Rattle.settings.specs.Settings.{admits};
+ghost use Rattle.memory.specs.Access.{buffers, loadScale, storeScale, accessVerdict, loadedValue, stored};
+ghost use Rattle.state.specs.State.{noneWaits};
+ghost use Rattle.state.specs.Core.{joined, waitingTransfer};
+ghost use Rattle.bundle.specs.Execute.{carriedAs, unlessRefused, carriedOut};
+use crate::Carried;
+use crate::stack_moves::do_stack;
+use effects::Effect;
+use isa::AccessKind;
+use isa::LoadWidth;
+use isa::StoreWidth;
+use memory::Verdict;
+use memory::access::load;
+use memory::access::store;
+use memory::judge::judge_load;
+use memory::judge::judge_store;
+use settings::Settings;
+use state::Core;
+use state::waiting::none_waits;
+
+// An effect that reads and writes no store.
+fn nothing() -> Carried
+    ensures { λ r. ⌜ r ≡ Carried.Done 0 0 0 0 0 ⌝ }
+{
+    Carried::Done {
+        value: 0,
+        st: 0,
+        ss: 0,
+        spilled: 0,
+        filled: 0,
+    }
+}
+
+fn do_load(
+    g: Settings,
+    st: u32,
+    ss: u32,
+    kind: AccessKind,
+    width: LoadWidth,
+    address: u32,
+    main: &[u8],
+    local: &[u8],
+    cache: &[u32],
+) -> Carried
+    ensures { λ r. ⌜ carriedAs r (buffers (now (main .entry)) (now (local .entry)) (now (cache .entry))) ≡ unlessRefused (accessVerdict g st ss kind address (2 ^ loadScale width)) (buffers (now (main .entry)) (now (local .entry)) (now (cache .entry))) (carriedAs (Carried.Done (loadedValue (buffers (now (main .entry)) (now (local .entry)) (now (cache .entry))) kind width address) 0 0 0 0) (buffers (now (main .entry)) (now (local .entry)) (now (cache .entry)))) ⌝ }
+{
+    if let Verdict::Refused(number) = judge_load(g, st, ss, kind, width, address) {
+        return Carried::Refused(number);
+    }
+    Carried::Done {
+        value: load(main, local, cache, kind, width, address),
+        st: 0,
+        ss: 0,
+        spilled: 0,
+        filled: 0,
+    }
+}
+
+fn do_store(
+    g: Settings,
+    st: u32,
+    ss: u32,
+    kind: AccessKind,
+    width: StoreWidth,
+    address: u32,
+    value: u32,
+    main: &mut [u8],
+    local: &mut [u8],
+    cache: &mut [u32],
+) -> Carried
+    ensures { λ r. ⌜ carriedAs r (buffers (now (main .exit)) (now (local .exit)) (now (cache .exit))) ≡ unlessRefused (accessVerdict g st ss kind address (2 ^ storeScale width)) (buffers (now (main .entry)) (now (local .entry)) (now (cache .entry))) (carriedAs (Carried.Done 0 0 0 0 0) (stored (buffers (now (main .entry)) (now (local .entry)) (now (cache .entry))) kind (2 ^ storeScale width) address value)) ⌝ }
+{
+    if let Verdict::Refused(number) = judge_store(g, st, ss, kind, width, address) {
+        return Carried::Refused(number);
+    }
+    store(
+        &mut *main,
+        &mut *local,
+        &mut *cache,
+        kind,
+        width,
+        address,
+        value,
+    );
+    nothing()
+}
+
+// A transfer is refused while one waits.
+fn judge_transfer(core: Core) -> Carried
+    ensures { λ r. ⌜ r ≡ cond (not (noneWaits (waitingTransfer (core .transfer)))) (Carried.Refused 4) (Carried.Done 0 0 0 0 0) ⌝ }
+{
+    let waiting = core.transfer;
+    if !none_waits(waiting) {
+        return Carried::Refused(4);
+    }
+    nothing()
+}
+
+// Slot one judged, and carried out on the stores.
+pub(crate) fn carry_out(
+    core: Core,
+    g: Settings,
+    one: Effect,
+    main: &mut [u8],
+    local: &mut [u8],
+    cache: &mut [u32],
+) -> Carried
+    requires { ⌜ (admits g ≡ true) × (g .main ≡ length (now main)) ⌝ }
+    ensures { λ r. ⌜ ((rs : List ℕ) (ps : List Bool) → carriedAs r (buffers (now (main .exit)) (now (local .exit)) (now (cache .exit))) ≡ carriedOut g (joined rs ps core) one (buffers (now (main .entry)) (now (local .entry)) (now (cache .entry)))) ⌝ }
+{
+    let st = core.specials.st;
+    let ss = core.specials.ss;
+    match one {
+        Effect::Load {
+            kind,
+            width,
+            rd: _,
+            address,
+        } => do_load(g, st, ss, kind, width, address, main, local, cache),
+        Effect::Store {
+            kind,
+            width,
+            address,
+            value,
+        } => do_store(
+            g,
+            st,
+            ss,
+            kind,
+            width,
+            address,
+            value,
+            &mut *main,
+            &mut *local,
+            &mut *cache,
+        ),
+        Effect::Stack {
+            control,
+            words,
+            aligned,
+        } => do_stack(core, g, control, words, aligned, &mut *main, &mut *cache),
+        Effect::Transfer {
+            delayed: _,
+            transfer: _,
+        } => judge_transfer(core),
+        Effect::Exception => Carried::Refused(10),
+        _ => nothing(),
+    }
+}

@@ -1,0 +1,109 @@
+// What a bundle that is not refused writes to the state, in the order of the writes, and its cycles.
+ghost use mathlib.Core.Path.{_≡_};
+ghost use mathlib.Core.Bool.{Bool, cond};
+ghost use mathlib.Core.List.{List};
+ghost use Prim.Native.Nat.{ℕ};
+ghost use Rattle.state.specs.State.{landed};
+ghost use Rattle.state.specs.Writes.{writeAlu};
+ghost use Rattle.state.specs.Core.{joined, waitingTransfer};
+ghost use Rattle.bundle.specs.Bundle.{onward, cyclesOf, undelayedCycles};
+ghost use Rattle.bundle.specs.Execute.{writeDone};
+use effects::AluEffect;
+use effects::Effect;
+use effects::Transfer;
+use state::Core;
+use state::LoadWords;
+use state::TransferWords;
+use state::flow::write_alu;
+
+// Slot one, of which was carried out: the value loaded, st and ss.
+fn write_one(
+    core: Core,
+    registers: &mut [u32; 32],
+    predicates: &mut [bool; 8],
+    one: Effect,
+    loaded: u32,
+    st: u32,
+    ss: u32,
+) -> Core
+    ensures { λ r. ⌜ joined (now (registers .exit)) (now (predicates .exit)) r ≡ writeDone one loaded st ss (joined (now (registers .entry)) (now (predicates .entry)) core) ⌝ }
+{
+    match one {
+        Effect::Alu(a) => {
+            write_alu(&mut *registers, &mut *predicates, a);
+            core
+        }
+        Effect::Special { special, value } => core.write_special(&mut *predicates, special, value),
+        Effect::Product { low, high } => core.write_product(low, high),
+        Effect::Load {
+            kind: _,
+            width: _,
+            rd,
+            address: _,
+        } => core.with_load(LoadWords {
+            waits: 1,
+            register: rd,
+            value: loaded,
+        }),
+        Effect::Stack {
+            control: _,
+            words: _,
+            aligned: _,
+        } => core.write_stack(st, ss),
+        _ => core,
+    }
+}
+
+// The end of a bundle: its own transfer begins, or one that waits comes nearer.
+fn onward(core: Core, one: Effect, waiting: TransferWords, following: u32) -> Core
+    ensures { λ r. ⌜ ((rs : List ℕ) (ps : List Bool) → joined rs ps r ≡ onward one (waitingTransfer waiting) following (joined rs ps core)) ⌝ }
+{
+    if let Effect::Transfer { delayed, transfer } = one {
+        return core.begin(delayed, transfer, following);
+    }
+    core.nearer(waiting, following)
+}
+
+// The order of the writes: the load that waited, slot one, slot two, and a transfer that falls due.
+pub(crate) fn write(
+    core: Core,
+    registers: &mut [u32; 32],
+    predicates: &mut [bool; 8],
+    one: Effect,
+    two: AluEffect,
+    following: u32,
+    loaded: u32,
+    st: u32,
+    ss: u32,
+) -> Core
+    ensures { λ r. ⌜ joined (now (registers .exit)) (now (predicates .exit)) r ≡ onward one (waitingTransfer (core .transfer)) following (writeAlu two (writeDone one loaded st ss (landed (joined (now (registers .entry)) (now (predicates .entry)) core)))) ⌝ }
+{
+    let waiting = core.transfer;
+    let onto = core.land_load(&mut *registers);
+    let after = write_one(onto, &mut *registers, &mut *predicates, one, loaded, st, ss);
+    write_alu(&mut *registers, &mut *predicates, two);
+    onward(after, one, waiting, following)
+}
+
+// A delayed transfer's own bundle is one cycle; a form without delay pays for its delay slots.
+fn transfer_cycles(delayed: bool, t: Transfer) -> u64
+    ensures { λ r. ⌜ r ≡ cond delayed 1 (undelayedCycles t) ⌝ }
+{
+    if delayed {
+        return 1;
+    }
+    match t {
+        Transfer::Br { target: _ } => 3,
+        Transfer::Call { target: _ } => 4,
+        Transfer::Block { target: _, base: _ } => 4,
+    }
+}
+
+pub(crate) fn cycles(one: Effect) -> u64
+    ensures { λ r. ⌜ r ≡ cyclesOf one ⌝ }
+{
+    match one {
+        Effect::Transfer { delayed, transfer } => transfer_cycles(delayed, transfer),
+        _ => 1,
+    }
+}

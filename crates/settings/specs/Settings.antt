@@ -1,0 +1,43 @@
+-- "What the core has": the limits of the settings.
+use Prim.Native.Nat.{ℕ}
+use mathlib.Core.Bool.{Bool, cond, _&&_}
+use mathlib.Core.List.{List}
+use lib.Dec.{leb}
+use lib.ListN.{length}
+use Rattle.word.specs.Word.{isMultipleOf4}
+use Rattle.stack_cache.specs.Stack.{isCacheSize}
+use Rattle.settings.specs.declared.Settings.{Settings}
+use Rattle.settings.specs.declared.Acceptance.{Acceptance}
+use Rattle.settings.specs.declared.Acceptance.the-variants.{Accepted, Refused}
+use Rattle.settings.specs.Answer.{Returned, accepted, refused}
+
+-- The greatest length of code and of each memory.
+abbrev pub greatestLength : ℕ
+greatestLength = 65536
+
+-- Code of 4 to 65,536 bytes, a multiple of 4.
+abbrev pub codeLengthOk : ℕ → Bool
+codeLengthOk n = (leb 4 n && leb n greatestLength) && isMultipleOf4 n
+
+-- The stack area is a part of main memory from lo to hi, both multiples of 4.
+abbrev pub areaOk : ℕ → ℕ → ℕ → Bool
+areaOk main lo hi = (isMultipleOf4 lo && isMultipleOf4 hi) && (leb lo hi && leb hi main)
+
+-- Settings inside the limits: where this is false, refusal 1.
+unfoldable pub admits : Settings → Bool
+admits s =
+    (codeLengthOk (s .code) && (leb (s .main) greatestLength && leb (s .local) greatestLength))
+    && (isCacheSize (s .words) && areaOk (s .main) (s .lo) (s .hi))
+
+-- The answer of accepting settings, and what its cases return.
+unfoldable pub acceptance : Settings → Returned
+acceptance s = cond (admits s) accepted (refused 1)
+
+abbrev pub returned : Acceptance → Returned
+returned Accepted = accepted
+returned (Refused n) = refused n
+
+-- The settings that lent buffers and a stack area make: lengths are those of what is lent, so nothing can disagree.
+abbrev pub settingsOf : List ℕ → List ℕ → List ℕ → List ℕ → ℕ → ℕ → Settings
+settingsOf code main local cache lo hi =
+    record { code = length code; main = length main; local = length local; words = length cache; lo = lo; hi = hi }

@@ -1,0 +1,64 @@
+// The settings: lengths of what is lent, and the stack area; and their limits.
+ghost use mathlib.Core.Path.{_≡_};
+ghost use Rattle.stack_cache.specs.Stack.{isCacheSize};
+ghost use Rattle.settings.specs.Settings.{codeLengthOk, areaOk, admits, acceptance, returned};
+use stack_cache::Made;
+use stack_cache::StackCache;
+
+// The lengths of code, main memory and local memory in bytes, the number of stack cache words, and the stack area.
+pub struct Settings {
+    pub code: usize,
+    pub main: usize,
+    pub local: usize,
+    pub words: usize,
+    pub lo: u32,
+    pub hi: u32,
+}
+
+// Settings are accepted, or refused with document 01's number.
+pub enum Acceptance {
+    Accepted,
+    Refused(u32),
+}
+
+fn code_length_ok(n: usize) -> bool
+    ensures { λ r. ⌜ r ≡ codeLengthOk n ⌝ }
+{
+    ((4 <= n) & (n <= 65536)) & (n % 4 == 0)
+}
+
+fn area_ok(main: usize, lo: u32, hi: u32) -> bool
+    ensures { λ r. ⌜ r ≡ areaOk main lo hi ⌝ }
+{
+    ((lo % 4 == 0) & (hi % 4 == 0)) & ((lo <= hi) & (hi as usize <= main))
+}
+
+// The stack cache's own type decides which sizes there are.
+fn is_cache_size(words: usize) -> bool
+    ensures { λ r. ⌜ r ≡ isCacheSize words ⌝ }
+{
+    match StackCache::new(words) {
+        Made::Refused(_) => false,
+        Made::Cache(_) => true,
+    }
+}
+
+impl Settings {
+    // Whether the settings lie inside the limits.
+    pub fn admits(self) -> bool
+        ensures { λ r. ⌜ r ≡ admits self ⌝ }
+    {
+        let lengths = code_length_ok(self.code) & ((self.main <= 65536) & (self.local <= 65536));
+        lengths & (is_cache_size(self.words) & area_ok(self.main, self.lo, self.hi))
+    }
+
+    // The first of the two operations that make a fresh state.
+    pub fn accept(self) -> Acceptance
+        ensures { λ r. ⌜ returned r ≡ acceptance self ⌝ }
+    {
+        if self.admits() {
+            return Acceptance::Accepted;
+        }
+        Acceptance::Refused(1)
+    }
+}
