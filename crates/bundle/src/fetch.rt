@@ -4,9 +4,9 @@ ghost use lib.ListN.{length};
 ghost use Prim.Native.Nat.{_<_, _≤_};
 ghost use Rattle.decoder.specs.Decode.{bundleWords};
 ghost use Rattle.state.specs.Core.{joined};
-ghost use Rattle.bundle.specs.Execute.{fetched};
-use crate::Fetched;
+ghost use Rattle.bundle_rules.specs.Execute.{fetched};
 use big_endian::read_word;
+use bundle_rules::Fetched;
 use effects::Effects;
 use state::Core;
 

@@ -4,10 +4,10 @@ ghost use mathlib.Core.Bool.{Bool};
 ghost use mathlib.Core.List.{List};
 ghost use Prim.Native.Nat.{ℕ};
 ghost use Rattle.state.specs.Core.{joined};
-ghost use Rattle.bundle.specs.Execute.{steppedAs, refusedWith, endedWith, doneWith};
-use crate::Advanced;
-use crate::Answer;
-use crate::Counts;
+ghost use Rattle.bundle_rules.specs.Execute.{steppedAs, refusedWith, endedWith, doneWith};
+use bundle_rules::Advanced;
+use bundle_rules::Answer;
+use bundle_rules::Counts;
 use state::Core;
 
 // A refused bundle changes nothing and counts nothing.

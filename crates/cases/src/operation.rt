@@ -3,7 +3,7 @@ use crate::kept_state::keep_state;
 use crate::kept_state::state_of;
 use crate::report::put_counts;
 use crate::report::put_state;
-use bundle::Answer;
+use bundle_rules::Answer;
 use case_notes::buffers::Bytes;
 use case_notes::buffers::Cache;
 use case_notes::buffers::Memory;

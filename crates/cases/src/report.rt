@@ -1,5 +1,5 @@
 // The lines on a state, and the counts of an operation.
-use bundle::Counts;
+use bundle_rules::Counts;
 use case_notes::kept::FETCH;
 use case_notes::kept::Kept;
 use case_notes::kept::LOAD;

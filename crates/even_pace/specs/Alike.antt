@@ -20,7 +20,7 @@ use Rattle.state.specs.State.{State}
 use Rattle.state.specs.declared.WaitingTransfer.{WaitingTransfer}
 use Rattle.state.specs.declared.WaitingLoad.the-variants.{Nothing}
 use Rattle.state.specs.Writes.{writeAlu, nearer}
-use Rattle.bundle.specs.Bundle.{writeOne, onward}
+use Rattle.bundle_rules.specs.Bundle.{writeOne, onward}
 use Rattle.machine_laws.specs.StackKept.{Passed, passed-open}
 use Rattle.marking.specs.declared.Marking.{Marking}
 use Rattle.marking.specs.Marking.{privateStore, publicRegister, publicPredicate, publicSpecial}

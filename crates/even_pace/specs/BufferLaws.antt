@@ -19,7 +19,7 @@ use Rattle.stack_cache.specs.RangeLaws.{and-right}
 use Rattle.settings.specs.declared.Settings.{Settings}
 use Rattle.memory.specs.Access.{Buffers, mainOpen, accessOpen, readNumber, stored}
 use Rattle.state.specs.State.{State}
-use Rattle.bundle.specs.Bundle.{area, stackMoved}
+use Rattle.bundle_rules.specs.Bundle.{area, stackMoved}
 use Rattle.machine_laws.specs.StackKept.{stackMoved-lengths, area-same, stackMoved-area, stackMoved-outside}
 use Rattle.marking.specs.declared.Marking.{Marking}
 use Rattle.marking.specs.Marking.{privateStore}

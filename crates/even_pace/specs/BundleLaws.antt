@@ -13,8 +13,8 @@ use Rattle.settings.specs.Answer.{Returned, done, refused}
 use Rattle.memory.specs.Access.{Buffers, verdict as verdictOf}
 use Rattle.effects.specs.Effect.{slotOne, slotTwo, isUndecodable}
 use Rattle.state.specs.State.{State, startOf}
-use Rattle.bundle.specs.Refusal.{effectTests}
-use Rattle.bundle.specs.Bundle.{written, countsOf, buffersAfter, Outcome, outcome, bundleAt, followingAt, refusedOr, bundle}
+use Rattle.bundle_rules.specs.Refusal.{effectTests}
+use Rattle.bundle_rules.specs.Bundle.{written, countsOf, buffersAfter, Outcome, outcome, bundleAt, followingAt, refusedOr, bundle}
 use Rattle.marking.specs.declared.Marking.{Marking}
 use Rattle.marking_rules.specs.declared.Rule.{Rule}
 use Rattle.marking_rules.specs.Rules.{breaks}

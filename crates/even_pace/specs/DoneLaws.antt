@@ -13,9 +13,9 @@ use Rattle.effects.specs.declared.Effect.the-variants as effect
 use Rattle.state.specs.State.{State, state, specials, landed}
 use Rattle.state.specs.declared.WaitingTransfer.{WaitingTransfer}
 use Rattle.state.specs.declared.WaitingLoad.the-variants.{Nothing}
-use Rattle.bundle.specs.Refusal.{effectTests}
+use Rattle.bundle_rules.specs.Refusal.{effectTests}
 use Rattle.state.specs.Writes.{writeAlu}
-use Rattle.bundle.specs.Bundle.{writeOne, onward, written, buffersAfter, stackMoved, countsOf}
+use Rattle.bundle_rules.specs.Bundle.{writeOne, onward, written, buffersAfter, stackMoved, countsOf}
 use Rattle.machine_laws.specs.StackKept.{Passed, passed-open}
 use Rattle.marking.specs.declared.Marking.{Marking}
 use Rattle.even_pace.specs.Terms.{SameState, SameBuffers, Agree}

@@ -11,8 +11,8 @@ use lib.ListN.{getElem?}
 use Rattle.settings.specs.Answer.{Returned, ended, refused}
 use Rattle.state.specs.State.{State}
 use Rattle.state.specs.declared.WaitingLoad.the-variants as load
-use Rattle.bundle.specs.declared.Counts.{Counts}
-use Rattle.bundle.specs.Bundle.{noCounts, bundleAt, step}
+use Rattle.bundle_rules.specs.declared.Counts.{Counts}
+use Rattle.bundle_rules.specs.Bundle.{noCounts, bundleAt, step}
 use Rattle.run.specs.Run.{run, Tried, triedAt, tries}
 use Rattle.marking.specs.Marking.{publicRegister}
 use Rattle.single_path.specs.Check.{Walked, first, accepted}

@@ -19,8 +19,8 @@ use Rattle.state.specs.State.{State, Shaped, state, specials, withRegister, wit
 use Rattle.state.specs.declared.WaitingTransfer.the-variants as transfer
 use Rattle.state.specs.declared.WaitingLoad.{WaitingLoad}
 use Rattle.state.specs.declared.WaitingLoad.the-variants as load
-use Rattle.bundle.specs.Refusal.{outsideCode}
-use Rattle.bundle.specs.Bundle.{stackMoved, buffersAfter, writeOne, written, bundleAt, noCounts, bundle, readiness, step}
+use Rattle.bundle_rules.specs.Refusal.{outsideCode}
+use Rattle.bundle_rules.specs.Bundle.{stackMoved, buffersAfter, writeOne, written, bundleAt, noCounts, bundle, readiness, step}
 use Rattle.state.specs.Writes.{writeAlu, delaySlots}
 use Rattle.run.specs.Run.{run, Tried, tries}
 use Rattle.marking.specs.declared.Marking.{Marking}

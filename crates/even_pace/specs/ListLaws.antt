@@ -7,7 +7,7 @@ use mathlib.Core.Bool.{Bool, true, false, cond, false≢true}
 use mathlib.Core.Path.{_≡_, refl, ap, subst}
 use native.Mathlib.Omega.{arith}
 use lib.ListN.{length}
-use Rattle.bundle.specs.Bundle.{Outcome}
+use Rattle.bundle_rules.specs.Bundle.{Outcome}
 use Rattle.run.specs.Run.{plus, counted, Tried}
 use Rattle.marking.specs.declared.Marking.{Marking}
 use Rattle.even_pace.specs.Terms.{Stops, SameTried, EvenAt, StopsAt}

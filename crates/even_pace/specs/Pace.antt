@@ -12,8 +12,8 @@ use Rattle.settings.specs.Settings.{admits}
 use Rattle.settings.specs.SettingsLaws.{area-ordered, area-inside}
 use Rattle.memory.specs.Access.{Buffers}
 use Rattle.state.specs.State.{State, Shaped, noneWaits, wellFormed, ended as hasEnded}
-use Rattle.bundle.specs.declared.Counts.{Counts}
-use Rattle.bundle.specs.Bundle.{Outcome, outcome, noCounts, lent, bundleAt, bundle}
+use Rattle.bundle_rules.specs.declared.Counts.{Counts}
+use Rattle.bundle_rules.specs.Bundle.{Outcome, outcome, noCounts, lent, bundleAt, bundle}
 use Rattle.machine_laws.specs.StepCases.{isDone}
 use Rattle.machine_laws.specs.KeptLaws.{well-formed-parts, bundle-shaped}
 use Rattle.machine_laws.specs.StackKept.{bundle-lengths}

@@ -17,7 +17,7 @@ use Rattle.effects.specs.declared.Effect.{Effect}
 use Rattle.effects.specs.declared.Effect.the-variants as effect
 use Rattle.effects.specs.Effect.{holds, aluEffect, effectOf, slotOneEffect, slotTwoEffect, slotOne, slotTwo, isUndecodable}
 use Rattle.state.specs.State.{State, startOf}
-use Rattle.bundle.specs.Refusal.{effectTests}
+use Rattle.bundle_rules.specs.Refusal.{effectTests}
 use Rattle.marking.specs.declared.Marking.{Marking}
 use Rattle.marking_rules.specs.declared.Rule.{Rule}
 use Rattle.marking_rules.specs.declared.Rule.the-variants as rule

@@ -21,8 +21,8 @@ use Rattle.effects.specs.declared.AluEffect.the-variants as alu
 use Rattle.effects.specs.declared.Effect.the-variants as effect
 use Rattle.effects.specs.Effect.{holds, address, effectOf, slotOneEffect, slotOne}
 use Rattle.state.specs.State.{State, startOf}
-use Rattle.bundle.specs.Refusal.{effectTests}
-use Rattle.bundle.specs.Bundle.{Outcome, bundleAt, followingAt, refusedOr, bundle}
+use Rattle.bundle_rules.specs.Refusal.{effectTests}
+use Rattle.bundle_rules.specs.Bundle.{Outcome, bundleAt, followingAt, refusedOr, bundle}
 use Rattle.marking.specs.declared.Marking.{Marking}
 use Rattle.marking_rules.specs.declared.Asked.{Asked}
 use Rattle.marking.specs.Marking.{privateGuard}

@@ -15,7 +15,7 @@ use Rattle.memory.specs.Access.{Buffers}
 use Rattle.effects.specs.declared.Specials.{Specials}
 use Rattle.state.specs.State.{State}
 use Rattle.state.specs.declared.WaitingLoad.the-variants.{Waits}
-use Rattle.bundle.specs.Bundle.{bundleAt}
+use Rattle.bundle_rules.specs.Bundle.{bundleAt}
 use Rattle.run.specs.Run.{Tried}
 use Rattle.marking.specs.declared.Marking.{Marking}
 use Rattle.marking.specs.Marking.{privateRegister, privatePredicate, privateGuard, publicRegister}

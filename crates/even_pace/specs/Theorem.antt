@@ -10,7 +10,7 @@ use Rattle.stack_cache.specs.RangeLaws.{and-left}
 use Rattle.memory.specs.Access.{Buffers}
 use Rattle.settings.specs.Settings.{admits}
 use Rattle.state.specs.State.{State, Shaped, wellFormed}
-use Rattle.bundle.specs.Bundle.{Outcome, noCounts}
+use Rattle.bundle_rules.specs.Bundle.{Outcome, noCounts}
 use Rattle.run.specs.Run.{run, Tried, tries}
 use Rattle.marking.specs.declared.Marking.{Marking}
 use Rattle.marking.specs.Marking.{markingOk}

@@ -8,8 +8,8 @@ use Rattle.settings.specs.Answer.{Returned, accepted, done, ended, spent, refus
 use Rattle.settings.specs.Settings.{admits}
 use Rattle.memory.specs.Access.{Buffers}
 use Rattle.state.specs.State.{State, wellFormed, ended as hasEnded}
-use Rattle.bundle.specs.declared.Counts.{Counts}
-use Rattle.bundle.specs.Bundle.{Outcome, outcome, noCounts, readiness, lent, bundle}
+use Rattle.bundle_rules.specs.declared.Counts.{Counts}
+use Rattle.bundle_rules.specs.Bundle.{Outcome, outcome, noCounts, readiness, lent, bundle}
 use Rattle.machine_laws.specs.StepCases.{isDone, Going, step-bundle, step-ended}
 use Rattle.run.specs.Run.{plus, ifDone, counted, run, Tried, triedAt, tries}
 

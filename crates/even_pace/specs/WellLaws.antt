@@ -23,7 +23,7 @@ use Rattle.effects.specs.declared.AluEffect.the-variants as alu
 use Rattle.effects.specs.declared.Effect.the-variants as effect
 use Rattle.effects.specs.Effect.{Start, holds, effectOf, stackEffect, slotOneEffect, slotOne}
 use Rattle.state.specs.State.{State, startOf, loadOk, wellFormed}
-use Rattle.bundle.specs.Bundle.{bundle}
+use Rattle.bundle_rules.specs.Bundle.{bundle}
 use Rattle.machine_laws.specs.StepCases.{effectAt, bundle-cases}
 use Rattle.machine_laws.specs.KeptLaws.{loadBegun, well-formed-parts, well-formed-whole, written-well-formed}
 

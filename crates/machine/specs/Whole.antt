@@ -1,6 +1,6 @@
 -- The state that a struct State holds, and what the functions of the state by value give.
 use Rattle.state.specs.State.{State, state}
-use Rattle.bundle.specs.Bundle.{Stepped}
+use Rattle.bundle_rules.specs.Bundle.{Stepped}
 use Rattle.machine.specs.declared.State as struct
 use Rattle.machine.specs.declared.Stepped as struct-step
 

@@ -2,8 +2,8 @@
 pub mod open;
 pub mod whole_state;
 
-use bundle::Answer;
-use bundle::Counts;
+use bundle_rules::Answer;
+use bundle_rules::Counts;
 use effects::Specials;
 use state::WaitingLoad;
 use state::WaitingTransfer;

@@ -3,7 +3,7 @@ ghost use mathlib.Core.Path.{_≡_};
 ghost use Rattle.state.specs.State.{withRegister, landed, transferred};
 ghost use Rattle.state.specs.Core.{joined};
 ghost use Rattle.memory.specs.Access.{buffers};
-ghost use Rattle.bundle.specs.Bundle.{full, step};
+ghost use Rattle.bundle_rules.specs.Bundle.{full, step};
 ghost use Rattle.machine.specs.Whole.{stateOf, steppedOf};
 use crate::State;
 use crate::Stepped;

@@ -24,8 +24,8 @@ use Rattle.effects.specs.declared.Transfer.the-variants.{Br, Call, Block}
 use Rattle.effects.specs.declared.Effect.{Effect}
 use Rattle.effects.specs.declared.Effect.the-variants as effect
 use Rattle.state.specs.State.{State}
-use Rattle.bundle.specs.declared.Counts.{Counts}
-use Rattle.bundle.specs.Bundle.{undelayedCycles, noCounts, countsOf, lent, step}
+use Rattle.bundle_rules.specs.declared.Counts.{Counts}
+use Rattle.bundle_rules.specs.Bundle.{undelayedCycles, noCounts, countsOf, lent, step}
 use Rattle.machine_laws.specs.StepCases.{effectAt, step-cases}
 use Rattle.machine_laws.specs.StackKept.{Passed, fine-effect, stack-accepted}
 

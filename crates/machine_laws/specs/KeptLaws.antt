@@ -37,7 +37,7 @@ use Rattle.memory.specs.Access.{Buffers, loadedValue}
 use Rattle.effects.specs.declared.Specials.{Specials}
 use Rattle.effects.specs.Effect.{Start, holds, slotOne, slotOneEffect, effectOf, stackEffect}
 use Rattle.state.specs.Writes.{writeAlu, delaySlots, nearer, begun}
-use Rattle.bundle.specs.Bundle.{writeOne, onward, written, bundleAt, bundle, lent, step}
+use Rattle.bundle_rules.specs.Bundle.{writeOne, onward, written, bundleAt, bundle, lent, step}
 use Rattle.machine_laws.specs.StepCases.{effectAt, stateAfter, bundle-cases, step-cases}
 
 -- A special register written changes special registers alone, and s0 the predicates alone.

@@ -34,8 +34,8 @@ use Rattle.settings.specs.Answer.{done}
 use Rattle.settings.specs.SettingsLaws.{area-ordered}
 use Rattle.memory.specs.Access.{Buffers, stored, storeScale, Test, verdict as verdictOf, mainOpen, mainWritable, accessOpen, accessTests}
 use Rattle.effects.specs.Effect.{isUndecodable}
-use Rattle.bundle.specs.Refusal.{effectTests, outsideCode}
-use Rattle.bundle.specs.Bundle.{area, withArea, stackMoved, buffersAfter, writeOne, written, bundleAt, bundle, lent, step}
+use Rattle.bundle_rules.specs.Refusal.{effectTests, outsideCode}
+use Rattle.bundle_rules.specs.Bundle.{area, withArea, stackMoved, buffersAfter, writeOne, written, bundleAt, bundle, lent, step}
 use Rattle.machine_laws.specs.StepCases.{effectAt, judged, bundle-cases, bundle-fine, bundle-done-as, step-cases}
 use Rattle.machine_laws.specs.KeptLaws.{writeAlu-cases, onward-cases}
 

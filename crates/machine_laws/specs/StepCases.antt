@@ -9,13 +9,13 @@ use Rattle.state.specs.State.{State, startOf, wellFormed, ended as hasEnded}
 use Rattle.effects.specs.declared.Effect.{Effect}
 use Rattle.memory.specs.declared.Verdict.{Verdict}
 use Rattle.memory.specs.declared.Verdict.the-variants as verdict
-use Rattle.bundle.specs.declared.Readiness.the-variants as ready
+use Rattle.bundle_rules.specs.declared.Readiness.the-variants as ready
 use Rattle.settings.specs.Answer.{Returned, accepted, done, ended, spent, refused}
 use Rattle.settings.specs.Settings.{admits}
 use Rattle.memory.specs.Access.{Buffers, verdict as verdictOf}
 use Rattle.effects.specs.Effect.{slotOne, slotTwo}
-use Rattle.bundle.specs.Refusal.{bundleTests}
-use Rattle.bundle.specs.Bundle.{buffersAfter, written, countsOf, noCounts, Outcome, outcome, bundleAt, followingAt, refusedOr, bundle, readiness, readyOr, lent, step}
+use Rattle.bundle_rules.specs.Refusal.{bundleTests}
+use Rattle.bundle_rules.specs.Bundle.{buffersAfter, written, countsOf, noCounts, Outcome, outcome, bundleAt, followingAt, refusedOr, bundle, readiness, readyOr, lent, step}
 
 -- What slot one does at the fetch address, how the bundle there is judged, and its outcome where it is done.
 abbrev pub effectAt : List ℕ → State → Effect

@@ -6,8 +6,8 @@ use mathlib.Core.Path.{refl}
 use Rattle.effects.specs.declared.Transfer.the-variants.{Br}
 use Rattle.state.specs.declared.WaitingTransfer.the-variants.{Nothing, Waits}
 use Rattle.settings.specs.Answer.{done, refused}
-use Rattle.bundle.specs.declared.Counts.{Counts}
-use Rattle.bundle.specs.Bundle.{noCounts}
+use Rattle.bundle_rules.specs.declared.Counts.{Counts}
+use Rattle.bundle_rules.specs.Bundle.{noCounts}
 use Rattle.proved_cases.specs.Case.{Case, AllHold}
 use Rattle.proved_cases.specs.Run.{Given, opened, seen, Trace, traced, Tried, Run, case, runs-hold}
 

@@ -13,12 +13,12 @@ use Rattle.stack_cache.specs.Stack.{isCacheSize, cacheWord, putCacheWord, partO
 use Rattle.state.specs.State.{State, startOf, withRegister, withPredicate, predicatesOf, withSpecial, withStack, landed, goingOn, transferred, wellFormed, ended as hasEnded, fresh}
 use Rattle.state.specs.declared.WaitingTransfer.{WaitingTransfer}
 use Rattle.settings.specs.Answer.{Returned, accepted, done, ended, spent, refused}
-use Rattle.bundle.specs.declared.Counts.{Counts}
+use Rattle.bundle_rules.specs.declared.Counts.{Counts}
 use Rattle.settings.specs.Settings.{admits}
 use Rattle.memory.specs.Access.{Buffers, buffers, loadScale, storeScale, readNumber, extended, loadedValue, stored, mainOpen, accessOpen, verdict}
 use Rattle.effects.specs.Effect.{predicatesWord, special, op2Value, aluEffect, accessAddress, amountWords, amountAligned, stackEffect, transferOf, effectOf, slotOneEffect, slotTwoEffect, slotOne, onEffect}
-use Rattle.bundle.specs.Refusal.{outsideCode}
-use Rattle.bundle.specs.Bundle.{stackMoved, buffersAfter, writeOne, written, Outcome, outcome, bundleAt, bundle, readiness, step}
+use Rattle.bundle_rules.specs.Refusal.{outsideCode}
+use Rattle.bundle_rules.specs.Bundle.{stackMoved, buffersAfter, writeOne, written, Outcome, outcome, bundleAt, bundle, readiness, step}
 use Rattle.state.specs.Writes.{writeAlu, delaySlots}
 use Rattle.machine.specs.Open.{Open, opening}
 use Rattle.proved_cases.specs.Case.{Case, AllHold}

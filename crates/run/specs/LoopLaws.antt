@@ -7,11 +7,11 @@ use native.Mathlib.Omega.{arith}
 use Rattle.settings.specs.Answer.{spent}
 use Rattle.memory.specs.Access.{Buffers}
 use Rattle.state.specs.State.{State}
-use Rattle.bundle.specs.declared.Answer.{Answer}
-use Rattle.bundle.specs.declared.Answer.the-variants.{Done}
-use Rattle.bundle.specs.declared.Counts.{Counts}
-use Rattle.bundle.specs.Bundle.{Stepped, Outcome, outcome, noCounts, returned, full, readiness, readyOr, lent, step}
-use Rattle.bundle.specs.declared.Readiness.{Readiness}
+use Rattle.bundle_rules.specs.declared.Answer.{Answer}
+use Rattle.bundle_rules.specs.declared.Answer.the-variants.{Done}
+use Rattle.bundle_rules.specs.declared.Counts.{Counts}
+use Rattle.bundle_rules.specs.Bundle.{Stepped, Outcome, outcome, noCounts, returned, full, readiness, readyOr, lent, step}
+use Rattle.bundle_rules.specs.declared.Readiness.{Readiness}
 use Rattle.machine_laws.specs.StepCases.{isDone}
 use Rattle.machine_laws.specs.CountLaws.{Small, step-small}
 use Rattle.run.specs.declared.RunAnswer.{RunAnswer}

@@ -4,14 +4,14 @@ use mathlib.Core.List.{List, [], _∷_}
 use Rattle.settings.specs.Answer.{Returned, accepted, done, ended, spent, refused}
 use Rattle.memory.specs.Access.{Buffers}
 use Rattle.state.specs.State.{State}
-use Rattle.bundle.specs.declared.Counts.{Counts}
-use Rattle.bundle.specs.declared.Readiness.{Readiness}
-use Rattle.bundle.specs.declared.Readiness.the-variants.{Ready, Ended, Refused}
+use Rattle.bundle_rules.specs.declared.Counts.{Counts}
+use Rattle.bundle_rules.specs.declared.Readiness.{Readiness}
+use Rattle.bundle_rules.specs.declared.Readiness.the-variants.{Ready, Ended, Refused}
 use Rattle.run.specs.declared.RunAnswer.{RunAnswer}
 use Rattle.run.specs.declared.RunAnswer.the-variants as answer
 use Rattle.run.specs.declared.Ran.{Ran}
 use Rattle.machine.specs.Whole.{stateOf}
-use Rattle.bundle.specs.Bundle.{Outcome, outcome, noCounts, readiness, readyOr, lent, step}
+use Rattle.bundle_rules.specs.Bundle.{Outcome, outcome, noCounts, readiness, readyOr, lent, step}
 
 -- Counts are summed bundle by bundle.
 abbrev pub plus : Counts → Counts → Counts

@@ -9,8 +9,8 @@ use native.Mathlib.Nat.{add-zero, zero-add, add-assoc}
 use Rattle.settings.specs.Answer.{Returned, accepted, done, ended, spent, refused}
 use Rattle.memory.specs.Access.{Buffers}
 use Rattle.state.specs.State.{State}
-use Rattle.bundle.specs.declared.Counts.{Counts}
-use Rattle.bundle.specs.Bundle.{Outcome, outcome, noCounts, bundle, step}
+use Rattle.bundle_rules.specs.declared.Counts.{Counts}
+use Rattle.bundle_rules.specs.Bundle.{Outcome, outcome, noCounts, bundle, step}
 use Rattle.machine_laws.specs.StepCases.{isDone, step-unchanged}
 use Rattle.machine_laws.specs.CountLaws.{Small}
 use Rattle.run.specs.Run.{plus, ifDone, counted, stopped, run}

@@ -7,10 +7,10 @@ use native.Mathlib.Omega.{arith}
 use Rattle.settings.specs.Answer.{Returned, accepted, done, ended, spent, refused}
 use Rattle.memory.specs.Access.{Buffers}
 use Rattle.state.specs.State.{State}
-use Rattle.bundle.specs.declared.Counts.{Counts}
-use Rattle.bundle.specs.declared.Readiness.{Readiness}
-use Rattle.bundle.specs.declared.Readiness.the-variants.{Ready, Ended, Refused}
-use Rattle.bundle.specs.Bundle.{Outcome, outcome, noCounts, bundle, readiness, readyOr, lent, step}
+use Rattle.bundle_rules.specs.declared.Counts.{Counts}
+use Rattle.bundle_rules.specs.declared.Readiness.{Readiness}
+use Rattle.bundle_rules.specs.declared.Readiness.the-variants.{Ready, Ended, Refused}
+use Rattle.bundle_rules.specs.Bundle.{Outcome, outcome, noCounts, bundle, readiness, readyOr, lent, step}
 use Rattle.machine_laws.specs.StepCases.{isDone, bundle-cases, step-cases}
 use Rattle.run.specs.Run.{plus, ifDone, counted, run, Tried, triedAt, whenReady, tries, endOf, doneIn}
 use Rattle.run.specs.RunLaws.{counted-counted, counted-none}

@@ -8,8 +8,8 @@ use lib.ListN.{length}
 use Rattle.settings.specs.declared.Settings.{Settings}
 use Rattle.settings.specs.Settings.{admits}
 use Rattle.effects.specs.Effect.{isUndecodable}
-use Rattle.bundle.specs.Refusal.{outsideCode}
-use Rattle.bundle.specs.Bundle.{bundleAt, followingAt}
+use Rattle.bundle_rules.specs.Refusal.{outsideCode}
+use Rattle.bundle_rules.specs.Bundle.{bundleAt, followingAt}
 use Rattle.marking.specs.declared.Marking.{Marking}
 use Rattle.marking.specs.Marking.{markingOk}
 use Rattle.marking_rules.specs.Rules.{breaks, keeps}

@@ -11,8 +11,8 @@ use lib.ListN.{length}
 use Rattle.word.specs.Word.{isMultipleOf4}
 use Rattle.stack_cache.specs.RangeLaws.{or-right}
 use Rattle.effects.specs.Effect.{isUndecodable}
-use Rattle.bundle.specs.Refusal.{outsideCode}
-use Rattle.bundle.specs.Bundle.{bundleAt, followingAt}
+use Rattle.bundle_rules.specs.Refusal.{outsideCode}
+use Rattle.bundle_rules.specs.Bundle.{bundleAt, followingAt}
 use Rattle.marking.specs.declared.Marking.{Marking}
 use Rattle.marking_rules.specs.Rules.{keeps}
 use Rattle.single_path.specs.Check.{accepted, refused, walkFrom}

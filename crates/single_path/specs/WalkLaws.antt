@@ -10,7 +10,7 @@ use lib.Dec.{leb, eqb}
 use lib.ListN.{length}
 use Rattle.big_endian.specs.Bytes.{wordAt}
 use Rattle.decoder.specs.Decode.{isTwoWords, bundleWords}
-use Rattle.bundle.specs.Bundle.{followingAt}
+use Rattle.bundle_rules.specs.Bundle.{followingAt}
 use Rattle.single_path.specs.Check.{Walked, first, later}
 
 -- A bundle has one word or two.

@@ -1,6 +1,6 @@
 use mathlib.Core.Path.{ap}
 use Rattle.state.specs.State.{State}
-use Rattle.bundle.specs.Bundle.{outcome}
+use Rattle.bundle_rules.specs.Bundle.{outcome}
 use Rattle.run.specs.Run.{returned}
 use Rattle.run.proofs.result.Statement.{statement}
 use Rattle.run.proofs.result.Tie as tie

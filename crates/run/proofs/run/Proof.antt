@@ -6,7 +6,7 @@ use lib.ListN.{length}
 use Rattle.memory.specs.Access.{buffers}
 use Rattle.state.specs.State.{State}
 use Rattle.state.specs.Core.{joined}
-use Rattle.bundle.specs.Execute.{steppedAs}
+use Rattle.bundle_rules.specs.Execute.{steppedAs}
 use Rattle.run.specs.Run.{counted, run}
 use Rattle.run.specs.RunLaws.{Few, few-none, few-more, few-fit, counted-none}
 use Rattle.run.specs.LoopLaws.{turn-stops, turn-goes-on, turn-spent, step-few}

@@ -6,8 +6,8 @@ use mathlib.Core.Path.{_≡_, refl, sym, _∙_}
 use native.Mathlib.Omega.{arith}
 use borrow.Author.Needs.{needs}
 use lib.ListN.{length}
-use Rattle.bundle.specs.Refusal.{outsideCode}
-use Rattle.bundle.specs.Bundle.{bundleAt}
+use Rattle.bundle_rules.specs.Refusal.{outsideCode}
+use Rattle.bundle_rules.specs.Bundle.{bundleAt}
 use Rattle.single_path.specs.Check.{walkFrom}
 use Rattle.single_path.proofs.walk.Statement.{statement}
 use Rattle.single_path.proofs.walk.Tie as tie

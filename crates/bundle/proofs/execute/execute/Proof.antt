@@ -1,5 +1,5 @@
 use Rattle.state.specs.Core.{joined}
-use Rattle.bundle.specs.ExecuteLaws.{executed-refused, executed-done}
+use Rattle.bundle_rules.specs.ExecuteLaws.{executed-refused, executed-done}
 use borrow.Author.Needs.{needs}
 use Rattle.bundle.proofs.execute.execute.Statement.{statement}
 use Rattle.bundle.proofs.execute.execute.Tie as tie

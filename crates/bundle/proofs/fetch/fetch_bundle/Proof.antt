@@ -1,9 +1,9 @@
 use borrow.Author.Tests.{ne-eqb, lt-ltb, le-ltb}
 use mathlib.Core.Path.{sym, _∙_}
 use Rattle.state.specs.Core.{joined}
-use Rattle.bundle.specs.Refusal.{outsideCode}
-use Rattle.bundle.specs.Execute.{fetched}
-use Rattle.bundle.specs.BundleLaws.{fetched-read}
+use Rattle.bundle_rules.specs.Refusal.{outsideCode}
+use Rattle.bundle_rules.specs.Execute.{fetched}
+use Rattle.bundle_rules.specs.BundleLaws.{fetched-read}
 use borrow.Author.Needs.{needs}
 use Rattle.bundle.proofs.fetch.fetch_bundle.Statement.{statement}
 use Rattle.bundle.proofs.fetch.fetch_bundle.Tie as tie

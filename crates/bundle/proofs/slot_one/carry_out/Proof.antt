@@ -11,10 +11,10 @@ use Rattle.effects.proofs.Effect.{the-type}
 use Rattle.settings.specs.declared.Settings.{Settings}
 use Rattle.memory.specs.Access.{Buffers, verdict, accessVerdict}
 use Rattle.state.specs.State.{State, noneWaits}
-use Rattle.bundle.specs.declared.Carried.the-variants.{Done}
-use Rattle.bundle.specs.Bundle.{buffersAfter}
-use Rattle.bundle.specs.Execute.{carriedAs, carriedOut}
-use Rattle.bundle.specs.ExecuteLaws.{transfer-carried}
+use Rattle.bundle_rules.specs.declared.Carried.the-variants.{Done}
+use Rattle.bundle_rules.specs.Bundle.{buffersAfter}
+use Rattle.bundle_rules.specs.Execute.{carriedAs, carriedOut}
+use Rattle.bundle_rules.specs.ExecuteLaws.{transfer-carried}
 use borrow.Author.Needs.{needs}
 use Rattle.bundle.proofs.slot_one.carry_out.Statement.{statement}
 use Rattle.bundle.proofs.slot_one.carry_out.Tie as tie

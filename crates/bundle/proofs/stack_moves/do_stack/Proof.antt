@@ -3,8 +3,8 @@ use native.Mathlib.Omega.{arith}
 use Rattle.settings.specs.SettingsLaws.{words-small, area-ordered, area-inside}
 use Rattle.stack_control.specs.PlanLaws.{planned-told}
 use Rattle.state.specs.Core.{joined}
-use Rattle.bundle.specs.Execute.{carriedOut}
-use Rattle.bundle.specs.ExecuteLaws.{stack-tests, one-way, stack-carried}
+use Rattle.bundle_rules.specs.Execute.{carriedOut}
+use Rattle.bundle_rules.specs.ExecuteLaws.{stack-tests, one-way, stack-carried}
 use borrow.Author.Needs.{needs}
 use Rattle.bundle.proofs.stack_moves.do_stack.Statement.{statement}
 use Rattle.bundle.proofs.stack_moves.do_stack.Tie as tie

@@ -1,7 +1,7 @@
 use mathlib.Core.Path.{sym, _∙_}
 use Rattle.state.specs.Core.{joined}
-use Rattle.bundle.specs.BundleLaws.{bundle-refused, bundle-slots}
-use Rattle.bundle.specs.ExecuteLaws.{full-same}
+use Rattle.bundle_rules.specs.BundleLaws.{bundle-refused, bundle-slots}
+use Rattle.bundle_rules.specs.ExecuteLaws.{full-same}
 use Rattle.settings.specs.SettingsLaws.{code-small}
 use borrow.Author.Needs.{needs}
 use Rattle.bundle.proofs.step.bundle.Statement.{statement}

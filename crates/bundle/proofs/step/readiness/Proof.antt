@@ -1,4 +1,4 @@
-use Rattle.bundle.specs.Bundle.{readiness}
+use Rattle.bundle_rules.specs.Bundle.{readiness}
 use Rattle.bundle.proofs.step.readiness.Statement.{statement}
 use Rattle.bundle.proofs.step.readiness.Tie as tie
 

@@ -1,7 +1,7 @@
 use mathlib.Core.Path.{refl, sym, _∙_}
-use Rattle.bundle.specs.Bundle.{step}
-use Rattle.bundle.specs.BundleLaws.{ready-admits}
-use Rattle.bundle.specs.ExecuteLaws.{full-same}
+use Rattle.bundle_rules.specs.Bundle.{step}
+use Rattle.bundle_rules.specs.BundleLaws.{ready-admits}
+use Rattle.bundle_rules.specs.ExecuteLaws.{full-same}
 use Rattle.bundle.proofs.step.step.Statement.{statement}
 use Rattle.bundle.proofs.step.step.Tie as tie
 

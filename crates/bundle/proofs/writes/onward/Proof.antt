@@ -10,7 +10,7 @@ use Rattle.effects.proofs.Effect.{the-type}
 use Rattle.state.specs.declared.WaitingTransfer.{WaitingTransfer}
 use Rattle.state.specs.State.{State}
 use Rattle.state.specs.Writes.{nearer}
-use Rattle.bundle.specs.Bundle.{onward}
+use Rattle.bundle_rules.specs.Bundle.{onward}
 use borrow.Author.Needs.{needs}
 use Rattle.bundle.proofs.writes.onward.Statement.{statement}
 use Rattle.bundle.proofs.writes.onward.Tie as tie

@@ -2,8 +2,8 @@ use mathlib.Core.Path.{_≡_, refl, sym, ap, _∙_}
 use Rattle.state.specs.State.{State}
 use Rattle.state.specs.Writes.{writeAlu}
 use Rattle.state.specs.Core.{waitingTransfer}
-use Rattle.bundle.specs.Bundle.{onward}
-use Rattle.bundle.specs.Execute.{writeDone}
+use Rattle.bundle_rules.specs.Bundle.{onward}
+use Rattle.bundle_rules.specs.Execute.{writeDone}
 use borrow.Author.Needs.{needs}
 use Rattle.bundle.proofs.writes.write.Statement.{statement}
 use Rattle.bundle.proofs.writes.write.Tie as tie

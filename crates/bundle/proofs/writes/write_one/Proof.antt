@@ -8,7 +8,7 @@ use Rattle.effects.specs.declared.Effect.the-variants.{Alu, Special, Product, L
 use Rattle.effects.proofs.Effect.{the-type}
 use Rattle.state.specs.State.{State}
 use Rattle.state.specs.Core.{waitingLoad}
-use Rattle.bundle.specs.Execute.{writeDone}
+use Rattle.bundle_rules.specs.Execute.{writeDone}
 use borrow.Author.Needs.{needs}
 use Rattle.bundle.proofs.writes.write_one.Statement.{statement}
 use Rattle.bundle.proofs.writes.write_one.Tie as tie

@@ -1,6 +1,6 @@
 use mathlib.Core.Path.{ap, _∙_}
 use Rattle.state.specs.State.{State}
-use Rattle.bundle.specs.Bundle.{step}
+use Rattle.bundle_rules.specs.Bundle.{step}
 use Rattle.memory.specs.Access.{buffers}
 use Rattle.machine.proofs.State.step.Statement.{statement}
 use Rattle.machine.proofs.State.step.Tie as tie

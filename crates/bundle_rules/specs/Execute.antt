@@ -18,15 +18,15 @@ use Rattle.effects.specs.Effect.{effectsOf, onEffect}
 use Rattle.state.specs.declared.WaitingLoad.the-variants as load
 use Rattle.state.specs.State.{State, startOf, withSpecial, withProduct, withLoad, withStack}
 use Rattle.state.specs.Writes.{writeAlu}
-use Rattle.bundle.specs.declared.Carried.{Carried}
-use Rattle.bundle.specs.declared.Carried.the-variants as carried
-use Rattle.bundle.specs.declared.Fetched.{Fetched}
-use Rattle.bundle.specs.declared.Fetched.the-variants as fetch
-use Rattle.bundle.specs.declared.Advanced.{Advanced}
-use Rattle.bundle.specs.Bundle.{Stepped, area, withArea, Outcome, outcome, noCounts, written, spilledBy, filledBy, countsOf, buffersAfter, refusedOr, bundleAt, followingAt}
+use Rattle.bundle_rules.specs.declared.Carried.{Carried}
+use Rattle.bundle_rules.specs.declared.Carried.the-variants as carried
+use Rattle.bundle_rules.specs.declared.Fetched.{Fetched}
+use Rattle.bundle_rules.specs.declared.Fetched.the-variants as fetch
+use Rattle.bundle_rules.specs.declared.Advanced.{Advanced}
+use Rattle.bundle_rules.specs.Bundle.{Stepped, area, withArea, Outcome, outcome, noCounts, written, spilledBy, filledBy, countsOf, buffersAfter, refusedOr, bundleAt, followingAt}
 use Rattle.state.specs.Core.{joined}
-use Rattle.bundle.specs.declared.Answer.the-variants.{Done, Ended, Refused}
-use Rattle.bundle.specs.Refusal.{outsideCode, effectTests}
+use Rattle.bundle_rules.specs.declared.Answer.the-variants.{Done, Ended, Refused}
+use Rattle.bundle_rules.specs.Refusal.{outsideCode, effectTests}
 
 -- What a function gives back with the registers and predicates that it leaves.
 abbrev pub steppedAs : List ℕ → List Bool → Advanced → Stepped

@@ -18,13 +18,13 @@ use Rattle.effects.specs.declared.Effect.the-variants as effect
 use Rattle.memory.specs.declared.Verdict.{Verdict}
 use Rattle.memory.specs.declared.Verdict.the-variants.{Fine, Refused}
 use Rattle.settings.specs.Answer.{done, refused}
-use Rattle.bundle.specs.Bundle.{Stepped, outcome, noCounts, full, written, writeOne, onward, cyclesOf, spilledBy, filledBy, countsOf, buffersAfter, refusedOr, stackMoved}
+use Rattle.bundle_rules.specs.Bundle.{Stepped, outcome, noCounts, full, written, writeOne, onward, cyclesOf, spilledBy, filledBy, countsOf, buffersAfter, refusedOr, stackMoved}
 use Rattle.memory.specs.Access.{Buffers, buffers, verdict}
-use Rattle.bundle.specs.Refusal.{effectTests}
+use Rattle.bundle_rules.specs.Refusal.{effectTests}
 use Rattle.state.specs.Writes.{writeAlu}
-use Rattle.bundle.specs.declared.Carried.{Carried}
-use Rattle.bundle.specs.declared.Carried.the-variants as carried
-use Rattle.bundle.specs.Execute.{refusedWith, doneWith, executed, CarriedOut, carriedAs, unlessRefused, loadedBy, topBy, spillBy, carriedOut, writeDone, Moved}
+use Rattle.bundle_rules.specs.declared.Carried.{Carried}
+use Rattle.bundle_rules.specs.declared.Carried.the-variants as carried
+use Rattle.bundle_rules.specs.Execute.{refusedWith, doneWith, executed, CarriedOut, carriedAs, unlessRefused, loadedBy, topBy, spillBy, carriedOut, writeDone, Moved}
 
 -- a stack instruction is refused as its plan is
 abbrev pub planVerdict : Plan → Verdict

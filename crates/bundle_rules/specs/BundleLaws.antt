@@ -7,17 +7,17 @@ use Rattle.settings.specs.declared.Settings.{Settings}
 use Rattle.state.specs.State.{State, startOf, wellFormed, ended}
 use Rattle.effects.specs.declared.AluEffect.{AluEffect}
 use Rattle.effects.specs.declared.Effect.{Effect}
-use Rattle.bundle.specs.declared.Fetched.the-variants as fetch
+use Rattle.bundle_rules.specs.declared.Fetched.the-variants as fetch
 use Rattle.settings.specs.Answer.{refused}
 use Rattle.memory.specs.Access.{Buffers, verdict}
 use Rattle.effects.specs.declared.Effects.{Effects}
 use Rattle.effects.specs.declared.Effects.the-variants as effects
 use Rattle.effects.specs.Effect.{slotOne, slotTwo, isUndecodable, effectsOf}
 use Rattle.settings.specs.Settings.{admits}
-use Rattle.bundle.specs.declared.Readiness.the-variants as ready
-use Rattle.bundle.specs.Refusal.{outsideCode}
-use Rattle.bundle.specs.Bundle.{outcome, noCounts, bundleAt, followingAt, bundle, readiness}
-use Rattle.bundle.specs.Execute.{executed, fetchedOf, fetched}
+use Rattle.bundle_rules.specs.declared.Readiness.the-variants as ready
+use Rattle.bundle_rules.specs.Refusal.{outsideCode}
+use Rattle.bundle_rules.specs.Bundle.{outcome, noCounts, bundleAt, followingAt, bundle, readiness}
+use Rattle.bundle_rules.specs.Execute.{executed, fetchedOf, fetched}
 
 module _ (g : Settings) (code : List ℕ) (s : State) (b : Buffers) where
   pub bundle-outside : outsideCode code (s .fetch) ≡ true → bundle g code s b ≡ outcome (refused 2) s noCounts b

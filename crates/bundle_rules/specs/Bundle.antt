@@ -23,13 +23,13 @@ use Rattle.effects.specs.Effect.{slotOne, slotTwo, onEffect}
 use Rattle.state.specs.State.{State, startOf, withSpecial, withProduct, withStack, withLoad, landed, wellFormed, ended as hasEnded}
 use Rattle.state.specs.declared.WaitingTransfer.{WaitingTransfer}
 use Rattle.state.specs.declared.WaitingLoad.the-variants as load
-use Rattle.bundle.specs.declared.Answer.{Answer}
-use Rattle.bundle.specs.declared.Answer.the-variants.{Done, Ended, Refused}
-use Rattle.bundle.specs.declared.Readiness.{Readiness}
-use Rattle.bundle.specs.declared.Readiness.the-variants as ready
-use Rattle.bundle.specs.declared.Counts.{Counts}
+use Rattle.bundle_rules.specs.declared.Answer.{Answer}
+use Rattle.bundle_rules.specs.declared.Answer.the-variants.{Done, Ended, Refused}
+use Rattle.bundle_rules.specs.declared.Readiness.{Readiness}
+use Rattle.bundle_rules.specs.declared.Readiness.the-variants as ready
+use Rattle.bundle_rules.specs.declared.Counts.{Counts}
 use Rattle.state.specs.Writes.{writeAlu, nearer, begun}
-use Rattle.bundle.specs.Refusal.{bundleTests}
+use Rattle.bundle_rules.specs.Refusal.{bundleTests}
 
 -- The stack area's part of main memory, and main memory with that part replaced.
 abbrev pub area : ℕ → ℕ → List ℕ → List ℕ
