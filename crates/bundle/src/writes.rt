@@ -8,7 +8,7 @@ ghost use Rattle.state.specs.Writes.{writeAlu};
 ghost use Rattle.state.specs.Core.{joined, waitingTransfer};
 ghost use Rattle.bundle_rules.specs.Bundle.{onward, cyclesOf, undelayedCycles};
 ghost use Rattle.bundle_rules.specs.Execute.{writeDone};
-use effects::AluEffect;
+use alu_effects::AluEffect;
 use effects::Effect;
 use effects::Transfer;
 use state::Core;

@@ -16,7 +16,7 @@ use Rattle.settings.specs.Settings.{admits, settingsOf}
 use Rattle.memory.specs.Access.{storeScale, Buffers, buffers, loadedValue, stored, verdict}
 use Rattle.effects.specs.declared.Transfer.{Transfer}
 use Rattle.effects.specs.declared.Transfer.the-variants.{Br, Call, Block}
-use Rattle.effects.specs.declared.AluEffect.{AluEffect}
+use Rattle.alu_effects.specs.declared.AluEffect.{AluEffect}
 use Rattle.effects.specs.declared.Effect.{Effect}
 use Rattle.effects.specs.declared.Effect.the-variants as effect
 use Rattle.effects.specs.Effect.{slotOne, slotTwo, onEffect}

@@ -5,7 +5,7 @@ use mathlib.Core.List.{List}
 use mathlib.Core.Path.{_≡_, refl, ap, _∙_}
 use Rattle.settings.specs.declared.Settings.{Settings}
 use Rattle.state.specs.State.{State, startOf, wellFormed, ended}
-use Rattle.effects.specs.declared.AluEffect.{AluEffect}
+use Rattle.alu_effects.specs.declared.AluEffect.{AluEffect}
 use Rattle.effects.specs.declared.Effect.{Effect}
 use Rattle.bundle_rules.specs.declared.Fetched.the-variants as fetch
 use Rattle.settings.specs.Answer.{refused}

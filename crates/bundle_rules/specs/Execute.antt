@@ -9,7 +9,7 @@ use Rattle.settings.specs.Answer.{done}
 use Rattle.memory.specs.declared.Verdict.{Verdict}
 use Rattle.memory.specs.declared.Verdict.the-variants as verdict
 use Rattle.memory.specs.Access.{Buffers, loadedValue, verdict}
-use Rattle.effects.specs.declared.AluEffect.{AluEffect}
+use Rattle.alu_effects.specs.declared.AluEffect.{AluEffect}
 use Rattle.effects.specs.declared.Effect.{Effect}
 use Rattle.effects.specs.declared.Effect.the-variants as effect
 use Rattle.effects.specs.declared.Effects.{Effects}

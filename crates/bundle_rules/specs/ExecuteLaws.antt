@@ -12,7 +12,7 @@ use Rattle.stack_control.specs.PlanLaws.{planned-told}
 use Rattle.stack_cache.specs.Stack.{badWindow, badAmount, movedOutside, planned, topAfter, spillAfter, spills, fills}
 use Rattle.settings.specs.declared.Settings.{Settings}
 use Rattle.state.specs.State.{State, landed}
-use Rattle.effects.specs.declared.AluEffect.{AluEffect}
+use Rattle.alu_effects.specs.declared.AluEffect.{AluEffect}
 use Rattle.effects.specs.declared.Effect.{Effect}
 use Rattle.effects.specs.declared.Effect.the-variants as effect
 use Rattle.memory.specs.declared.Verdict.{Verdict}

@@ -1,5 +1,5 @@
 // One bundle: the types of what it gives. What it does is in specs/.
-use effects::AluEffect;
+use alu_effects::AluEffect;
 use effects::Effect;
 use state::Core;
 

@@ -17,7 +17,7 @@ use Rattle.case_file.specs.declared.PrivateEntry.{PrivateEntry}
 use Rattle.case_file.specs.declared.PrivateEntry.the-variants as PrivateEntry
 use Rattle.case_file.specs.declared.Reason.{Reason}
 use Rattle.case_file.specs.declared.Reason.the-variants.{FieldMissing, NotANumber, NotAWord, NoSuchItem}
-use Rattle.case_file.specs.Names.{itemOf, isItem}
+use Rattle.case_words.specs.Names.{itemOf, isItem}
 
 abbrev pub isEmpty : Field → Bool
 isEmpty f = eqb (f .start) (f .end)

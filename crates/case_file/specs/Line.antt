@@ -7,18 +7,18 @@ use Rattle.text.specs.declared.Field.{Field}
 use Rattle.text.specs.Field.{fieldFrom, isName}
 use Rattle.case_file.specs.declared.Argument.{Argument}
 use Rattle.case_file.specs.declared.Argument.the-variants as Argument
-use Rattle.case_file.specs.declared.Keyword.{Keyword}
-use Rattle.case_file.specs.declared.Keyword.the-variants as Keyword
-use Rattle.case_file.specs.declared.OneNumber.{OneNumber}
-use Rattle.case_file.specs.declared.OneNumber.the-variants as OneNumber
-use Rattle.case_file.specs.declared.NumberAndWord.{NumberAndWord}
-use Rattle.case_file.specs.declared.NumberAndWord.the-variants as NumberAndWord
-use Rattle.case_file.specs.declared.TransferKind.{TransferKind}
-use Rattle.case_file.specs.declared.TransferKind.the-variants as TransferKind
+use Rattle.case_words.specs.declared.Keyword.{Keyword}
+use Rattle.case_words.specs.declared.Keyword.the-variants as Keyword
+use Rattle.case_words.specs.declared.OneNumber.{OneNumber}
+use Rattle.case_words.specs.declared.OneNumber.the-variants as OneNumber
+use Rattle.case_words.specs.declared.NumberAndWord.{NumberAndWord}
+use Rattle.case_words.specs.declared.NumberAndWord.the-variants as NumberAndWord
+use Rattle.case_words.specs.declared.TransferKind.{TransferKind}
+use Rattle.case_words.specs.declared.TransferKind.the-variants as TransferKind
 use Rattle.case_file.specs.declared.Line.{Line}
 use Rattle.case_file.specs.declared.Line.the-variants as Line
 use Rattle.case_file.specs.declared.Reason.the-variants as Reason
-use Rattle.case_file.specs.Names.{keywordOf, transferKindOf, specialNameOf, isSpecial}
+use Rattle.case_words.specs.Names.{keywordOf, transferKindOf, specialNameOf, isSpecial}
 use Rattle.case_file.specs.Arguments.{isEmpty, bytesOf, isEnd, numberAt, wordAt}
 
 -- The line goes on after a field, with what was read and the place after it; a mistake ends it.

@@ -5,11 +5,11 @@ use mathlib.Core.Path.{_≡_, refl}
 use Prim.Native.String as Text
 use Rattle.case_file.specs.declared.Line.{Line}
 use Rattle.case_file.specs.declared.Line.the-variants.{Empty, Mistake, Case, Code, Private, Main, Local, Stack, Entry, Fetch, Base, Reg, Pred, Special, Br, Call, Block, Load, MainWord, LocalWord, CacheWord, Run, Step, Check}
-use Rattle.case_file.specs.declared.SpecialName.the-variants.{Sro}
+use Rattle.case_words.specs.declared.SpecialName.the-variants.{Sro}
 use Rattle.case_file.specs.declared.Reason.the-variants as Reason
 use Rattle.text.specs.Field.{spaces, fieldLength, fieldFrom, sameBytes, isNameByte, areNameBytes, isName}
 use Rattle.text.specs.Number.{digit, numberFrom, decimalOf, wordOf}
-use Rattle.case_file.specs.Names.{bytes, lookUp, keywords, transferKinds, specialNames}
+use Rattle.case_words.specs.Names.{bytes, lookUp, keywords, transferKinds, specialNames}
 use Rattle.case_file.specs.Arguments.{isEnd, argumentAt}
 use Rattle.case_file.specs.Line.{reg, pred, transfer, lineAfter, lineOf}
 

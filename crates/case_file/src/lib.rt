@@ -1,7 +1,9 @@
 // Case files: what a line says. Nothing here does what a line asks.
 pub mod arguments;
-pub mod keywords;
 pub mod lines;
+
+use case_words::Item;
+use case_words::SpecialName;
 
 // A number or word, and the place after its field.
 pub enum Argument {
@@ -21,74 +23,6 @@ pub enum PrivateEntry {
     Item { item: Item, next: usize },
     Mistake(Reason),
     End,
-}
-
-// The first word of a line.
-pub enum Keyword {
-    Case,
-    Code,
-    OneNumber(OneNumber),
-    Stack,
-    Private,
-    NumberAndWord(NumberAndWord),
-    Pred,
-    Special,
-    Transfer,
-    Step,
-    Check,
-    Unknown,
-}
-
-// The keywords that one number follows.
-pub enum OneNumber {
-    Main,
-    Local,
-    Entry,
-    Fetch,
-    Base,
-    Run,
-}
-
-// The keywords that a number and a word follow.
-pub enum NumberAndWord {
-    Reg,
-    Load,
-    MainWord,
-    LocalWord,
-    CacheWord,
-}
-
-// The kinds of a waiting transfer.
-pub enum TransferKind {
-    Br,
-    Call,
-    Block,
-    Unknown,
-}
-
-// The special registers that a case can set.
-pub enum SpecialName {
-    Sl,
-    Sh,
-    Ss,
-    St,
-    Srb,
-    Sro,
-    Sxb,
-    Sxo,
-    Unknown,
-}
-
-// An item of a marking.
-pub enum Item {
-    Register(u32),
-    Predicate(u32),
-    Sl,
-    Sh,
-    Main,
-    Local,
-    Stack,
-    Unknown,
 }
 
 // A line by its keyword. Case holds the place of the name, Code and Private the place of their lists.

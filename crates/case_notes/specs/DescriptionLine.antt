@@ -11,15 +11,15 @@ use Rattle.case_file.specs.declared.Line.{Line}
 use Rattle.case_file.specs.declared.Line.the-variants as Line
 use Rattle.case_file.specs.declared.Reason.the-variants as Reason
 use Rattle.case_file.specs.Arguments.{codeEntry}
-use Rattle.case_notes.specs.declared.places.Store.{Store}
-use Rattle.case_notes.specs.declared.places.Store.the-variants as Store
-use Rattle.case_notes.specs.PlaceNumbers.{CODE}
-use Rattle.case_notes.specs.Kept.{numberAt, put}
+use Rattle.case_kept.specs.declared.places.Store.{Store}
+use Rattle.case_kept.specs.declared.places.Store.the-variants as Store
+use Rattle.case_kept.specs.PlaceNumbers.{CODE}
+use Rattle.case_kept.specs.Kept.{numberAt, put}
 use Rattle.case_notes.specs.Mistake.{NO-MISTAKE, rowOf}
 use Rattle.case_notes.specs.Description.{Noted, GREATEST, given}
 use Rattle.case_notes.specs.Marking.{markItems}
-use Rattle.case_notes.specs.Places.{lastByte, notePlace}
-use Rattle.case_notes.specs.Clearing.{COPY, putInCopy}
+use Rattle.case_kept.specs.Places.{lastByte, notePlace}
+use Rattle.case_kept.specs.Clearing.{COPY, putInCopy}
 
 -- What a line leaves that fills one buffer: the row of its mistake, the kept numbers, and the buffer.
 pub record Filled : Type 0 where

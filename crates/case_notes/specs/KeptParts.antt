@@ -3,11 +3,11 @@ use Prim.Native.Nat.{ℕ, _+_}
 use mathlib.Core.Bool.{Bool, false}
 use mathlib.Core.List.{List, [], _∷_}
 use lib.ListN.{length, getD}
-use Rattle.effects.specs.declared.Specials.{Specials}
+use Rattle.alu_effects.specs.declared.Specials.{Specials}
 use Rattle.effects.specs.declared.Transfer.{Transfer}
 use Rattle.effects.specs.declared.Transfer.the-variants as Transfer
-use Rattle.case_notes.specs.PlaceNumbers.{SPECIALS, TRANSFER, TARGET, LOAD, LOADED, REGISTERS, PREDICATES}
-use Rattle.case_notes.specs.Kept.{wordAt, put, flag, wordsAt, putEach}
+use Rattle.case_kept.specs.PlaceNumbers.{SPECIALS, TRANSFER, TARGET, LOAD, LOADED, REGISTERS, PREDICATES}
+use Rattle.case_kept.specs.Kept.{wordAt, put, flag, wordsAt, putEach}
 
 -- The kinds of a waiting transfer. Where none waits, the kind is 0.
 abbrev pub BR : ℕ

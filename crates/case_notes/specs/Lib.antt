@@ -1,15 +1,7 @@
-pub mod PlaceNumbers
-pub mod Kept
-pub mod KeptLaws
 pub mod KeptParts
 pub mod Mistake
 pub mod Description
 pub mod Marking
 pub mod MarkingLaws
-pub mod Places
-pub mod PlacesLaws
-pub mod Clearing
-pub mod ClearingLaws
 pub mod DescriptionLine
 pub mod DescriptionLineLaws
-pub mod Extent

@@ -4,14 +4,14 @@ use mathlib.Core.Bool.{cond}
 use mathlib.Core.List.{List}
 use lib.ListN.{length}
 use lib.Dec.{ltb}
-use Rattle.case_file.specs.declared.Item.{Item}
-use Rattle.case_file.specs.declared.Item.the-variants as Item
+use Rattle.case_words.specs.declared.Item.{Item}
+use Rattle.case_words.specs.declared.Item.the-variants as Item
 use Rattle.case_file.specs.declared.PrivateEntry.{PrivateEntry}
 use Rattle.case_file.specs.declared.PrivateEntry.the-variants as PrivateEntry
 use Rattle.case_file.specs.Arguments.{privateEntry}
 use Rattle.marking.specs.declared.Marking.{Marking}
-use Rattle.case_notes.specs.PlaceNumbers.{PRIVATE-REGISTERS, PRIVATE-PREDICATES, PRIVATE-SL, PRIVATE-SH, PRIVATE-MAIN, PRIVATE-LOCAL, PRIVATE-STACK}
-use Rattle.case_notes.specs.Kept.{isSet, put, flagsAt}
+use Rattle.case_kept.specs.PlaceNumbers.{PRIVATE-REGISTERS, PRIVATE-PREDICATES, PRIVATE-SL, PRIVATE-SH, PRIVATE-MAIN, PRIVATE-LOCAL, PRIVATE-STACK}
+use Rattle.case_kept.specs.Kept.{isSet, put, flagsAt}
 use Rattle.case_notes.specs.Mistake.{rowOf}
 use Rattle.case_notes.specs.Description.{Noted, noted, fine}
 

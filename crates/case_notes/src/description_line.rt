@@ -1,26 +1,26 @@
 // The description lines that fill a buffer. Each function answers the row of the mistake.
 ghost use mathlib.Core.Path.{_≡_};
 ghost use Rattle.case_notes.specs.DescriptionLine.{filled, appended, codeLine, putBelowCopy, memoryWord, cacheWord, described, describedBy};
-use crate::buffers::Bytes;
-use crate::buffers::COPY;
-use crate::buffers::Cache;
-use crate::buffers::Memory;
-use crate::buffers::least;
-use crate::clearing::put_in_copy;
 use crate::description::give;
-use crate::kept::CODE;
-use crate::kept::Kept;
 use crate::marked::mark_items;
 use crate::mistake::NO_MISTAKE;
 use crate::mistake::TOO_MUCH_CODE;
 use crate::mistake::row_of;
-use crate::places::Store;
-use crate::places::last_byte;
-use crate::places::note;
 use big_endian::write_word;
 use case_file::CodeEntry;
 use case_file::Line;
 use case_file::arguments::code_entry;
+use case_kept::buffers::Bytes;
+use case_kept::buffers::COPY;
+use case_kept::buffers::Cache;
+use case_kept::buffers::Memory;
+use case_kept::buffers::least;
+use case_kept::clearing::put_in_copy;
+use case_kept::kept::CODE;
+use case_kept::kept::Kept;
+use case_kept::places::Store;
+use case_kept::places::last_byte;
+use case_kept::places::note;
 
 // Appends a word to the code, or answers the mistake that there is no room.
 fn append_word(kept: &mut Kept, word: u32, code: &mut Bytes) -> usize

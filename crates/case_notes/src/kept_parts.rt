@@ -1,18 +1,18 @@
 // Parts of the state of a case among the kept numbers.
 ghost use mathlib.Core.Path.{_≡_};
 ghost use Rattle.case_notes.specs.KeptParts.{withTransfer, withLoad, withTarget, registersOf, specialsOf, listOf, withWords, withPredicates};
-use crate::kept::Kept;
-use crate::kept::LOAD;
-use crate::kept::LOADED;
-use crate::kept::PREDICATES;
-use crate::kept::REGISTERS;
-use crate::kept::SPECIALS;
-use crate::kept::TARGET;
-use crate::kept::TRANSFER;
-use crate::kept::keep_after;
-use crate::kept::keep_flag;
-use crate::kept::word;
-use effects::Specials;
+use alu_effects::Specials;
+use case_kept::kept::Kept;
+use case_kept::kept::LOAD;
+use case_kept::kept::LOADED;
+use case_kept::kept::PREDICATES;
+use case_kept::kept::REGISTERS;
+use case_kept::kept::SPECIALS;
+use case_kept::kept::TARGET;
+use case_kept::kept::TRANSFER;
+use case_kept::kept::keep_after;
+use case_kept::kept::keep_flag;
+use case_kept::kept::word;
 use effects::Transfer;
 
 // The kinds of a waiting transfer. Where none waits, the kind is 0.

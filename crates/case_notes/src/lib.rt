@@ -1,12 +1,7 @@
 // What a case says: the numbers kept from line to line, the description of a case and its marking. Nothing here reads, writes or does
 // a bundle.
-pub mod buffers;
-pub mod clearing;
 pub mod description;
 pub mod description_line;
-pub mod extent;
-pub mod kept;
 pub mod kept_parts;
 pub mod marked;
 pub mod mistake;
-pub mod places;

@@ -1,25 +1,25 @@
 // The marking that a case describes, among the kept numbers.
 ghost use mathlib.Core.Path.{_≡_};
-ghost use Rattle.case_notes.specs.PlaceNumbers.{PRIVATE-REGISTERS};
-ghost use Rattle.case_notes.specs.Kept.{flagsAt};
+ghost use Rattle.case_kept.specs.PlaceNumbers.{PRIVATE-REGISTERS};
+ghost use Rattle.case_kept.specs.Kept.{flagsAt};
 ghost use Rattle.case_notes.specs.Description.{noted};
 ghost use Rattle.case_notes.specs.Marking.{withRegister, withPredicate, marked, markItems, markingOf};
-use crate::kept::Kept;
-use crate::kept::PRIVATE_LOCAL;
-use crate::kept::PRIVATE_MAIN;
-use crate::kept::PRIVATE_PREDICATES;
-use crate::kept::PRIVATE_REGISTERS;
-use crate::kept::PRIVATE_SH;
-use crate::kept::PRIVATE_SL;
-use crate::kept::PRIVATE_STACK;
-use crate::kept::flags_of;
-use crate::kept::is_set;
-use crate::kept::keep;
 use crate::mistake::NO_MISTAKE;
 use crate::mistake::row_of;
-use case_file::Item;
 use case_file::PrivateEntry;
 use case_file::arguments::private_entry;
+use case_kept::kept::Kept;
+use case_kept::kept::PRIVATE_LOCAL;
+use case_kept::kept::PRIVATE_MAIN;
+use case_kept::kept::PRIVATE_PREDICATES;
+use case_kept::kept::PRIVATE_REGISTERS;
+use case_kept::kept::PRIVATE_SH;
+use case_kept::kept::PRIVATE_SL;
+use case_kept::kept::PRIVATE_STACK;
+use case_kept::kept::flags_of;
+use case_kept::kept::is_set;
+use case_kept::kept::keep;
+use case_words::Item;
 use marking::Marking;
 
 fn mark_register(kept: &mut Kept, r: u32)

@@ -6,12 +6,12 @@ use crate::output::put_byte;
 use crate::output::put_number;
 use crate::output::put_two_digits;
 use crate::output::say;
-use case_notes::buffers::CACHE_COPY;
-use case_notes::buffers::COPY;
-use case_notes::buffers::Cache;
-use case_notes::buffers::Memory;
-use case_notes::buffers::least;
-use case_notes::extent::Extents;
+use case_kept::buffers::CACHE_COPY;
+use case_kept::buffers::COPY;
+use case_kept::buffers::Cache;
+use case_kept::buffers::Memory;
+use case_kept::buffers::least;
+use case_kept::extent::Extents;
 ghost use Prim.Native.Nat.{_≤_};
 
 // The first place from a on, below end, at which a memory differs from its copy, or end.

@@ -1,7 +1,7 @@
 // The file, read in pieces and cut into lines.
-use case_notes::buffers::Bytes;
-use case_notes::buffers::LineBytes;
-use case_notes::buffers::least;
+use case_kept::buffers::Bytes;
+use case_kept::buffers::LineBytes;
+use case_kept::buffers::least;
 
 const LONGEST: usize = 4000;
 

@@ -1,9 +1,9 @@
 // The last line of a report whose file has a mistake.
 use crate::output::say;
 use crate::output::tell;
-use case_notes::kept::Kept;
-use case_notes::kept::PHASE;
-use case_notes::kept::STOPPED;
+use case_kept::kept::Kept;
+use case_kept::kept::PHASE;
+use case_kept::kept::STOPPED;
 
 // Tells the bytes of one row, and its line end.
 fn tell_row(rows: &[u8], row: usize) {

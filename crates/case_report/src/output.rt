@@ -1,6 +1,6 @@
 // The report's texts. Each is put together in a small buffer and written out.
-use case_notes::buffers::least;
-use case_notes::kept::Kept;
+use case_kept::buffers::least;
+use case_kept::kept::Kept;
 use libc::STDOUT_FILENO;
 use std::num::wrapping_add_usize;
 use text::digits::put_decimal;

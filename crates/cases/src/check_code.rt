@@ -1,9 +1,9 @@
 // The check of a case's code under its marking.
-use case_notes::buffers::Bytes;
-use case_notes::buffers::least;
-use case_notes::extent::Extents;
-use case_notes::extent::extents_of;
-use case_notes::kept::Kept;
+use case_kept::buffers::Bytes;
+use case_kept::buffers::least;
+use case_kept::extent::Extents;
+use case_kept::extent::extents_of;
+use case_kept::kept::Kept;
 use case_notes::marked::marking_of;
 use case_report::output::say;
 use case_report::output::tell;

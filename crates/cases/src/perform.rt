@@ -3,10 +3,10 @@ use crate::check_code::do_check;
 use crate::operation::do_run;
 use crate::operation::do_step;
 use case_file::Line;
-use case_notes::buffers::Bytes;
-use case_notes::buffers::Cache;
-use case_notes::buffers::Memory;
-use case_notes::kept::Kept;
+use case_kept::buffers::Bytes;
+use case_kept::buffers::Cache;
+use case_kept::buffers::Memory;
+use case_kept::kept::Kept;
 
 // What an operation line asks for.
 enum Operation {

@@ -1,16 +1,16 @@
 // The lines on a state, and the counts of an operation.
 use bundle_rules::Counts;
-use case_notes::kept::FETCH;
-use case_notes::kept::Kept;
-use case_notes::kept::LOAD;
-use case_notes::kept::LOADED;
-use case_notes::kept::PREDICATES;
-use case_notes::kept::REGISTERS;
-use case_notes::kept::SPECIALS;
-use case_notes::kept::TARGET;
-use case_notes::kept::TRANSFER;
-use case_notes::kept::is_set;
-use case_notes::kept::number;
+use case_kept::kept::FETCH;
+use case_kept::kept::Kept;
+use case_kept::kept::LOAD;
+use case_kept::kept::LOADED;
+use case_kept::kept::PREDICATES;
+use case_kept::kept::REGISTERS;
+use case_kept::kept::SPECIALS;
+use case_kept::kept::TARGET;
+use case_kept::kept::TRANSFER;
+use case_kept::kept::is_set;
+use case_kept::kept::number;
 use case_notes::kept_parts::BLOCK;
 use case_notes::kept_parts::BR;
 use case_notes::kept_parts::CALL;

@@ -1,20 +1,14 @@
 -- What a slot does, as one value. It is computed from the state at the start of the bundle, for both slots.
-use Prim.Native.Nat.{ℕ, _+_, _*_, _/_, _%_, _^_}
-use mathlib.Core.Bool.{Bool, true, false, not, cond, Bool·beq}
-use mathlib.Core.List.{List, [], _∷_}
+use Prim.Native.Nat.{ℕ, _+_, _/_, _%_, _^_}
+use mathlib.Core.Bool.{Bool, true, false, not, cond}
+use mathlib.Core.List.{List}
 use lib.Dec.{eqb}
 use lib.ListN.{getD}
 use mir.Syntax.{w32}
 use mir.Val.{ofZ}
-use Rattle.word.specs.Word.{add, shiftLeft, copyBit}
-use Rattle.alu.specs.Alu.{arithmetic, multiply, compare, combine}
-use Rattle.isa.specs.declared.PredicateOperand.{PredicateOperand}
-use Rattle.isa.specs.declared.Op2.{Op2}
-use Rattle.isa.specs.declared.Op2.the-variants as op2
-use Rattle.isa.specs.declared.AluOperation.{AluOperation}
-use Rattle.isa.specs.declared.AluOperation.the-variants.{Arithmetic, Compare, Predicate, BitCopy}
+use Rattle.word.specs.Word.{add, shiftLeft}
+use Rattle.alu.specs.Alu.{multiply}
 use Rattle.isa.specs.declared.Special.{Special}
-use Rattle.isa.specs.declared.Special.the-variants.{S0, Sl, Sh, Ss, St, Srb, Sro, Sxb, Sxo}
 use Rattle.isa.specs.declared.AccessKind.{AccessKind}
 use Rattle.isa.specs.declared.AccessKind.the-variants.{Stack, Local, Cached, Main}
 use Rattle.isa.specs.declared.StackAmount.{StackAmount}
@@ -26,17 +20,17 @@ use Rattle.isa.specs.declared.Target.the-variants as target
 use Rattle.isa.specs.declared.Operation.{Operation}
 use Rattle.isa.specs.declared.Operation.the-variants.{Alu, Multiply, Mts, Mfs, Load, Store, StackControl, Transfer, Trap, Xret}
 use Rattle.isa.specs.declared.Instruction.{Instruction}
-use Rattle.isa.specs.declared.AluInstruction.{AluInstruction}
 use Rattle.isa.specs.declared.Bundle.{Bundle}
 use Rattle.isa.specs.declared.Bundle.the-variants.{Undecodable, One, Two, Long}
 use Rattle.stack_cache.specs.declared.StackControl as stack
 use Rattle.stack_cache.specs.declared.StackControl.the-variants as control
 use Rattle.memory.specs.Access.{loadScale, storeScale}
-use Rattle.effects.specs.declared.Specials.{Specials}
+use Rattle.alu_effects.specs.declared.Specials.{Specials}
+use Rattle.alu_effects.specs.AluEffects.{holds, special, aluEffect, slotTwoEffect}
 use Rattle.effects.specs.declared.Transfer as declared
 use Rattle.effects.specs.declared.Transfer.the-variants as transfer
-use Rattle.effects.specs.declared.AluEffect.{AluEffect}
-use Rattle.effects.specs.declared.AluEffect.the-variants as alu
+use Rattle.alu_effects.specs.declared.AluEffect.{AluEffect}
+use Rattle.alu_effects.specs.declared.AluEffect.the-variants as alu
 use Rattle.effects.specs.declared.Effect.{Effect}
 use Rattle.effects.specs.declared.Effect.the-variants as effect
 use Rattle.effects.specs.declared.Effects.{Effects}
@@ -54,39 +48,6 @@ start rs ps specials fetch = record { registers = rs; predicates = ps; specials 
 
 abbrev pub register : Start → ℕ → ℕ
 register s r = getD (s .registers) r 0
-
--- The value of a predicate operand.
-abbrev pub holds : List Bool → PredicateOperand → Bool
-holds predicates p = not (Bool·beq (p .negated) (getD predicates (p .predicate) false))
-
--- s0: the predicates, p0 in bit 0.
-unfoldable pub predicatesWord : List Bool → ℕ
-predicatesWord [] = 0
-predicatesWord (p ∷ ps) = cond p 1 0 + 2 * predicatesWord ps
-
-unfoldable pub special : List Bool → Specials → Special → ℕ
-special ps s S0 = predicatesWord ps
-special ps s Sl = s .sl
-special ps s Sh = s .sh
-special ps s Ss = s .ss
-special ps s St = s .st
-special ps s Srb = s .srb
-special ps s Sro = s .sro
-special ps s Sxb = s .sxb
-special ps s Sxo = s .sxo
-
--- The second operand of ALU and compare functions. The long constant is a word, the other immediates are zero-extended.
-unfoldable pub op2Value : List ℕ → Op2 → ℕ
-op2Value registers (op2.Register r) = getD registers r 0
-op2Value registers (op2.Immediate n) = n
-op2Value registers (op2.Long n) = n
-
--- Sections 2.6.1 and 2.6.3 to 2.6.5.
-unfoldable pub aluEffect : List ℕ → List Bool → AluOperation → AluEffect
-aluEffect rs ps (Arithmetic f rd rs1 o) = alu.Register rd (arithmetic f (getD rs rs1 0) (op2Value rs o))
-aluEffect rs ps (Compare f pd rs1 o) = alu.Predicate pd (compare f (getD rs rs1 0) (op2Value rs o))
-aluEffect rs ps (Predicate f pd ps1 ps2) = alu.Predicate pd (combine f (holds ps ps1) (holds ps ps2))
-aluEffect rs ps (BitCopy rd rs1 bit p) = alu.Register rd (copyBit (getD rs rs1 0) bit (holds ps p))
 
 -- What the fields of an access form is its address; a stack access adds st.
 unfoldable pub accessAddress : AccessKind → ℕ → ℕ → ℕ
@@ -145,9 +106,6 @@ effectOf s (Xret d) = effect.Exception
 -- A slot whose guard is false does nothing, so nothing of it can be refused.
 unfoldable pub slotOneEffect : Start → Instruction → Effect
 slotOneEffect s i = cond (holds (s .predicates) (i .guard)) (effectOf s (i .operation)) (effect.Alu alu.Nothing)
-
-unfoldable pub slotTwoEffect : List ℕ → List Bool → AluInstruction → AluEffect
-slotTwoEffect rs ps i = cond (holds ps (i .guard)) (aluEffect rs ps (i .operation)) alu.Nothing
 
 -- The two slots of a bundle. Slot two of a bundle that has none does nothing.
 abbrev pub slotOne : Start → Bundle → Effect

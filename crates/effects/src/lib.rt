@@ -1,8 +1,7 @@
 // What the slots of a bundle do, as values: computed from the state at the start, before anything is written.
-pub mod either_slot;
 pub mod slot;
-pub mod special;
 
+use alu_effects::AluEffect;
 use isa::AccessKind;
 use isa::Instruction;
 use isa::LoadWidth;
@@ -15,13 +14,6 @@ pub enum Transfer {
     Br { target: u32 },
     Call { target: u32 },
     Block { target: u32, base: u32 },
-}
-
-// What either slot can do.
-pub enum AluEffect {
-    Nothing,
-    Register { rd: u32, value: u32 },
-    Predicate { pd: u32, value: bool },
 }
 
 // What slot one can do.
@@ -63,17 +55,6 @@ pub enum Effect {
 pub enum Effects {
     Undecodable,
     Slots { one: Effect, two: AluEffect },
-}
-
-pub struct Specials {
-    pub sl: u32,
-    pub sh: u32,
-    pub ss: u32,
-    pub st: u32,
-    pub srb: u32,
-    pub sro: u32,
-    pub sxb: u32,
-    pub sxo: u32,
 }
 
 // The instruction of slot one, if the bundle has a meaning.

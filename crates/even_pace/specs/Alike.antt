@@ -12,8 +12,8 @@ use Rattle.stack_cache.specs.Stack.{topAfter, spillAfter}
 use Rattle.settings.specs.declared.Settings.{Settings}
 use Rattle.memory.specs.Access.{Buffers, loadScale, loadedValue, extended}
 use Rattle.effects.specs.declared.Transfer.{Transfer}
-use Rattle.effects.specs.declared.AluEffect.{AluEffect}
-use Rattle.effects.specs.declared.AluEffect.the-variants as alu
+use Rattle.alu_effects.specs.declared.AluEffect.{AluEffect}
+use Rattle.alu_effects.specs.declared.AluEffect.the-variants as alu
 use Rattle.effects.specs.declared.Effect.{Effect}
 use Rattle.effects.specs.declared.Effect.the-variants as effect
 use Rattle.state.specs.State.{State}

@@ -7,7 +7,7 @@ use lib.ListN.{length, getD}
 use Rattle.stack_cache.specs.declared.StackControl.{StackControl}
 use Rattle.settings.specs.declared.Settings.{Settings}
 use Rattle.memory.specs.Access.{Buffers, storeScale, verdict as verdictOf}
-use Rattle.effects.specs.declared.AluEffect.{AluEffect}
+use Rattle.alu_effects.specs.declared.AluEffect.{AluEffect}
 use Rattle.effects.specs.declared.Effect.{Effect}
 use Rattle.effects.specs.declared.Effect.the-variants as effect
 use Rattle.state.specs.State.{State, state, specials, landed}

@@ -14,7 +14,8 @@ use Rattle.stack_cache.specs.Stack.{isCacheSize, cacheWord, putCacheWord, partO
 use Rattle.settings.specs.Answer.{Returned}
 use Rattle.settings.specs.Settings.{admits}
 use Rattle.memory.specs.Access.{Buffers, buffers, loadScale, storeScale, readNumber, extended, loadedValue, stored, mainOpen, accessOpen, verdict}
-use Rattle.effects.specs.Effect.{predicatesWord, special, op2Value, aluEffect, accessAddress, amountWords, amountAligned, stackEffect, transferOf, effectOf, slotOneEffect, slotTwoEffect}
+use Rattle.alu_effects.specs.AluEffects.{predicatesWord, special, op2Value, aluEffect, slotTwoEffect}
+use Rattle.effects.specs.Effect.{accessAddress, amountWords, amountAligned, stackEffect, transferOf, effectOf, slotOneEffect}
 use Rattle.state.specs.State.{State, Shaped, state, specials, withRegister, withPredicate, predicatesOf, withSpecial, landed, transferred, wellFormed, ended as hasEnded}
 use Rattle.state.specs.declared.WaitingTransfer.the-variants as transfer
 use Rattle.state.specs.declared.WaitingLoad.{WaitingLoad}

@@ -37,7 +37,8 @@ use Rattle.effects.specs.declared.Effect.{Effect}
 use Rattle.effects.specs.declared.Effect.the-variants as effect
 use Rattle.effects.specs.declared.Transfer as declared
 use Rattle.effects.specs.declared.Transfer.the-variants as transfer
-use Rattle.effects.specs.Effect.{holds, op2Value, predicatesWord, special as specialValue, aluEffect, address, accessAddress, amountWords, amountAligned, stackEffect, transferOf, effectOf, bytesOf}
+use Rattle.alu_effects.specs.AluEffects.{holds, op2Value, predicatesWord, special as specialValue, aluEffect}
+use Rattle.effects.specs.Effect.{address, accessAddress, amountWords, amountAligned, stackEffect, transferOf, effectOf, bytesOf}
 use Rattle.state.specs.State.{State, startOf}
 use Rattle.marking.specs.declared.Marking.{Marking}
 use Rattle.marking.specs.Marking.{privateRegister, privatePredicate, privateOperand, privateSpecial}

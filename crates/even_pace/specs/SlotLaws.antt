@@ -12,10 +12,11 @@ use Rattle.stack_cache.specs.RangeLaws.{or-left, or-right}
 use Rattle.settings.specs.declared.Settings.{Settings}
 use Rattle.memory.specs.declared.Verdict.the-variants as verdict
 use Rattle.memory.specs.Access.{verdict as verdictOf}
-use Rattle.effects.specs.declared.AluEffect.the-variants as alu
+use Rattle.alu_effects.specs.declared.AluEffect.the-variants as alu
 use Rattle.effects.specs.declared.Effect.{Effect}
 use Rattle.effects.specs.declared.Effect.the-variants as effect
-use Rattle.effects.specs.Effect.{holds, aluEffect, effectOf, slotOneEffect, slotTwoEffect, slotOne, slotTwo, isUndecodable}
+use Rattle.alu_effects.specs.AluEffects.{holds, aluEffect, slotTwoEffect}
+use Rattle.effects.specs.Effect.{effectOf, slotOneEffect, slotOne, slotTwo, isUndecodable}
 use Rattle.state.specs.State.{State, startOf}
 use Rattle.bundle_rules.specs.Refusal.{effectTests}
 use Rattle.marking.specs.declared.Marking.{Marking}

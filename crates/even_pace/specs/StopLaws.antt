@@ -17,9 +17,10 @@ use Rattle.memory.specs.declared.Verdict.{Verdict}
 use Rattle.memory.specs.declared.Verdict.the-variants.{Fine as Passing, Refused}
 use Rattle.settings.specs.Answer.{Returned, accepted, done, ended, spent, refused}
 use Rattle.memory.specs.Access.{Buffers, verdict as verdictOf, loadScale, storeScale, badAccess, mainReadable, mainWritable, accessOpen, accessTests}
-use Rattle.effects.specs.declared.AluEffect.the-variants as alu
+use Rattle.alu_effects.specs.declared.AluEffect.the-variants as alu
 use Rattle.effects.specs.declared.Effect.the-variants as effect
-use Rattle.effects.specs.Effect.{holds, address, effectOf, slotOneEffect, slotOne}
+use Rattle.alu_effects.specs.AluEffects.{holds}
+use Rattle.effects.specs.Effect.{address, effectOf, slotOneEffect, slotOne}
 use Rattle.state.specs.State.{State, startOf}
 use Rattle.bundle_rules.specs.Refusal.{effectTests}
 use Rattle.bundle_rules.specs.Bundle.{Outcome, bundleAt, followingAt, refusedOr, bundle}

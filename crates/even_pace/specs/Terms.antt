@@ -12,7 +12,7 @@ use Rattle.isa.specs.declared.Bundle.{Bundle}
 use Rattle.isa.specs.declared.Bundle.the-variants.{Undecodable, One, Two, Long}
 use Rattle.settings.specs.Answer.{Returned, refused}
 use Rattle.memory.specs.Access.{Buffers}
-use Rattle.effects.specs.declared.Specials.{Specials}
+use Rattle.alu_effects.specs.declared.Specials.{Specials}
 use Rattle.state.specs.State.{State}
 use Rattle.state.specs.declared.WaitingLoad.the-variants.{Waits}
 use Rattle.bundle_rules.specs.Bundle.{bundleAt}

@@ -19,9 +19,10 @@ use Rattle.decoder_laws.specs.Ranges.{OperationInRange}
 use Rattle.decoder_laws.specs.RangeLaws.{IfSome, slot-one-in-range}
 use Rattle.settings.specs.declared.Settings.{Settings}
 use Rattle.memory.specs.Access.{Buffers}
-use Rattle.effects.specs.declared.AluEffect.the-variants as alu
+use Rattle.alu_effects.specs.declared.AluEffect.the-variants as alu
 use Rattle.effects.specs.declared.Effect.the-variants as effect
-use Rattle.effects.specs.Effect.{Start, holds, effectOf, stackEffect, slotOneEffect, slotOne}
+use Rattle.effects.specs.Effect.{Start, effectOf, stackEffect, slotOneEffect, slotOne}
+use Rattle.alu_effects.specs.AluEffects.{holds}
 use Rattle.state.specs.State.{State, startOf, loadOk, wellFormed}
 use Rattle.bundle_rules.specs.Bundle.{bundle}
 use Rattle.machine_laws.specs.StepCases.{effectAt, bundle-cases}

@@ -7,8 +7,7 @@ use mathlib.Core.List.{List, [], _∷_}
 use mathlib.Core.Option.{Option, none, some}
 use lib.Dec.{eqb}
 use Rattle.isa.specs.Format.{Format, format, _⋯_, _≔_, row}
-use Rattle.isa.specs.Tables.{aluTable, multiplyTable, compareTable, predicateTable, specialTable, kindTable, loadTable, storeTable}
-use Rattle.isa.specs.Tables.{stackTable, stackRegisterTable, flowTable, flowImplicitTable, flowSingleTable, flowTwoTable}
+use Rattle.isa.specs.Tables.{aluTable, multiplyTable, compareTable, predicateTable, specialTable, kindTable, loadTable, storeTable, stackTable, stackRegisterTable, flowTable, flowImplicitTable, flowSingleTable, flowTwoTable}
 use Rattle.isa.specs.declared.PredicateOperand.{PredicateOperand}
 use Rattle.isa.specs.declared.Op2.the-variants.{Register, Immediate, Long}
 use Rattle.isa.specs.declared.AluOperation.{AluOperation}

@@ -2,9 +2,9 @@
 pub mod open;
 pub mod whole_state;
 
+use alu_effects::Specials;
 use bundle_rules::Answer;
 use bundle_rules::Counts;
-use effects::Specials;
 use state::WaitingLoad;
 use state::WaitingTransfer;
 

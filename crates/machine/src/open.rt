@@ -10,7 +10,7 @@ ghost use Rattle.machine.specs.Open.{openOf, openWith, opening};
 use crate::Opened;
 use crate::Opening;
 use crate::State;
-use effects::Specials;
+use alu_effects::Specials;
 use settings::Settings;
 use state::WaitingLoad;
 use state::WaitingTransfer;

@@ -29,13 +29,14 @@ use Rattle.state.specs.declared.WaitingTransfer.{WaitingTransfer}
 use Rattle.state.specs.declared.WaitingTransfer.the-variants as transfer
 use Rattle.state.specs.declared.WaitingLoad.{WaitingLoad}
 use Rattle.state.specs.declared.WaitingLoad.the-variants as load
-use Rattle.effects.specs.declared.AluEffect.{AluEffect}
-use Rattle.effects.specs.declared.AluEffect.the-variants as alu
+use Rattle.alu_effects.specs.declared.AluEffect.{AluEffect}
+use Rattle.alu_effects.specs.declared.AluEffect.the-variants as alu
 use Rattle.effects.specs.declared.Effect.{Effect}
 use Rattle.effects.specs.declared.Effect.the-variants as effect
 use Rattle.memory.specs.Access.{Buffers, loadedValue}
-use Rattle.effects.specs.declared.Specials.{Specials}
-use Rattle.effects.specs.Effect.{Start, holds, slotOne, slotOneEffect, effectOf, stackEffect}
+use Rattle.alu_effects.specs.declared.Specials.{Specials}
+use Rattle.effects.specs.Effect.{Start, slotOne, slotOneEffect, effectOf, stackEffect}
+use Rattle.alu_effects.specs.AluEffects.{holds}
 use Rattle.state.specs.Writes.{writeAlu, delaySlots, nearer, begun}
 use Rattle.bundle_rules.specs.Bundle.{writeOne, onward, written, bundleAt, bundle, lent, step}
 use Rattle.machine_laws.specs.StepCases.{effectAt, stateAfter, bundle-cases, step-cases}

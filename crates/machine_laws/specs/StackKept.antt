@@ -26,7 +26,7 @@ use Rattle.stack_cache.specs.StackLaws.{length-putCacheNumber, length-spilled, 
 use Rattle.stack_cache.specs.RangeLaws.{and-left, and-right, every-at, in-area}
 use Rattle.settings.specs.declared.Settings.{Settings}
 use Rattle.state.specs.State.{State}
-use Rattle.effects.specs.declared.AluEffect.{AluEffect}
+use Rattle.alu_effects.specs.declared.AluEffect.{AluEffect}
 use Rattle.effects.specs.declared.Effect.{Effect}
 use Rattle.effects.specs.declared.Effect.the-variants as effect
 use Rattle.memory.specs.declared.Verdict.the-variants as verdict

@@ -16,7 +16,8 @@ use Rattle.settings.specs.Answer.{Returned, accepted, done, ended, spent, refus
 use Rattle.bundle_rules.specs.declared.Counts.{Counts}
 use Rattle.settings.specs.Settings.{admits}
 use Rattle.memory.specs.Access.{Buffers, buffers, loadScale, storeScale, readNumber, extended, loadedValue, stored, mainOpen, accessOpen, verdict}
-use Rattle.effects.specs.Effect.{predicatesWord, special, op2Value, aluEffect, accessAddress, amountWords, amountAligned, stackEffect, transferOf, effectOf, slotOneEffect, slotTwoEffect, slotOne, onEffect}
+use Rattle.alu_effects.specs.AluEffects.{predicatesWord, special, op2Value, aluEffect, slotTwoEffect}
+use Rattle.effects.specs.Effect.{accessAddress, amountWords, amountAligned, stackEffect, transferOf, effectOf, slotOneEffect, slotOne, onEffect}
 use Rattle.bundle_rules.specs.Refusal.{outsideCode}
 use Rattle.bundle_rules.specs.Bundle.{stackMoved, buffersAfter, writeOne, written, Outcome, outcome, bundleAt, bundle, readiness, step}
 use Rattle.state.specs.Writes.{writeAlu, delaySlots}

@@ -9,7 +9,7 @@ use Rattle.word.specs.Word.{sub}
 use Rattle.registers.specs.Registers.{putLater}
 use Rattle.isa.specs.declared.Special.{Special}
 use Rattle.isa.specs.declared.Special.the-variants.{S0, Sl, Sh, Ss, St, Srb, Sro, Sxb, Sxo}
-use Rattle.effects.specs.declared.Specials.{Specials}
+use Rattle.alu_effects.specs.declared.Specials.{Specials}
 use Rattle.effects.specs.declared.Transfer.{Transfer}
 use Rattle.effects.specs.declared.Transfer.the-variants.{Br, Call, Block}
 use Rattle.effects.specs.Effect.{Start, start}

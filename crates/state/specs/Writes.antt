@@ -4,8 +4,8 @@ use mathlib.Core.Bool.{Bool, cond}
 use lib.Dec.{leb}
 use Rattle.effects.specs.declared.Transfer.{Transfer}
 use Rattle.effects.specs.declared.Transfer.the-variants.{Br, Call, Block}
-use Rattle.effects.specs.declared.AluEffect.{AluEffect}
-use Rattle.effects.specs.declared.AluEffect.the-variants as alu
+use Rattle.alu_effects.specs.declared.AluEffect.{AluEffect}
+use Rattle.alu_effects.specs.declared.AluEffect.the-variants as alu
 use Rattle.state.specs.State.{State, withRegister, withPredicate, goingOn, transferred}
 use Rattle.state.specs.declared.WaitingTransfer.{WaitingTransfer}
 use Rattle.state.specs.declared.WaitingTransfer.the-variants as transfer

@@ -10,7 +10,7 @@ use crate::TransferWords;
 use crate::waiting::one_less;
 use crate::waiting::transfer_in;
 use crate::waiting::transfer_waits;
-use effects::AluEffect;
+use alu_effects::AluEffect;
 use effects::Transfer;
 use registers::write_predicate;
 use registers::write_register;

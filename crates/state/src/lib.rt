@@ -4,7 +4,7 @@ mod special;
 pub mod waiting;
 mod writes;
 
-use effects::Specials;
+use alu_effects::Specials;
 use effects::Transfer;
 
 // The transfer that waits, and how many bundles are to be done before it has happened.

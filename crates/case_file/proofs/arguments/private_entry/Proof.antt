@@ -5,11 +5,11 @@ use mathlib.Core.List.{List, [], _∷_}
 use denote.Enum.Declared.{tagOf}
 use types.Run.{OneOf, miss}
 use borrow.Author.Tests.{eq-eqb, ne-eqb}
-use Rattle.case_file.specs.declared.Item.{Item}
-use Rattle.case_file.specs.declared.Item.the-variants as Item
-use Rattle.case_file.specs.Names.{isItem}
+use Rattle.case_words.specs.declared.Item.{Item}
+use Rattle.case_words.specs.declared.Item.the-variants as Item
+use Rattle.case_words.specs.Names.{isItem}
 use Rattle.case_file.specs.Arguments.{privateEntry}
-use Rattle.case_file.proofs.Item.{the-type}
+use Rattle.case_words.proofs.Item.{the-type}
 use Rattle.case_file.proofs.arguments.private_entry.Statement.{statement}
 use Rattle.case_file.proofs.arguments.private_entry.Tie as tie
 

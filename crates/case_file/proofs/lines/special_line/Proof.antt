@@ -5,11 +5,11 @@ use mathlib.Core.List.{List, [], _∷_}
 use denote.Enum.Declared.{tagOf}
 use types.Run.{OneOf, miss}
 use borrow.Author.Tests.{eq-eqb, ne-eqb}
-use Rattle.case_file.specs.declared.SpecialName.{SpecialName}
-use Rattle.case_file.specs.declared.SpecialName.the-variants as SpecialName
-use Rattle.case_file.specs.Names.{isSpecial}
+use Rattle.case_words.specs.declared.SpecialName.{SpecialName}
+use Rattle.case_words.specs.declared.SpecialName.the-variants as SpecialName
+use Rattle.case_words.specs.Names.{isSpecial}
 use Rattle.case_file.specs.Line.{lineAfter}
-use Rattle.case_file.proofs.SpecialName.{the-type}
+use Rattle.case_words.proofs.SpecialName.{the-type}
 use Rattle.case_file.proofs.lines.special_line.Statement.{statement}
 use Rattle.case_file.proofs.lines.special_line.Tie as tie
 

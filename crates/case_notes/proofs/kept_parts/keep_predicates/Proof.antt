@@ -1,8 +1,8 @@
 use Prim.Native.Nat.{_-_, _≤_}
 use mathlib.Core.Bool.{false}
 use lib.ListN.{getD}
-use Rattle.case_notes.specs.Kept.{flag, putEach}
-use Rattle.case_notes.specs.KeptLaws.{put-none, put-more}
+use Rattle.case_kept.specs.Kept.{flag, putEach}
+use Rattle.case_kept.specs.KeptLaws.{put-none, put-more}
 use borrow.Author.Needs.{needs}
 use native.Mathlib.Omega.{arith}
 use mathlib.Core.Path.{_≡_, refl, _∙_}

@@ -1,7 +1,7 @@
 use Prim.Native.Nat.{_-_, _≤_}
 use lib.ListN.{length, getD}
-use Rattle.case_notes.specs.Kept.{putEach}
-use Rattle.case_notes.specs.KeptLaws.{put-none, put-more}
+use Rattle.case_kept.specs.Kept.{putEach}
+use Rattle.case_kept.specs.KeptLaws.{put-none, put-more}
 use borrow.Author.Needs.{needs}
 use native.Mathlib.Omega.{arith}
 use mathlib.Core.Path.{_≡_, refl, _∙_}

@@ -1,8 +1,8 @@
 use Prim.Native.Nat.{_-_, _≤_}
 use lib.ListN.{length, take, length-set}
 use lib.Seq.{take-all}
-use Rattle.case_notes.specs.Kept.{flagsAt}
-use Rattle.case_notes.specs.KeptLaws.{up-to-none, up-to-more}
+use Rattle.case_kept.specs.Kept.{flagsAt}
+use Rattle.case_kept.specs.KeptLaws.{up-to-none, up-to-more}
 use borrow.Author.Needs.{needs}
 use native.Mathlib.Omega.{arith}
 use mathlib.Core.Path.{_≡_, refl, sym, _∙_}

@@ -1,0 +1,2 @@
+pub mod AluEffects
+pub mod AluEffectLaws

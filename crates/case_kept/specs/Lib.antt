@@ -1,0 +1,8 @@
+pub mod PlaceNumbers
+pub mod Kept
+pub mod KeptLaws
+pub mod Places
+pub mod PlacesLaws
+pub mod Clearing
+pub mod ClearingLaws
+pub mod Extent

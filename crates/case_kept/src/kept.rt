@@ -1,0 +1,187 @@
+// The numbers that are kept from line to line, in one lent list: where the file stands, what the description lines of the case
+// say, the case's state, its marking, and the places that it names.
+ghost use mathlib.Core.Path.{_≡_};
+ghost use Prim.Native.Nat.{_+_};
+ghost use Rattle.case_kept.specs.Kept.{numberAt, wordAt, isSet, put, flag as flagOf, flagsAt, forgotten};
+
+pub const ALL: usize = 150200;
+
+pub type Kept = [u64; 150200];
+
+// Lengths are in bytes, WORDS is the number of stack cache words.
+pub const CODE: usize = 0;
+
+pub const MAIN: usize = 1;
+
+pub const LOCAL: usize = 2;
+
+pub const WORDS: usize = 3;
+
+pub const LO: usize = 4;
+
+pub const HI: usize = 5;
+
+pub const ENTRY: usize = 6;
+
+// The state: what the case puts into it, and from the opening on all of it.
+pub const FETCH: usize = 7;
+
+pub const BASE: usize = 8;
+
+// Eight special registers, in the order of the report.
+pub const SPECIALS: usize = 9;
+
+// The kind of the waiting transfer, and the numbers of its line: target, base where it has one, and wait.
+pub const TRANSFER: usize = 17;
+
+pub const TARGET: usize = 18;
+
+// Whether a load waits, then its register and its value.
+pub const LOAD: usize = 21;
+
+pub const LOADED: usize = 22;
+
+pub const REGISTERS: usize = 24;
+
+pub const PREDICATES: usize = 56;
+
+// GIVEN + N is 1 if a line gave the number at N.
+pub const GIVEN: usize = 64;
+
+// The marking: 32 registers, 8 predicates and five others, each 1 if it is private.
+pub const PRIVATE_REGISTERS: usize = 128;
+
+pub const PRIVATE_PREDICATES: usize = 160;
+
+pub const PRIVATE_SL: usize = 168;
+
+pub const PRIVATE_SH: usize = 169;
+
+pub const PRIVATE_MAIN: usize = 170;
+
+pub const PRIVATE_LOCAL: usize = 171;
+
+pub const PRIVATE_STACK: usize = 172;
+
+// How far the noted places of main memory, local memory and cache reach, and how many are noted.
+pub const REACH: usize = 176;
+
+pub const NOTED: usize = 179;
+
+// The case's numbers end here. The line and the phase outlast a case.
+pub const CASE_END: usize = 180;
+
+pub const LINE: usize = 180;
+
+pub const PHASE: usize = 181;
+
+// The notes, three numbers each.
+pub const NOTES: usize = 200;
+
+// No case has started; a case is described; its state is open; its opening was refused; the report has ended.
+pub const NO_CASE: u64 = 0;
+
+pub const DESCRIBED: u64 = 1;
+
+pub const OPEN: u64 = 2;
+
+pub const REFUSED: u64 = 3;
+
+pub const STOPPED: u64 = 4;
+
+pub fn number(kept: &Kept, place: usize) -> u64
+    ensures { λ r. ⌜ r ≡ numberAt (now (kept .entry)) place ⌝ }
+{
+    if place < ALL {
+        return kept[place];
+    }
+    0
+}
+
+pub fn word(kept: &Kept, place: usize) -> u32
+    ensures { λ r. ⌜ r ≡ wordAt (now (kept .entry)) place ⌝ }
+{
+    (number(kept, place) % 4294967296) as u32
+}
+
+pub fn is_set(kept: &Kept, place: usize) -> bool
+    ensures { λ r. ⌜ r ≡ isSet (now (kept .entry)) place ⌝ }
+{
+    number(kept, place) != 0
+}
+
+// The same i places further on, of which there may be none.
+pub fn is_set_after(kept: &Kept, first: usize, i: usize) -> bool
+    ensures { λ r. ⌜ r ≡ isSet (now (kept .entry)) (first + i) ⌝ }
+{
+    if ALL <= first {
+        return false;
+    }
+    if ALL <= i {
+        return false;
+    }
+    is_set(kept, first + i)
+}
+
+pub fn keep(kept: &mut Kept, place: usize, n: u64)
+    ensures { λ _. ⌜ now (kept .exit) ≡ put (now (kept .entry)) place n ⌝ }
+{
+    if place < ALL {
+        kept[place] = n;
+    }
+}
+
+// The same i places further on, of which there may be none.
+pub fn keep_after(kept: &mut Kept, first: usize, i: usize, n: u64)
+    ensures { λ _. ⌜ now (kept .exit) ≡ put (now (kept .entry)) (first + i) n ⌝ }
+{
+    if ALL <= first {
+        return;
+    }
+    if ALL <= i {
+        return;
+    }
+    keep(&mut *kept, first + i, n);
+}
+
+pub fn keep_word(kept: &mut Kept, place: usize, w: u32)
+    ensures { λ _. ⌜ now (kept .exit) ≡ put (now (kept .entry)) place w ⌝ }
+{
+    keep(&mut *kept, place, w as u64);
+}
+
+pub fn keep_flag(kept: &mut Kept, place: usize, flag: bool)
+    ensures { λ _. ⌜ now (kept .exit) ≡ put (now (kept .entry)) place (flagOf flag) ⌝ }
+{
+    if flag {
+        keep(&mut *kept, place, 1);
+        return;
+    }
+    keep(&mut *kept, place, 0);
+}
+
+// Eight flags from a place on.
+pub fn flags_of(kept: &Kept, first: usize) -> [bool; 8]
+    ensures { λ r. ⌜ r ≡ flagsAt 8 (now (kept .entry)) first ⌝ }
+{
+    let mut flags = [false; 8];
+    let mut i = 0;
+    while i < 8 {
+        flags[i] = is_set_after(kept, first, i);
+        i += 1;
+    }
+    flags
+}
+
+// A case that nothing is said of: 16 words of stack cache, and p0 is true.
+pub fn forget_case(kept: &mut Kept)
+    ensures { λ _. ⌜ now (kept .exit) ≡ forgotten (now (kept .entry)) ⌝ }
+{
+    let mut i = 0;
+    while i < CASE_END {
+        keep(&mut *kept, i, 0);
+        i += 1;
+    }
+    kept[WORDS] = 16;
+    kept[PREDICATES] = 1;
+}
