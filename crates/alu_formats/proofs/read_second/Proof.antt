@@ -38,7 +38,7 @@ compare-requires-2 c κs = tt
 
 returns-3 : tie.Need-returns-3
 unfolding reading
-returns-3 c = rw (ne-eqb _ _ (c .before .before .before .if1 .left), c .before .before .if2 .left, c .before .match .keys1, div-one) (c .arithmetic2 .ensures)
+returns-3 c = simp (ne-eqb _ _ (c .before .before .before .if1 .left), c .before .before .if2 .left, c .before .match .keys1, div-one) (c .arithmetic2 .ensures)
 
 returns-4 : tie.Need-returns-4
 unfolding reading

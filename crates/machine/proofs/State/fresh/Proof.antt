@@ -1,7 +1,14 @@
+use Prim.Native.Nat.{ℕ, _≤_, _%_}
+use mathlib.Core.Bool.{true}
+use mathlib.Core.List.{List}
+use lib.ListN.{length}
 use borrow.Author.Tests.{ne-eqb, le-leb, lt-leb, not-false}
-use Rattle.machine.specs.Open.{opening}
+use Rattle.settings.specs.Answer.{refused}
+use Rattle.settings.specs.Settings.{admits, settingsOf}
+use Rattle.state.specs.State.{fresh}
+use Rattle.machine.specs.Open.{opening, openOf}
 use Rattle.settings.specs.SettingsLaws.{code-small}
-use mathlib.Core.Path.{sym, _∙_}
+use mathlib.Core.Path.{_≡_, sym, _∙_}
 use native.Mathlib.Omega.{arith}
 use borrow.Author.Needs.{needs}
 use Rattle.machine.proofs.State.fresh.Statement.{statement}
@@ -27,9 +34,14 @@ returns-2 c = rw (← c .before .before .before .admits .ensures, c .before .bef
 refused-requires-3 : tie.Need-refused-requires-3
 refused-requires-3 c κs = tt
 
-returns-3 : tie.Need-returns-3
+-- An entry at or behind the code's end.
+at-end : (code main local cache : List ℕ) (lo hi entry : ℕ) → admits (settingsOf code main local cache lo hi) ≡ true → entry % 4 ≡ 0 → length code ≤ entry
+    → opening code main local cache lo hi entry ≡ openOf (refused 2) (fresh 0 0 0) cache
 unfolding opening
-returns-3 c = rw (← c .before .before .before .before .admits .ensures, c .before .before .before .if1 .left, c .before .before .if2 .left, le-leb _ _ (c .before .if3 .taken)) (c .refused3 .ensures _)
+at-end code main local cache lo hi entry a m e = rw (a, m, le-leb _ _ e)
+
+returns-3 : tie.Need-returns-3
+returns-3 c = c .refused3 .ensures _ ∙ sym (at-end _ _ _ _ _ _ _ (sym (c .before .before .before .before .admits .ensures) ∙ not-false _ (c .before .before .before .if1 .left)) (c .before .before .if2 .left) (c .before .if3 .taken))
 
 clear-requires : tie.Need-clear-requires
 clear-requires c κs = tt

@@ -28,19 +28,19 @@ load-bytes-requires-3 c κs = tt
 
 returns : tie.Need-returns
 unfolding loadedValue readNumber
-returns c = rw (c .before .enum-told .given .1, ← c .load-cache .ensures)
+returns c = rw (c .before .enum-told .given .1) (c .load-cache .ensures)
 
 returns-2 : tie.Need-returns-2
 unfolding loadedValue readNumber
-returns-2 c = rw (c .before .enum-told2 .given .1, ← c .load-bytes .ensures)
+returns-2 c = rw (c .before .enum-told2 .given .1) (c .load-bytes .ensures)
 
 returns-3 : tie.Need-returns-3
 unfolding loadedValue readNumber
-returns-3 c = rw (c .before .enum-told3 .given .1, ← c .load-bytes2 .ensures)
+returns-3 c = rw (c .before .enum-told3 .given .1) (c .load-bytes2 .ensures)
 
 returns-4 : tie.Need-returns-4
 unfolding loadedValue readNumber
-returns-4 c = rw (c .before .enum-told4 .given .1, ← c .load-bytes3 .ensures)
+returns-4 c = rw (c .before .enum-told4 .given .1) (c .load-bytes3 .ensures)
 
 pub load-spec : {M : Type 1} → statement M
 load-spec =

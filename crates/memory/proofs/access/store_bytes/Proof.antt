@@ -26,21 +26,21 @@ same-length c = search needs
 
 returns : tie.Need-returns
 unfolding storeScale
-returns c = rw (c .before .before .before .before .enum-told .given .1, ← c .before .before .write-word .ensures)
+returns c = rw (c .before .before .before .before .enum-told .given .1) (c .before .before .write-word .ensures)
 
 same-length-2 : tie.Need-same-length-2
 same-length-2 c = search needs
 
 returns-2 : tie.Need-returns-2
 unfolding storeScale
-returns-2 c = rw (c .before .before .before .before .enum-told2 .given .1, ← c .before .before .write-half .ensures)
+returns-2 c = rw (c .before .before .before .before .enum-told2 .given .1) (c .before .before .write-half .ensures)
 
 same-length-3 : tie.Need-same-length-3
 same-length-3 c = search needs
 
 returns-3 : tie.Need-returns-3
 unfolding storeScale
-returns-3 c = rw (c .before .before .before .before .enum-told3 .given .1, ← c .before .before .write-byte .ensures)
+returns-3 c = rw (c .before .before .before .before .enum-told3 .given .1) (c .before .before .write-byte .ensures)
 
 pub store-bytes-spec : {M : Type 1} → statement M
 store-bytes-spec =

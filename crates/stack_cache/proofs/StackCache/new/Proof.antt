@@ -1,5 +1,8 @@
+use Prim.Native.Nat.{ℕ, _≤_, _%_}
+use mathlib.Core.Path.{_≡_, sym}
 use borrow.Author.Tests.{eq-eqb, ne-eqb, le-leb, lt-leb}
-use Rattle.stack_cache.specs.Stack.{isCacheSize, makeCache}
+use Rattle.stack_cache.specs.Stack.{least, greatest, isCacheSize, makeCache}
+use Rattle.stack_cache.specs.declared.Made.the-variants as made
 use borrow.Author.Needs.{needs}
 use Rattle.stack_cache.proofs.StackCache.new.Statement.{statement}
 use Rattle.stack_cache.proofs.StackCache.new.Tie as tie
@@ -21,9 +24,13 @@ returns-2 c = rw (le-leb _ _ (c .before .if1 .left), lt-leb _ _ (c .if2 .taken))
 rem-if3 : tie.Need-rem-if3
 rem-if3 c = search needs
 
-returns-3 : tie.Need-returns-3
+-- A number within the limits that does not divide the greatest.
+no-size : (w : ℕ) → least ≤ w → w ≤ greatest → (greatest % w ≡ 0 → ⊥) → makeCache w ≡ made.Refused 1
 unfolding makeCache isCacheSize
-returns-3 c = rw (le-leb _ _ (c .before .before .if1 .left), le-leb _ _ (c .before .if2 .left), ne-eqb _ _ (c .if3 .taken))
+no-size w a b n = rw (le-leb _ _ a, le-leb _ _ b, ne-eqb _ _ n)
+
+returns-3 : tie.Need-returns-3
+returns-3 c = sym (no-size _ (c .before .before .if1 .left) (c .before .if2 .left) (c .if3 .taken))
 
 cast-t6 : tie.Need-cast-t6
 cast-t6 c = search needs

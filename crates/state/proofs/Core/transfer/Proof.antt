@@ -39,7 +39,7 @@ returns c = λ rs ps. rw (c .before .before .before .transfer .given .1) (c .go-
 
 returns-2 : tie.Need-returns-2
 unfolding transferred
-returns-2 c = λ rs ps. rw (c .before .before .before .before .before .before .transfer2 .given .1, ← c .before .before .before .before .sub .ensures) (c .go-on2 .ensures rs ps ∙ rw (c .before .no-transfer2 .ensures))
+returns-2 c = λ rs ps. rw (c .before .before .before .before .before .before .transfer2 .given .1) (c .go-on2 .ensures rs ps ∙ rw (c .before .before .before .before .sub .ensures, c .before .no-transfer2 .ensures))
 
 returns-3 : tie.Need-returns-3
 unfolding transferred
