@@ -27,6 +27,10 @@ clearedCacheCopy cache = setEach CACHE-COPY CACHE-COPY (λ i. 0) cache
 abbrev pub copiedMemory : List ℕ → ℕ → List ℕ
 copiedMemory memory n = setEach COPY (min n COPY) (λ i. getD memory i 0) memory
 
+-- The first n words of the cache copied behind it.
+abbrev pub copiedCache : List ℕ → ℕ → List ℕ
+copiedCache cache n = setEach CACHE-COPY (min n CACHE-COPY) (λ i. getD cache i 0) cache
+
 -- The first n words of the cache taken from its copy.
 abbrev pub filledCache : List ℕ → ℕ → List ℕ
 filledCache cache n = setEach 0 (min n CACHE-COPY) (λ i. getD cache (CACHE-COPY + i) 0) cache

@@ -85,7 +85,7 @@ PRIVATE-LOCAL = 171
 abbrev pub PRIVATE-STACK : ℕ
 PRIVATE-STACK = 172
 
--- How far the places of each store reach, how many are noted, the number of the line, and the notes.
+-- How far the places of each store reach, how many are noted, the number of the line, the phase, and the notes.
 abbrev pub REACH : ℕ
 REACH = 176
 
@@ -94,6 +94,13 @@ NOTED = 179
 
 abbrev pub LINE : ℕ
 LINE = 180
+
+abbrev pub PHASE : ℕ
+PHASE = 181
+
+-- The phase of a report that has ended.
+abbrev pub STOPPED : ℕ
+STOPPED = 4
 
 abbrev pub NOTES : ℕ
 NOTES = 200

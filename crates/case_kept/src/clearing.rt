@@ -1,6 +1,6 @@
 // Whole parts of the buffers.
 ghost use mathlib.Core.Path.{_≡_};
-ghost use Rattle.case_kept.specs.Clearing.{clearedMemory, clearedCacheCopy, copiedMemory, filledCache, putInCopy};
+ghost use Rattle.case_kept.specs.Clearing.{clearedMemory, clearedCacheCopy, copiedMemory, copiedCache, filledCache, putInCopy};
 use crate::buffers::CACHE_COPY;
 use crate::buffers::COPY;
 use crate::buffers::Cache;
@@ -38,6 +38,18 @@ pub fn copy_memory(memory: &mut Memory, n: usize)
     let mut i = 0;
     while i < end {
         memory[COPY + i] = memory[i];
+        i += 1;
+    }
+}
+
+// The first n words of the cache are copied.
+pub fn copy_cache(cache: &mut Cache, n: usize)
+    ensures { λ _. ⌜ now (cache .exit) ≡ copiedCache (now (cache .entry)) n ⌝ }
+{
+    let end = least(n, CACHE_COPY);
+    let mut i = 0;
+    while i < end {
+        cache[CACHE_COPY + i] = cache[i];
         i += 1;
     }
 }

@@ -1,4 +1,4 @@
-// What an operation changed: each word that differs from its copy is reported, and the copy is brought up to date.
+// What an operation changed: each word that differs from its copy is reported.
 use crate::output::Text;
 use crate::output::flush;
 use crate::output::put;
@@ -31,40 +31,39 @@ fn first_difference(memory: &Memory, from: usize, end: usize) -> usize
     i
 }
 
-// The bytes from start to end, two digits each, copied on the way.
-fn put_bytes(text: &mut Text, used: usize, memory: &mut Memory, start: usize, end: usize) -> usize {
+// The bytes from start to end, two digits each.
+fn put_bytes(text: &mut Text, used: usize, memory: &Memory, start: usize, end: usize) -> usize {
     let stop = least(end, COPY);
     let mut at = used;
     let mut i = start;
     while i < stop {
         at = put_two_digits(&mut *text, at, memory[i]);
-        memory[COPY + i] = memory[i];
         i += 1;
     }
     at
 }
 
-fn put_change(label: &[u8], memory: &mut Memory, start: usize, end: usize) {
+fn put_change(label: &[u8], memory: &Memory, start: usize, end: usize) {
     let mut text = [0u8; 512];
     let a = put(&mut text, 0, label);
     let b = put_number(&mut text, a, start as u64);
     let c = put_byte(&mut text, b, b' ');
-    let d = put_bytes(&mut text, c, &mut *memory, start, end);
+    let d = put_bytes(&mut text, c, memory, start, end);
     let e = put_byte(&mut text, d, b'\n');
     flush(&text, e);
 }
 
 // The changed words of the first n bytes of a memory.
-fn put_memory(label: &[u8], memory: &mut Memory, n: usize) {
+fn put_memory(label: &[u8], memory: &Memory, n: usize) {
     let end = least(n, COPY);
     let mut i = 0;
     while i < end {
-        let k = first_difference(&*memory, i, end);
+        let k = first_difference(memory, i, end);
         if end <= k {
             return;
         }
         let start = k / 4 * 4;
-        put_change(label, &mut *memory, start, least(start + 4, end));
+        put_change(label, memory, start, least(start + 4, end));
         i = start + 4;
     }
 }
@@ -73,28 +72,27 @@ fn put_cache_word(place: usize, w: u32) {
     say(b"cache % #\n", &[place as u64, w as u64]);
 }
 
-fn put_if_changed(cache: &mut Cache, i: usize) {
+fn put_if_changed(cache: &Cache, i: usize) {
     if CACHE_COPY <= i {
         return;
     }
     let w = cache[i];
     if w != cache[CACHE_COPY + i] {
-        cache[CACHE_COPY + i] = w;
         put_cache_word(i, w);
     }
 }
 
 // The changed words of the first n stack cache words.
-fn put_cache(cache: &mut Cache, n: usize) {
+fn put_cache(cache: &Cache, n: usize) {
     let mut i = 0;
     while i < n {
-        put_if_changed(&mut *cache, i);
+        put_if_changed(cache, i);
         i += 1;
     }
 }
 
-pub fn put_changes(main: &mut Memory, local: &mut Memory, cache: &mut Cache, e: Extents) {
-    put_memory(b"main ", &mut *main, e.main);
-    put_memory(b"local ", &mut *local, e.local);
-    put_cache(&mut *cache, e.words);
+pub fn put_changes(main: &Memory, local: &Memory, cache: &Cache, e: Extents) {
+    put_memory(b"main ", main, e.main);
+    put_memory(b"local ", local, e.local);
+    put_cache(cache, e.words);
 }

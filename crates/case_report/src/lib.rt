@@ -1,5 +1,4 @@
-// What the case program reads and writes: the file cut into lines, and the texts of the report.
+// The texts of the report. What is written out gives nothing back, and changes no buffer.
 pub mod changes;
-pub mod input;
 pub mod mistake;
 pub mod output;

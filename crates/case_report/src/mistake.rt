@@ -1,4 +1,7 @@
 // The last line of a report whose file has a mistake.
+ghost use mathlib.Core.Path.{_≡_};
+ghost use Rattle.case_kept.specs.Kept.{put};
+ghost use Rattle.case_kept.specs.PlaceNumbers.{PHASE, STOPPED};
 use crate::output::say;
 use crate::output::tell;
 use case_kept::kept::Kept;
@@ -48,7 +51,9 @@ fn tell_mistake(row: usize) {
 }
 
 // The report ends with what is wrong with a line.
-pub fn fail(kept: &mut Kept, line: u64, row: usize) {
+pub fn fail(kept: &mut Kept, line: u64, row: usize)
+    ensures { λ _. ⌜ now (kept .exit) ≡ put (now (kept .entry)) PHASE STOPPED ⌝ }
+{
     say(b"error line %: ", &[line]);
     tell_mistake(row);
     kept[PHASE] = STOPPED;

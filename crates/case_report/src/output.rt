@@ -6,7 +6,7 @@ use std::num::wrapping_add_usize;
 use text::digits::put_decimal;
 use text::digits::put_hex;
 
-pub type Text = [u8; 512];
+pub(crate) type Text = [u8; 512];
 
 // A text that has nothing to fill in.
 pub fn tell(s: &[u8]) {
@@ -14,14 +14,14 @@ pub fn tell(s: &[u8]) {
 }
 
 // Writes out what the buffer holds.
-pub fn flush(text: &Text, used: usize) {
+pub(crate) fn flush(text: &Text, used: usize) {
     let n = least(used, 512);
     let bytes = &text[..];
     tell(&bytes[0..n]);
 }
 
 // Puts a byte behind the used part, and answers how much is used then. What is longer than the buffer is written in parts.
-pub fn put_byte(text: &mut Text, used: usize, b: u8) -> usize {
+pub(crate) fn put_byte(text: &mut Text, used: usize, b: u8) -> usize {
     if used < 512 {
         text[used] = b;
         return used + 1;
@@ -31,7 +31,7 @@ pub fn put_byte(text: &mut Text, used: usize, b: u8) -> usize {
     1
 }
 
-pub fn put(text: &mut Text, used: usize, s: &[u8]) -> usize {
+pub(crate) fn put(text: &mut Text, used: usize, s: &[u8]) -> usize {
     let mut at = used;
     let mut i = 0;
     while i < s.len() {
@@ -41,7 +41,7 @@ pub fn put(text: &mut Text, used: usize, s: &[u8]) -> usize {
     at
 }
 
-pub fn put_number(text: &mut Text, used: usize, n: u64) -> usize {
+pub(crate) fn put_number(text: &mut Text, used: usize, n: u64) -> usize {
     let mut digits = [0u8; 20];
     let start = put_decimal(n, &mut digits);
     put(&mut *text, used, &digits[start..])
@@ -53,7 +53,7 @@ fn put_word(text: &mut Text, used: usize, w: u32) -> usize {
     put(&mut *text, used, &digits)
 }
 
-pub fn put_two_digits(text: &mut Text, used: usize, b: u8) -> usize {
+pub(crate) fn put_two_digits(text: &mut Text, used: usize, b: u8) -> usize {
     let mut digits = [0u8; 2];
     put_hex(b as u32, &mut digits);
     put(&mut *text, used, &digits)

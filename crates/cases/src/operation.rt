@@ -7,6 +7,8 @@ use bundle_rules::Answer;
 use case_kept::buffers::Bytes;
 use case_kept::buffers::Cache;
 use case_kept::buffers::Memory;
+use case_kept::clearing::copy_cache;
+use case_kept::clearing::copy_memory;
 use case_kept::extent::Extents;
 use case_kept::extent::extents_of;
 use case_kept::kept::Kept;
@@ -106,10 +108,14 @@ fn after_run(r: Ran, kept: &mut Kept) {
     keep_state(&mut *kept, state);
 }
 
-// The state lines and the change lines.
+// The state lines and the change lines. What is reported is changed no longer: the copies are brought up to date.
 fn report(main: &mut Memory, local: &mut Memory, cache: &mut Cache, kept: &Kept) {
+    let e = extents_of(kept);
     put_state(kept);
-    put_changes(&mut *main, &mut *local, &mut *cache, extents_of(kept));
+    put_changes(&*main, &*local, &*cache, e);
+    copy_memory(&mut *main, e.main);
+    copy_memory(&mut *local, e.local);
+    copy_cache(&mut *cache, e.words);
 }
 
 pub fn do_step(

@@ -4,10 +4,10 @@ use Rattle.case_report.proofs.changes.put_bytes.Statement.{statement}
 use Rattle.case_report.proofs.changes.put_bytes.Tie as tie
 
 abbrev Inv-loop : tie.InvT-loop
-Inv-loop text₀ used memory₀ start end stop at₀ i₀ text memory at i = Unit {0}
+Inv-loop text₀ used memory start end stop at₀ i₀ text at i = Unit {0}
 
 abbrev μ-loop : tie.MeasureT-loop
-μ-loop text₀ used memory₀ start end stop at₀ i₀ text memory at i = stop - i
+μ-loop text₀ used memory start end stop at₀ i₀ text at i = stop - i
 
 least-requires : tie.Need-least-requires Inv-loop μ-loop
 least-requires c κs = tt
@@ -20,15 +20,6 @@ element-copy-out-put-two-digits c = search needs
 
 put-two-digits-requires : tie.Need-put-two-digits-requires Inv-loop μ-loop
 put-two-digits-requires c κs = tt
-
-element-copy-out-memory : tie.Need-element-copy-out-memory Inv-loop μ-loop
-element-copy-out-memory c = search needs
-
-add-memory : tie.Need-add-memory Inv-loop μ-loop
-add-memory c = search needs
-
-element-write-memory : tie.Need-element-write-memory Inv-loop μ-loop
-element-write-memory c = search needs
 
 add-i : tie.Need-add-i Inv-loop μ-loop
 add-i c = search needs
@@ -52,9 +43,6 @@ put-bytes-spec =
     loop-holds
     element-copy-out-put-two-digits
     put-two-digits-requires
-    element-copy-out-memory
-    add-memory
-    element-write-memory
     add-i
     loop-less
     loop-again

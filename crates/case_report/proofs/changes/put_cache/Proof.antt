@@ -4,10 +4,10 @@ use Rattle.case_report.proofs.changes.put_cache.Statement.{statement}
 use Rattle.case_report.proofs.changes.put_cache.Tie as tie
 
 abbrev Inv-loop : tie.InvT-loop
-Inv-loop cache₀ n i₀ cache i = Unit {0}
+Inv-loop cache n i₀ i = Unit {0}
 
 abbrev μ-loop : tie.MeasureT-loop
-μ-loop cache₀ n i₀ cache i = n - i
+μ-loop cache n i₀ i = n - i
 
 loop-holds : tie.Need-loop-holds Inv-loop μ-loop
 loop-holds c = search needs

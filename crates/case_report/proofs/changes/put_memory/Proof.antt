@@ -4,10 +4,10 @@ use Rattle.case_report.proofs.changes.put_memory.Statement.{statement}
 use Rattle.case_report.proofs.changes.put_memory.Tie as tie
 
 abbrev Inv-loop : tie.InvT-loop
-Inv-loop label memory₀ n end i₀ memory i = Unit {0}
+Inv-loop label memory n end i₀ i = Unit {0}
 
 abbrev μ-loop : tie.MeasureT-loop
-μ-loop label memory₀ n end i₀ memory i = end - i
+μ-loop label memory n end i₀ i = end - i
 
 least-requires : tie.Need-least-requires Inv-loop μ-loop
 least-requires c κs = tt

@@ -1,4 +1,6 @@
-// The file, read in pieces and cut into lines.
+// A file, read in pieces and cut into lines.
+ghost use mathlib.Core.Path.{_≡_};
+ghost use Rattle.case_input.specs.Input.{closed, goingOn, atFileEnd, Piece, afterByte, lineAfterByte, Look};
 use case_kept::buffers::Bytes;
 use case_kept::buffers::LineBytes;
 use case_kept::buffers::least;
@@ -24,17 +26,16 @@ pub struct Input {
     pub found: Found,
 }
 
-pub fn no_input() -> Input {
-    Input {
-        at: 0,
-        end: 0,
-        held: 0,
-        ended: false,
-        found: Found::Nothing,
-    }
+// Before the first look.
+pub fn no_input() -> Input
+    ensures { λ r. ⌜ r ≡ goingOn 0 0 0 Found.Nothing ⌝ }
+{
+    going_on(0, 0, 0, Found::Nothing)
 }
 
-fn ended(found: Found) -> Input {
+fn ended(found: Found) -> Input
+    ensures { λ r. ⌜ r ≡ closed found ⌝ }
+{
     Input {
         at: 0,
         end: 0,
@@ -44,7 +45,9 @@ fn ended(found: Found) -> Input {
     }
 }
 
-fn going_on(at: usize, end: usize, held: usize, found: Found) -> Input {
+fn going_on(at: usize, end: usize, held: usize, found: Found) -> Input
+    ensures { λ r. ⌜ r ≡ goingOn at end held found ⌝ }
+{
     Input {
         at,
         end,
@@ -55,7 +58,9 @@ fn going_on(at: usize, end: usize, held: usize, found: Found) -> Input {
 }
 
 // The end of the file: a last line without a line end is a line.
-fn file_end(held: usize) -> Input {
+fn file_end(held: usize) -> Input
+    ensures { λ r. ⌜ r ≡ atFileEnd held ⌝ }
+{
     if held == 0 {
         return ended(Found::End);
     }
@@ -63,7 +68,9 @@ fn file_end(held: usize) -> Input {
 }
 
 // The next piece of the file.
-fn read_piece(fd: i32, piece: &mut Bytes, held: usize) -> Input {
+fn read_piece(fd: i32, piece: &mut Bytes, held: usize) -> Input
+    ensures { λ r. ⌜ Piece held r ⌝ }
+{
     let got = libc::read(fd, &mut *piece);
     if got < 0 {
         return ended(Found::Unreadable);
@@ -76,7 +83,9 @@ fn read_piece(fd: i32, piece: &mut Bytes, held: usize) -> Input {
 }
 
 // A byte of the file ends a line or is held.
-fn take_byte(line: &mut LineBytes, b: u8, at: usize, end: usize, held: usize) -> Input {
+fn take_byte(line: &mut LineBytes, b: u8, at: usize, end: usize, held: usize) -> Input
+    ensures { λ r. ⌜ (r ≡ afterByte b at end held) × (now (line .exit) ≡ lineAfterByte (now (line .entry)) b held) ⌝ }
+{
     if b == b'\n' {
         return going_on(at, end, 0, Found::Line(held));
     }
@@ -88,7 +97,9 @@ fn take_byte(line: &mut LineBytes, b: u8, at: usize, end: usize, held: usize) ->
 }
 
 // Looks at the next byte, or reads a piece where all is taken.
-pub fn look(fd: i32, piece: &mut Bytes, line: &mut LineBytes, s: Input) -> Input {
+pub fn look(fd: i32, piece: &mut Bytes, line: &mut LineBytes, s: Input) -> Input
+    ensures { λ r. ⌜ Look s (now (piece .entry)) (now (line .entry)) r (now (piece .exit)) (now (line .exit)) ⌝ }
+{
     if s.ended {
         return ended(Found::End);
     }
