@@ -13,7 +13,7 @@ use Rattle.state.specs.State.{State}
 use Rattle.state.specs.declared.WaitingLoad.the-variants as load
 use Rattle.bundle_rules.specs.declared.Counts.{Counts}
 use Rattle.bundle_rules.specs.Bundle.{noCounts, bundleAt, step}
-use Rattle.run.specs.Run.{run, Tried, triedAt, tries}
+use Rattle.run_rules.specs.Run.{run, Tried, triedAt, tries}
 use Rattle.marking.specs.Marking.{publicRegister}
 use Rattle.single_path.specs.Check.{Walked, first, accepted}
 use Rattle.single_path.specs.WalkLaws.{walked-inside}

@@ -23,7 +23,7 @@ use Rattle.state.specs.declared.WaitingLoad.the-variants as load
 use Rattle.bundle_rules.specs.Refusal.{outsideCode}
 use Rattle.bundle_rules.specs.Bundle.{stackMoved, buffersAfter, writeOne, written, bundleAt, noCounts, bundle, readiness, step}
 use Rattle.state.specs.Writes.{writeAlu, delaySlots}
-use Rattle.run.specs.Run.{run, Tried, tries}
+use Rattle.run_rules.specs.Run.{run, Tried, tries}
 use Rattle.marking.specs.declared.Marking.{Marking}
 use Rattle.marking_rules.specs.declared.Rule.the-variants.{A, B, C, D, E}
 use Rattle.marking.specs.Marking.{privateStore, some as someOf, markingOk}

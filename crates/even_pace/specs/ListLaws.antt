@@ -8,7 +8,7 @@ use mathlib.Core.Path.{_≡_, refl, ap, subst}
 use native.Mathlib.Omega.{arith}
 use lib.ListN.{length}
 use Rattle.bundle_rules.specs.Bundle.{Outcome}
-use Rattle.run.specs.Run.{plus, counted, Tried}
+use Rattle.run_rules.specs.Run.{plus, counted, Tried}
 use Rattle.marking.specs.declared.Marking.{Marking}
 use Rattle.even_pace.specs.Terms.{Stops, SameTried, EvenAt, StopsAt}
 use Rattle.even_pace.specs.BundleLaws.{SameOutcome}

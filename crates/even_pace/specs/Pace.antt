@@ -17,7 +17,7 @@ use Rattle.bundle_rules.specs.Bundle.{Outcome, outcome, noCounts, lent, bundleA
 use Rattle.machine_laws.specs.StepCases.{isDone}
 use Rattle.machine_laws.specs.KeptLaws.{well-formed-parts, bundle-shaped}
 use Rattle.machine_laws.specs.StackKept.{bundle-lengths}
-use Rattle.run.specs.Run.{plus, counted, run, Tried, triedAt, tries}
+use Rattle.run_rules.specs.Run.{plus, counted, run, Tried, triedAt, tries}
 use Rattle.marking.specs.declared.Marking.{Marking}
 use Rattle.single_path.specs.Check.{Walked, settings}
 use Rattle.single_path.specs.WalkLaws.{walked-decided}

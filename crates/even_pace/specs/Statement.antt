@@ -6,7 +6,7 @@ use mathlib.Core.Path.{_≡_}
 use Rattle.memory.specs.Access.{Buffers}
 use Rattle.state.specs.State.{State, Shaped, wellFormed}
 use Rattle.bundle_rules.specs.Bundle.{noCounts}
-use Rattle.run.specs.Run.{run, tries}
+use Rattle.run_rules.specs.Run.{run, tries}
 use Rattle.marking.specs.declared.Marking.{Marking}
 use Rattle.even_pace.specs.Terms.{Accepted, Agree, EvenPace}
 

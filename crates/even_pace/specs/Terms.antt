@@ -16,7 +16,7 @@ use Rattle.alu_effects.specs.declared.Specials.{Specials}
 use Rattle.state.specs.State.{State}
 use Rattle.state.specs.declared.WaitingLoad.the-variants.{Waits}
 use Rattle.bundle_rules.specs.Bundle.{bundleAt}
-use Rattle.run.specs.Run.{Tried}
+use Rattle.run_rules.specs.Run.{Tried}
 use Rattle.marking.specs.declared.Marking.{Marking}
 use Rattle.marking.specs.Marking.{privateRegister, privatePredicate, privateGuard, publicRegister}
 use Rattle.marking_rules.specs.Rules.{asked}

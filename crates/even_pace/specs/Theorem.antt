@@ -11,7 +11,7 @@ use Rattle.memory.specs.Access.{Buffers}
 use Rattle.settings.specs.Settings.{admits}
 use Rattle.state.specs.State.{State, Shaped, wellFormed}
 use Rattle.bundle_rules.specs.Bundle.{Outcome, noCounts}
-use Rattle.run.specs.Run.{run, Tried, tries}
+use Rattle.run_rules.specs.Run.{run, Tried, tries}
 use Rattle.marking.specs.declared.Marking.{Marking}
 use Rattle.marking.specs.Marking.{markingOk}
 use Rattle.single_path.specs.Check.{settings}

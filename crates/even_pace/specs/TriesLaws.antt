@@ -11,7 +11,7 @@ use Rattle.state.specs.State.{State, wellFormed, ended as hasEnded}
 use Rattle.bundle_rules.specs.declared.Counts.{Counts}
 use Rattle.bundle_rules.specs.Bundle.{Outcome, outcome, noCounts, readiness, lent, bundle}
 use Rattle.machine_laws.specs.StepCases.{isDone, Going, step-bundle, step-ended}
-use Rattle.run.specs.Run.{plus, ifDone, counted, run, Tried, triedAt, tries}
+use Rattle.run_rules.specs.Run.{plus, ifDone, counted, run, Tried, triedAt, tries}
 
 -- By cases on done is by cases on a truth value.
 if-done : {A : Type 0} (a : Returned) (x y : A) → ifDone a x y ≡ cond (isDone a) x y

@@ -1,4 +1,2 @@
-pub mod Run
-pub mod RunLaws
-pub mod TriesLaws
+pub mod Ran
 pub mod LoopLaws

@@ -15,9 +15,9 @@ use Rattle.bundle_rules.specs.declared.Readiness.{Readiness}
 use Rattle.machine_laws.specs.StepCases.{isDone}
 use Rattle.machine_laws.specs.CountLaws.{Small, step-small}
 use Rattle.run.specs.declared.RunAnswer.{RunAnswer}
-use Rattle.run.specs.Run as run
-use Rattle.run.specs.Run.{plus, counted, run}
-use Rattle.run.specs.RunLaws.{plus-none, counted-counted, run-none, run-stops, run-goes-on}
+use Rattle.run_rules.specs.Run.{plus, counted, run}
+use Rattle.run.specs.Ran as ran
+use Rattle.run_rules.specs.RunLaws.{plus-none, counted-counted, run-none, run-stops, run-goes-on}
 
 module _ (code : List ℕ) (lo hi : ℕ) (s : State) (b b′ : Buffers) (r : Stepped) (e : full r b′ ≡ step code lo hi s b) where
   -- The counts of the step are small.
@@ -42,8 +42,8 @@ module _ (code : List ℕ) (lo hi : ℕ) (s : State) (b b′ : Buffers) (r : Ste
 
 -- The end of a run whose budget is used up, by what the function answers there.
 pub turn-spent : (code : List ℕ) (lo hi : ℕ) (s : State) (b : Buffers) (c : Counts) (left : ℕ) (a : RunAnswer) (r : Readiness) → r ≡ readiness (lent code lo hi b) s
-    → ((t : State) (d : Buffers) → outcome (run.returned a) t noCounts d ≡ readyOr r t d (outcome spent t noCounts d)) → left ≤ 0
-    → outcome (run.returned a) s c b ≡ counted c (run code lo hi left s b)
+    → ((t : State) (d : Buffers) → outcome (ran.returned a) t noCounts d ≡ readyOr r t d (outcome spent t noCounts d)) → left ≤ 0
+    → outcome (ran.returned a) s c b ≡ counted c (run code lo hi left s b)
 turn-spent code lo hi s b c left a r e f h =
-    sym (ap (λ (x : Counts). outcome (run.returned a) s x b) (plus-none c))
+    sym (ap (λ (x : Counts). outcome (ran.returned a) s x b) (plus-none c))
     ∙ ap (counted c) (f s b ∙ ap (λ (x : Readiness). readyOr x s b (outcome spent s noCounts b)) e ∙ sym (run-none code lo hi left s b h))

@@ -1,13 +1,18 @@
 // A run with a budget.
 ghost use mathlib.Core.Path.{_≡_};
-ghost use Prim.Native.Nat.{_+_, _^_, _<_};
+ghost use mathlib.Core.Bool.{Bool};
+ghost use mathlib.Core.List.{List};
+ghost use Prim.Native.Nat.{ℕ, _+_, _^_, _<_};
 ghost use Rattle.memory.specs.Access.{Buffers, buffers};
 ghost use Rattle.bundle_rules.specs.Bundle.{noCounts, outcome, readyOr};
 ghost use Rattle.state.specs.Core.{joined};
 ghost use Rattle.machine.specs.Whole.{stateOf};
 ghost use Rattle.settings.specs.Answer.{spent};
 ghost use Rattle.state.specs.State.{State as MachineState};
-ghost use Rattle.run.specs.Run.{plus, run, returned, whole};
+ghost use Rattle.run_rules.specs.Run.{plus, run};
+ghost use Rattle.run.specs.Ran.{returned, whole, wholeOf};
+use bundle::step::readiness;
+use bundle::step::step;
 use bundle_rules::Answer;
 use bundle_rules::Counts;
 use bundle_rules::Readiness;
@@ -29,6 +34,13 @@ pub struct Ran {
     pub counts: Counts,
 }
 
+// The same inside the run, whose registers and predicates are lent.
+struct Stopped {
+    answer: RunAnswer,
+    core: Core,
+    counts: Counts,
+}
+
 fn sum(c: Counts, d: Counts) -> Counts
     requires { ⌜ (c .bundles + d .bundles < 2 ^ 64) × (c .cycles + d .cycles < 2 ^ 64) × (c .spilled + d .spilled < 2 ^ 64) × (c .filled + d .filled < 2 ^ 64) ⌝ }
     ensures { λ r. ⌜ r ≡ plus c d ⌝ }
@@ -38,6 +50,18 @@ fn sum(c: Counts, d: Counts) -> Counts
         cycles: c.cycles + d.cycles,
         spilled: c.spilled + d.spilled,
         filled: c.filled + d.filled,
+    }
+}
+
+// No bundle is done yet.
+fn none() -> Counts
+    ensures { λ r. ⌜ r ≡ noCounts ⌝ }
+{
+    Counts {
+        bundles: 0,
+        cycles: 0,
+        spilled: 0,
+        filled: 0,
     }
 }
 
@@ -52,27 +76,21 @@ fn standing(r: Readiness) -> RunAnswer
     }
 }
 
-// What a run gives back.
-fn result(
-    answer: RunAnswer,
-    registers: [u32; 32],
-    predicates: [bool; 8],
-    core: Core,
-    counts: Counts,
-) -> Ran
-    ensures { λ r. ⌜ ((b : Buffers) → whole r b ≡ outcome (returned answer) (joined registers predicates core) counts b) ⌝ }
+fn stop(answer: RunAnswer, core: Core, counts: Counts) -> Stopped
+    ensures { λ r. ⌜ ((rs : List ℕ) (ps : List Bool) (b : Buffers) → wholeOf rs ps r b ≡ outcome (returned answer) (joined rs ps core) counts b) ⌝ }
 {
-    let state = State::join(registers, predicates, core);
-    Ran {
+    Stopped {
         answer,
-        state,
+        core,
         counts,
     }
 }
 
-// Bundles from a state on, until the code's end, a refusal or the budget's end. The registers and predicates are lent to each.
-pub fn run(
-    start: State,
+// Bundles from a state on, until the code's end, a refusal or the budget's end.
+fn bundles(
+    start: Core,
+    registers: &mut [u32; 32],
+    predicates: &mut [bool; 8],
     code: &[u8],
     main: &mut [u8],
     local: &mut [u8],
@@ -80,24 +98,17 @@ pub fn run(
     lo: u32,
     hi: u32,
     budget: u32,
-) -> Ran
-    ensures { λ r. ⌜ whole r (buffers (now (main .exit)) (now (local .exit)) (now (cache .exit))) ≡ run (now (code .entry)) lo hi budget (stateOf start) (buffers (now (main .entry)) (now (local .entry)) (now (cache .entry))) ⌝ }
+) -> Stopped
+    ensures { λ r. ⌜ wholeOf (now (registers .exit)) (now (predicates .exit)) r (buffers (now (main .exit)) (now (local .exit)) (now (cache .exit))) ≡ run (now (code .entry)) lo hi budget (joined (now (registers .entry)) (now (predicates .entry)) start) (buffers (now (main .entry)) (now (local .entry)) (now (cache .entry))) ⌝ }
 {
-    let mut registers = start.registers;
-    let mut predicates = start.predicates;
-    let mut core = start.core();
-    let mut counts = Counts {
-        bundles: 0,
-        cycles: 0,
-        spilled: 0,
-        filled: 0,
-    };
+    let mut core = start;
+    let mut counts = none();
     let mut left = budget;
     while 0 < left {
-        let r = bundle::step::step(
+        let r = step(
             core,
-            &mut registers,
-            &mut predicates,
+            &mut *registers,
+            &mut *predicates,
             code,
             &mut *main,
             &mut *local,
@@ -109,12 +120,8 @@ pub fn run(
         let next = r.core;
         let more = r.counts;
         match answer {
-            Answer::Refused(n) => {
-                return result(RunAnswer::Refused(n), registers, predicates, next, counts);
-            }
-            Answer::Ended => {
-                return result(RunAnswer::Ended, registers, predicates, next, counts);
-            }
+            Answer::Refused(n) => return stop(RunAnswer::Refused(n), next, counts),
+            Answer::Ended => return stop(RunAnswer::Ended, next, counts),
             Answer::Done => {
                 core = next;
                 counts = sum(counts, more);
@@ -130,6 +137,46 @@ pub fn run(
         lo,
         hi,
     };
-    let answer = standing(bundle::step::readiness(core, &registers, &predicates, g));
-    result(answer, registers, predicates, core, counts)
+    stop(
+        standing(readiness(core, &*registers, &*predicates, g)),
+        core,
+        counts,
+    )
+}
+
+// A run from a state. Inside it the registers and predicates are lent to each bundle.
+pub fn run(
+    start: State,
+    code: &[u8],
+    main: &mut [u8],
+    local: &mut [u8],
+    cache: &mut [u32],
+    lo: u32,
+    hi: u32,
+    budget: u32,
+) -> Ran
+    ensures { λ r. ⌜ whole r (buffers (now (main .exit)) (now (local .exit)) (now (cache .exit))) ≡ run (now (code .entry)) lo hi budget (stateOf start) (buffers (now (main .entry)) (now (local .entry)) (now (cache .entry))) ⌝ }
+{
+    let mut registers = start.registers;
+    let mut predicates = start.predicates;
+    let r = bundles(
+        start.core(),
+        &mut registers,
+        &mut predicates,
+        code,
+        &mut *main,
+        &mut *local,
+        &mut *cache,
+        lo,
+        hi,
+        budget,
+    );
+    let answer = r.answer;
+    let counts = r.counts;
+    let state = State::join(registers, predicates, r.core);
+    Ran {
+        answer,
+        state,
+        counts,
+    }
 }

@@ -7,10 +7,6 @@ use Rattle.state.specs.State.{State}
 use Rattle.bundle_rules.specs.declared.Counts.{Counts}
 use Rattle.bundle_rules.specs.declared.Readiness.{Readiness}
 use Rattle.bundle_rules.specs.declared.Readiness.the-variants.{Ready, Ended, Refused}
-use Rattle.run.specs.declared.RunAnswer.{RunAnswer}
-use Rattle.run.specs.declared.RunAnswer.the-variants as answer
-use Rattle.run.specs.declared.Ran.{Ran}
-use Rattle.machine.specs.Whole.{stateOf}
 use Rattle.bundle_rules.specs.Bundle.{Outcome, outcome, noCounts, readiness, readyOr, lent, step}
 
 -- Counts are summed bundle by bundle.
@@ -80,12 +76,3 @@ endOf code lo hi s b before (t ∷ rest) =
 unfoldable pub doneIn : List Tried → ℕ
 doneIn [] = 0
 doneIn (t ∷ rest) = ifDone (t .answer) 1 0 + doneIn rest
-
--- What each answer of the function returns, and the outcome of what it gives back with the buffers that it leaves.
-abbrev pub returned : RunAnswer → Returned
-returned answer.Ended = ended
-returned answer.Spent = spent
-returned (answer.Refused n) = refused n
-
-abbrev pub whole : Ran → Buffers → Outcome
-whole r b = outcome (returned (r .answer)) (stateOf (r .state)) (r .counts) b

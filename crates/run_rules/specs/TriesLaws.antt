@@ -12,8 +12,8 @@ use Rattle.bundle_rules.specs.declared.Readiness.{Readiness}
 use Rattle.bundle_rules.specs.declared.Readiness.the-variants.{Ready, Ended, Refused}
 use Rattle.bundle_rules.specs.Bundle.{Outcome, outcome, noCounts, bundle, readiness, readyOr, lent, step}
 use Rattle.machine_laws.specs.StepCases.{isDone, bundle-cases, step-cases}
-use Rattle.run.specs.Run.{plus, ifDone, counted, run, Tried, triedAt, whenReady, tries, endOf, doneIn}
-use Rattle.run.specs.RunLaws.{counted-counted, counted-none}
+use Rattle.run_rules.specs.Run.{plus, ifDone, counted, run, Tried, triedAt, whenReady, tries, endOf, doneIn}
+use Rattle.run_rules.specs.RunLaws.{counted-counted, counted-none}
 
 -- How many bundles a step counts: 1 where it is done.
 pub step-one : (code : List ℕ) (lo hi : ℕ) (s : State) (b : Buffers) → step code lo hi s b .counts .bundles ≡ ifDone (step code lo hi s b .answer) 1 0

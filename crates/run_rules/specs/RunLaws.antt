@@ -13,7 +13,7 @@ use Rattle.bundle_rules.specs.declared.Counts.{Counts}
 use Rattle.bundle_rules.specs.Bundle.{Outcome, outcome, noCounts, bundle, step}
 use Rattle.machine_laws.specs.StepCases.{isDone, step-unchanged}
 use Rattle.machine_laws.specs.CountLaws.{Small}
-use Rattle.run.specs.Run.{plus, ifDone, counted, stopped, run}
+use Rattle.run_rules.specs.Run.{plus, ifDone, counted, stopped, run}
 
 -- Sums of counts.
 pub plus-none : (c : Counts) → plus c noCounts ≡ c

@@ -1,0 +1,1 @@
+// What a run is, and the list of the bundles that it tries: see specs/.
