@@ -1,4 +1,4 @@
-//! A plain interpreter of the Patmos core of document 01, as a yardstick for speed.
+//! A plain interpreter of the Patmos core of document 01, to compare speed with.
 //! Build: rustc -O plain.rs        Use: plain WORKLOAD BUDGET MAINLEN W
 //! WORKLOAD is loop, calls, memory or all.
 //!

@@ -1,4 +1,4 @@
--- The results of tables 2.1 to 2.4, and of bcopy's and multiply's formulas, on words.
+-- The results of the functions of tables 2.1 to 2.4, on words.
 use Prim.Native.Nat.{ℕ}
 use mathlib.Core.Bool.{Bool, not, _&&_, _||_, Bool·beq}
 use lib.Bits.{bitAnd, bitOr, bitXor}

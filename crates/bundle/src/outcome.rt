@@ -26,7 +26,7 @@ pub(crate) fn refused(core: Core, n: u32) -> Advanced
     }
 }
 
-// A step on an ended state changes nothing and counts nothing.
+// Where the code has ended all stays as it is, and nothing is counted.
 pub(crate) fn ended(core: Core) -> Advanced
     ensures { λ r. ⌜ ((rs : List ℕ) (ps : List Bool) → steppedAs rs ps r ≡ endedWith (joined rs ps core)) ⌝ }
 {

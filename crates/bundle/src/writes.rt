@@ -16,7 +16,7 @@ use state::LoadWords;
 use state::TransferWords;
 use state::flow::write_alu;
 
-// Slot one, of which was carried out: the value loaded, st and ss.
+// What slot one writes, where carrying it out gave a loaded value, or st and ss.
 fn write_one(
     core: Core,
     registers: &mut [u32; 32],

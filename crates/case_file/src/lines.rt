@@ -179,7 +179,7 @@ fn of_three(stack: bool, a: u32, b: u32, c: u32) -> Line
 }
 
 // The stack line, and a transfer of kind block: three numbers.
-fn three_line(line: &[u8], at: usize, stack: bool) -> Line
+fn three_numbers(line: &[u8], at: usize, stack: bool) -> Line
     ensures { λ r. ⌜ r ≡ threeNumbers (now (line .entry)) at (λ a b c. cond stack (Line.Stack a b c) (Line.Block a b c)) ⌝ }
 {
     match number_at(line, at) {
@@ -203,7 +203,7 @@ fn br_or_call(call: bool, target: u32, wait: u32) -> Line
     Line::Br { target, wait }
 }
 
-fn two_line(line: &[u8], at: usize, call: bool) -> Line
+fn two_numbers(line: &[u8], at: usize, call: bool) -> Line
     ensures { λ r. ⌜ r ≡ twoNumbers (now (line .entry)) at (λ t w. cond call (Line.Call t w) (Line.Br t w)) ⌝ }
 {
     match number_at(line, at) {
@@ -232,9 +232,9 @@ fn transfer_line(line: &[u8], at: usize) -> Line
         return Line::Mistake(Reason::FieldMissing);
     }
     match transfer_kind(&line[start..end]) {
-        TransferKind::Br => two_line(line, end, false),
-        TransferKind::Call => two_line(line, end, true),
-        TransferKind::Block => three_line(line, end, false),
+        TransferKind::Br => two_numbers(line, end, false),
+        TransferKind::Call => two_numbers(line, end, true),
+        TransferKind::Block => three_numbers(line, end, false),
         TransferKind::Unknown => Line::Mistake(Reason::NoSuchTransfer),
     }
 }
@@ -246,7 +246,7 @@ fn after_keyword(line: &[u8], at: usize, k: Keyword) -> Line
         Keyword::Case => case_line(line, at),
         Keyword::Code => list_line(line, at, Line::Code { list: at }),
         Keyword::OneNumber(k) => number_line(line, at, k),
-        Keyword::Stack => three_line(line, at, true),
+        Keyword::Stack => three_numbers(line, at, true),
         Keyword::Private => list_line(line, at, Line::Private { list: at }),
         Keyword::NumberAndWord(k) => word_line(line, at, k),
         Keyword::Pred => pred_line(line, at),

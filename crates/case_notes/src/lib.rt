@@ -1,5 +1,4 @@
-// What a case says: the numbers kept from line to line, the description of a case and its marking. Nothing here reads, writes or does
-// a bundle.
+// What a case says: its description and its marking, put among the kept numbers. Nothing here reads, writes or does a bundle.
 pub mod description;
 pub mod description_line;
 pub mod kept_parts;

@@ -8,6 +8,9 @@ use case_kept::kept::Kept;
 use case_kept::kept::PHASE;
 use case_kept::kept::STOPPED;
 
+// The row of a tab or a carriage return, which nobody sees in a line.
+pub const UNSEEN_BYTE: usize = 20;
+
 // Tells the bytes of one row, and its line end.
 fn tell_row(rows: &[u8], row: usize) {
     let mut start = 0;
@@ -43,10 +46,11 @@ fn tell_mistake(row: usize) {
         the line is longer than 4000 bytes\n\
         no case has started\n\
         a description line after the case's first operation\n\
-        this line stands once in a case\n\
+        this line may stand only once in a case\n\
         code is at most 65536 bytes long\n\
         a memory is at most 65536 bytes long\n\
-        no whole word lies at this place\n";
+        a place is a multiple of 4 inside the memory, with its whole word, or a cache place below W\n\
+        fields stand apart by spaces: tabs and carriage returns are not allowed\n";
     tell_row(rows, row);
 }
 

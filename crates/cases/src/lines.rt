@@ -25,6 +25,7 @@ use case_notes::mistake::BEFORE_FIRST_CASE;
 use case_notes::mistake::LINE_TOO_LONG;
 use case_notes::mistake::NO_MISTAKE;
 use case_notes::mistake::row_of;
+use case_report::mistake::UNSEEN_BYTE;
 use case_report::mistake::fail;
 use std::num::wrapping_add_u64;
 
@@ -70,6 +71,29 @@ fn kind_in(phase: u64, kind: Kind) -> Kind {
         }
         _ => kind,
     }
+}
+
+// Whether a tab or a carriage return stands in a line, in front of its comment.
+fn has_unseen_byte(line: &[u8]) -> bool {
+    let mut i = 0;
+    while i < line.len() {
+        if line[i] == b'#' {
+            return false;
+        }
+        if (line[i] == b'\t') | (line[i] == b'\r') {
+            return true;
+        }
+        i += 1;
+    }
+    false
+}
+
+// What is told of a mistake: first what cannot be seen in the line.
+fn reason(line: &[u8], row: usize) -> usize {
+    if has_unseen_byte(line) {
+        return UNSEEN_BYTE;
+    }
+    row
 }
 
 // A mistake of the line that was read last.
@@ -119,7 +143,7 @@ fn take_line(
     let said = read_line(line);
     match kind_in(kept[PHASE], kind_of(said)) {
         Kind::Empty => (),
-        Kind::Mistake(row) => fail_here(&mut *kept, row),
+        Kind::Mistake(row) => fail_here(&mut *kept, reason(line, row)),
         Kind::Start(name) => start_case(
             line,
             name,

@@ -78,8 +78,9 @@ stackEffect rs (operation.Sspill a) = effect.Stack control.Sspill (amountWords r
 abbrev pub bytesOf : ℕ → ℕ
 bytesOf n = shiftLeft n 2
 
--- A transfer reads its target in its own bundle, not when it falls due. br adds its signed words times 4 to the branch's address (`ofZ w32 z` is
--- the word that reads as z); a register br or call is absolute; brcf adds offset to base register; ret goes to srb + sro.
+-- Where a transfer goes, read in its own bundle and not when it falls due. An immediate br is relative to the bundle that it stands in (`ofZ w32 z`
+-- is the word that reads as z); a register holds a byte address, but for brcf, whose second register is an offset into the block of the first;
+-- ret takes block and offset from srb and sro.
 unfoldable pub transferOf : Start → Target → declared.Transfer
 transferOf s (target.Call n) = transfer.Call (bytesOf n)
 transferOf s (target.CallRegister r) = transfer.Call (register s r)

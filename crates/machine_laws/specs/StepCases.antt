@@ -91,7 +91,7 @@ module _ (code : List ℕ) (lo hi : ℕ) (s : State) (b : Buffers) where
   unfolding step readiness
   step-state p q = rw (p, q)
 
-  -- A step on an ended state changes nothing.
+  -- Where the code has ended, a step leaves all as it is.
   pub step-ended : admits (lent code lo hi b) ≡ true → wellFormed s ≡ true → hasEnded s (length code) ≡ true → step code lo hi s b ≡ outcome ended s noCounts b
   unfolding step readiness
   step-ended p q r = rw (p, q, r)

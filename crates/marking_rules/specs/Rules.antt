@@ -28,7 +28,7 @@ abbrev pub privateAmount : Marking → StackAmount → Bool
 privateAmount m (Words n) = false
 privateAmount m (Register r) = privateRegister m r
 
--- What the rules ask about an operation: the fields of `Asked` (`asked.rt`). What does not apply to an operation is false, or 0.
+-- What the rules ask about an operation: the fields of `Asked` (`lib.rt`). What does not apply to an operation is false, or 0.
 --   control      it is a transfer (trap and xret included), stack control, or mts to ss, st, srb, sro, sxb or sxo
 --   destination  a destination is public
 --   source       an operand whose value goes to a destination, or the store loaded from, is private

@@ -66,7 +66,7 @@ fn none() -> Counts
 }
 
 // What a run answers whose budget is used up.
-fn standing(r: Readiness) -> RunAnswer
+fn at_budget_end(r: Readiness) -> RunAnswer
     ensures { λ x. ⌜ ((s : MachineState) (b : Buffers) → outcome (returned x) s noCounts b ≡ readyOr r s b (outcome spent s noCounts b)) ⌝ }
 {
     match r {
@@ -138,7 +138,7 @@ fn bundles(
         hi,
     };
     stop(
-        standing(readiness(core, &*registers, &*predicates, g)),
+        at_budget_end(readiness(core, &*registers, &*predicates, g)),
         core,
         counts,
     )

@@ -50,13 +50,14 @@ pub record Tried : Type 0 where
 abbrev pub triedAt : ℕ → Counts → Outcome → Tried
 triedAt fetch before o = record { fetch = fetch; answer = o .answer; counts = plus before (o .counts); state = o .state; buffers = o .buffers }
 
--- The bundles that a run tries, each from the state and buffers that the one before left, the first from those handed in. A refused
--- one is tried too, and ends the list. The counts are those of the bundles before.
+-- A list that is empty where no bundle is to be tried.
 abbrev pub whenReady : {A : Type 0} → Readiness → List A → List A
 whenReady Ready l = l
 whenReady Ended l = []
 whenReady (Refused n) l = []
 
+-- The bundles that a run tries, each from the state and buffers that the one before left, the first from those handed in. A refused
+-- one is tried too, and ends the list. The last argument is what the bundles before have counted.
 unfoldable pub tries : List ℕ → ℕ → ℕ → ℕ → State → Buffers → Counts → List Tried
 tries code lo hi zero s b before = []
 tries code lo hi (suc k) s b before =

@@ -1,9 +1,9 @@
 -- The check: the bundles from 0 to the code's end, one after the other, against the marking rules.
 use Prim.Native.Nat.{ℕ, zero, suc, _+_, _/_, _<_}
-use mathlib.Core.Bool.{Bool, true, cond, _&&_}
+use mathlib.Core.Bool.{Bool, true, not, cond, _&&_}
 use mathlib.Core.List.{List}
 use mathlib.Core.Path.{_≡_}
-use lib.Dec.{leb}
+use lib.Dec.{leb, eqb}
 use lib.ListN.{length}
 use Rattle.settings.specs.declared.Settings.{Settings}
 use Rattle.settings.specs.Settings.{admits}
@@ -26,7 +26,7 @@ pub data CheckAnswer : Type 0 where
   accepted : CheckAnswer
   refused : ℕ → ℕ → CheckAnswer
 
--- What each answer of the function returns, but for its letter; and that a letter is one that the bundle breaks.
+-- What each answer of the function returns, but for its letter; and that refusal 9 comes with a letter, which the bundle breaks.
 abbrev pub returned : Checked → CheckAnswer
 returned enum.Accepted = accepted
 returned (enum.Refused n a) = refused n a
@@ -34,7 +34,7 @@ returned (enum.Broken a r) = refused 9 a
 
 abbrev pub letterBroken : Marking → List ℕ → Checked → Bool
 letterBroken m code enum.Accepted = true
-letterBroken m code (enum.Refused n a) = true
+letterBroken m code (enum.Refused n a) = not (eqb n 9)
 letterBroken m code (enum.Broken a r) = breaks m (bundleAt code a) r
 
 -- The bundles from address a on, `most` at most: the first that fails gives 2, 3 or 9, in that order.

@@ -8,7 +8,7 @@ use lib.Signed.{ltZ, leZ, shrZ}
 use mir.Syntax.{w32, w64}
 use mir.Val.{ofZ}
 
--- Arithmetic modulo 2^32: the sum, and the number that b is to be added to to give a.
+-- Arithmetic modulo 2^32: the sum, and the number that gives a if b is added.
 abbrev pub add : ℕ → ℕ → ℕ
 add a b = (a + b) % 2 ^ 32
 

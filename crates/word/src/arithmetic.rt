@@ -26,7 +26,7 @@ pub fn product(a: u32, b: u32) -> u64
     (a as u64) * (b as u64)
 }
 
-// The double word that is the number z in two's complement. No cast takes a negative z, and its complement it takes.
+// The double word that is the number z in two's complement. A negative z cannot be cast, but its complement can.
 fn unsigned_64(z: i64) -> u64
     ensures { λ r. ⌜ r ≡ ofZ w64 z ⌝ }
 {

@@ -26,7 +26,7 @@ pub fn signed(a: u32) -> i32
     reading(a, 0x8000_0000)
 }
 
-// The word that is the number z in two's complement. No cast takes a negative z, and its complement it takes.
+// The word that is the number z in two's complement. A negative z cannot be cast, but its complement can.
 pub fn unsigned(z: i32) -> u32
     ensures { λ r. ⌜ r ≡ ofZ w32 z ⌝ }
 {

@@ -95,8 +95,8 @@ loop-again c = let l = c .before .before .before .before .before .before .before
 readiness-requires : tie.Need-readiness-requires Inv-loop μ-loop
 readiness-requires c κs = tt
 
-standing-requires : tie.Need-standing-requires Inv-loop μ-loop
-standing-requires c κs = tt
+at-budget-end-requires : tie.Need-at-budget-end-requires Inv-loop μ-loop
+at-budget-end-requires c κs = tt
 
 stop-requires-3 : tie.Need-stop-requires-3 Inv-loop μ-loop
 stop-requires-3 c κs = tt
@@ -112,7 +112,7 @@ same-length-9 c = c .before .before .before .before .before .before .loop .inv .
 
 returns-3 : tie.Need-returns-3 Inv-loop μ-loop
 returns-3 c = let l = c .before .before .before .before .before .before .loop in
-    c .stop3 .ensures _ _ _ ∙ turn-spent _ _ _ _ _ (l .counts) (l .left) (c .before .standing .result) _ (c .before .before .readiness .ensures) (c .before .standing .ensures) (omega (arith, c .before .before .before .before .before .loop-test .left)) ∙ l .inv .5
+    c .stop3 .ensures _ _ _ ∙ turn-spent _ _ _ _ _ (l .counts) (l .left) (c .before .at-budget-end .result) _ (c .before .before .readiness .ensures) (c .before .at-budget-end .ensures) (omega (arith, c .before .before .before .before .before .loop-test .left)) ∙ l .inv .5
 
 pub bundles-spec : {M : Type 1} → statement M
 bundles-spec =
@@ -141,7 +141,7 @@ bundles-spec =
     loop-less
     loop-again
     readiness-requires
-    standing-requires
+    at-budget-end-requires
     stop-requires-3
     same-length-7
     same-length-8

@@ -23,8 +23,8 @@ number-line-requires c κs = tt
 enum-told-3 : tie.Need-enum-told-3
 enum-told-3 c = c .match .keys4
 
-three-line-requires : tie.Need-three-line-requires
-three-line-requires c κs = tt
+three-numbers-requires : tie.Need-three-numbers-requires
+three-numbers-requires c κs = tt
 
 enum-told-4 : tie.Need-enum-told-4
 enum-told-4 c = c .match .keys5
@@ -85,7 +85,7 @@ returns-3 c = rw (c .before .before .k .given .1) (c .number-line .ensures)
 
 returns-4 : tie.Need-returns-4
 unfolding lineAfter
-returns-4 c = rw (c .before .enum-told3 .given .1) (c .three-line .ensures)
+returns-4 c = rw (c .before .enum-told3 .given .1) (c .three-numbers .ensures)
 
 returns-5 : tie.Need-returns-5
 unfolding lineAfter
@@ -130,7 +130,7 @@ after-keyword-spec =
     enum-known-k
     number-line-requires
     enum-told-3
-    three-line-requires
+    three-numbers-requires
     enum-told-4
     list-line-requires-2
     enum-known-k-2

@@ -25,35 +25,35 @@ transfer-kind-requires c κs = tt
 enum-told : tie.Need-enum-told
 enum-told c = c .match .keys1
 
-two-line-requires : tie.Need-two-line-requires
-two-line-requires c κs = tt
+two-numbers-requires : tie.Need-two-numbers-requires
+two-numbers-requires c κs = tt
 
 enum-told-2 : tie.Need-enum-told-2
 enum-told-2 c = c .match .keys2
 
-two-line-requires-2 : tie.Need-two-line-requires-2
-two-line-requires-2 c κs = tt
+two-numbers-requires-2 : tie.Need-two-numbers-requires-2
+two-numbers-requires-2 c κs = tt
 
 enum-told-3 : tie.Need-enum-told-3
 enum-told-3 c = c .match .keys3
 
-three-line-requires : tie.Need-three-line-requires
-three-line-requires c κs = tt
+three-numbers-requires : tie.Need-three-numbers-requires
+three-numbers-requires c κs = tt
 
 enum-told-4 : tie.Need-enum-told-4
 enum-told-4 c = c .match .keys4
 
 returns-2 : tie.Need-returns-2
 unfolding transfer lineAfter
-returns-2 c = rw (← c .before .before .before .before .before .before .next-field .ensures .0, ne-eqb _ _ (c .before .before .before .before .before .if1 .left), ← c .before .before .before .transfer-kind .ensures, c .before .enum-told .given .1) (c .two-line .ensures)
+returns-2 c = rw (← c .before .before .before .before .before .before .next-field .ensures .0, ne-eqb _ _ (c .before .before .before .before .before .if1 .left), ← c .before .before .before .transfer-kind .ensures, c .before .enum-told .given .1) (c .two-numbers .ensures)
 
 returns-3 : tie.Need-returns-3
 unfolding transfer lineAfter
-returns-3 c = rw (← c .before .before .before .before .before .before .next-field .ensures .0, ne-eqb _ _ (c .before .before .before .before .before .if1 .left), ← c .before .before .before .transfer-kind .ensures, c .before .enum-told2 .given .1) (c .two-line2 .ensures)
+returns-3 c = rw (← c .before .before .before .before .before .before .next-field .ensures .0, ne-eqb _ _ (c .before .before .before .before .before .if1 .left), ← c .before .before .before .transfer-kind .ensures, c .before .enum-told2 .given .1) (c .two-numbers2 .ensures)
 
 returns-4 : tie.Need-returns-4
 unfolding transfer lineAfter
-returns-4 c = rw (← c .before .before .before .before .before .before .next-field .ensures .0, ne-eqb _ _ (c .before .before .before .before .before .if1 .left), ← c .before .before .before .transfer-kind .ensures, c .before .enum-told3 .given .1) (c .three-line .ensures)
+returns-4 c = rw (← c .before .before .before .before .before .before .next-field .ensures .0, ne-eqb _ _ (c .before .before .before .before .before .if1 .left), ← c .before .before .before .transfer-kind .ensures, c .before .enum-told3 .given .1) (c .three-numbers .ensures)
 
 returns-5 : tie.Need-returns-5
 unfolding transfer lineAfter
@@ -70,11 +70,11 @@ transfer-line-spec =
     part-transfer-kind-end
     transfer-kind-requires
     enum-told
-    two-line-requires
+    two-numbers-requires
     enum-told-2
-    two-line-requires-2
+    two-numbers-requires-2
     enum-told-3
-    three-line-requires
+    three-numbers-requires
     enum-told-4
     returns-2
     returns-3

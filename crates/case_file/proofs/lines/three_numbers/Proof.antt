@@ -1,5 +1,5 @@
-use Rattle.case_file.proofs.lines.three_line.Statement.{statement}
-use Rattle.case_file.proofs.lines.three_line.Tie as tie
+use Rattle.case_file.proofs.lines.three_numbers.Statement.{statement}
+use Rattle.case_file.proofs.lines.three_numbers.Tie as tie
 
 number-at-requires : tie.Need-number-at-requires
 number-at-requires c κs = tt
@@ -46,8 +46,8 @@ returns-3 c = rw (← c .before .before .before .before .before .before .before 
 returns-4 : tie.Need-returns-4
 returns-4 c = rw (← c .before .before .before .before .before .before .before .before .before .before .before .before .before .number-at .ensures, c .before .before .before .before .before .before .before .before .before .before .before .a .given .1, ← c .before .before .before .before .before .before .before .before .before .number-at2 .ensures, c .before .before .before .before .before .before .before .b .given .1, ← c .before .before .before .before .before .number-at3 .ensures, c .before .before .before .c .given .1, ← c .before .of-three .ensures) (c .whole .ensures)
 
-pub three-line-spec : {M : Type 1} → statement M
-three-line-spec =
+pub three-numbers-spec : {M : Type 1} → statement M
+three-numbers-spec =
     tie.close
     (tie.spec
     number-at-requires

@@ -1,5 +1,5 @@
-use Rattle.run.proofs.standing.Statement.{statement}
-use Rattle.run.proofs.standing.Tie as tie
+use Rattle.run.proofs.at_budget_end.Statement.{statement}
+use Rattle.run.proofs.at_budget_end.Tie as tie
 
 enum-known-r : tie.Need-enum-known-r
 enum-known-r c = c .match .keys1
@@ -19,5 +19,5 @@ returns-2 c = λ s b. rw (c .enum-told .given .1)
 returns-3 : tie.Need-returns-3
 returns-3 c = λ s b. rw (c .enum-told2 .given .1)
 
-pub standing-spec : {M : Type 1} → statement M
-standing-spec = tie.close (tie.spec enum-known-r enum-told enum-told-2 returns returns-2 returns-3)
+pub at-budget-end-spec : {M : Type 1} → statement M
+at-budget-end-spec = tie.close (tie.spec enum-known-r enum-told enum-told-2 returns returns-2 returns-3)

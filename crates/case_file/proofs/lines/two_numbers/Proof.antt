@@ -1,5 +1,5 @@
-use Rattle.case_file.proofs.lines.two_line.Statement.{statement}
-use Rattle.case_file.proofs.lines.two_line.Tie as tie
+use Rattle.case_file.proofs.lines.two_numbers.Statement.{statement}
+use Rattle.case_file.proofs.lines.two_numbers.Tie as tie
 
 number-at-requires : tie.Need-number-at-requires
 number-at-requires c κs = tt
@@ -34,8 +34,8 @@ returns-2 c = rw (← c .before .before .before .before .before .before .before 
 returns-3 : tie.Need-returns-3
 returns-3 c = rw (← c .before .before .before .before .before .before .before .before .before .number-at .ensures, c .before .before .before .before .before .before .before .target .given .1, ← c .before .before .before .before .before .number-at2 .ensures, c .before .before .before .wait .given .1, ← c .before .br-or-call .ensures) (c .whole .ensures)
 
-pub two-line-spec : {M : Type 1} → statement M
-two-line-spec =
+pub two-numbers-spec : {M : Type 1} → statement M
+two-numbers-spec =
     tie.close
     (tie.spec
     number-at-requires
