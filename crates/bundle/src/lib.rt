@@ -1,7 +1,7 @@
 // One bundle done or refused. The state is by value, and its registers and predicates are lent.
 mod execute;
 mod fetch;
-mod outcome;
+pub mod outcome;
 mod slot_one;
 mod stack_moves;
 pub mod step;

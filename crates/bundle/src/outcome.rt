@@ -4,11 +4,23 @@ ghost use mathlib.Core.Bool.{Bool};
 ghost use mathlib.Core.List.{List};
 ghost use Prim.Native.Nat.{ℕ};
 ghost use Rattle.state.specs.Core.{joined};
+ghost use Rattle.bundle_rules.specs.Bundle.{noCounts};
 ghost use Rattle.bundle_rules.specs.Execute.{steppedAs, refusedWith, endedWith, doneWith};
 use bundle_rules::Advanced;
 use bundle_rules::Answer;
 use bundle_rules::Counts;
 use state::Core;
+
+pub fn no_counts() -> Counts
+    ensures { λ r. ⌜ r ≡ noCounts ⌝ }
+{
+    Counts {
+        bundles: 0,
+        cycles: 0,
+        spilled: 0,
+        filled: 0,
+    }
+}
 
 // A refused bundle changes nothing and counts nothing.
 pub(crate) fn refused(core: Core, n: u32) -> Advanced
@@ -17,12 +29,7 @@ pub(crate) fn refused(core: Core, n: u32) -> Advanced
     Advanced {
         answer: Answer::Refused(n),
         core,
-        counts: Counts {
-            bundles: 0,
-            cycles: 0,
-            spilled: 0,
-            filled: 0,
-        },
+        counts: no_counts(),
     }
 }
 
@@ -33,12 +40,7 @@ pub(crate) fn ended(core: Core) -> Advanced
     Advanced {
         answer: Answer::Ended,
         core,
-        counts: Counts {
-            bundles: 0,
-            cycles: 0,
-            spilled: 0,
-            filled: 0,
-        },
+        counts: no_counts(),
     }
 }
 

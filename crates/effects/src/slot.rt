@@ -1,6 +1,8 @@
 // What the slots of a bundle do: their operations read in the state at the start of the bundle.
 ghost use mathlib.Core.Path.{_≡_};
 ghost use Rattle.effects.specs.Effect.{start, accessAddress, address, amountWords, amountAligned, stackEffect, transferOf, effectOf, slotOneEffect, slotTwo, effectsOf};
+ghost use mathlib.Core.Bool.{Bool};
+ghost use mathlib.Core.List.{List};
 ghost use Prim.Native.Nat.{ℕ};
 ghost use Rattle.decoder.specs.Decode.{decode};
 ghost use Rattle.effects.specs.EffectLaws.{firstOf};
@@ -87,14 +89,8 @@ fn stack_effect(registers: &[u32], o: StackOperation) -> Effect
 }
 
 // Where a transfer of this bundle goes.
-fn transfer_of(
-    registers: &[u32],
-    predicates: [bool; 8],
-    specials: Specials,
-    fetch: u32,
-    t: Target,
-) -> Transfer
-    ensures { λ x. ⌜ x ≡ transferOf (start (now (registers .entry)) predicates specials fetch) t ⌝ }
+fn transfer_of(registers: &[u32], specials: Specials, fetch: u32, t: Target) -> Transfer
+    ensures { λ x. ⌜ ((ps : List Bool) → x ≡ transferOf (start (now (registers .entry)) ps specials fetch) t) ⌝ }
 {
     match t {
         Target::Call(n) => Transfer::Call {
@@ -193,7 +189,7 @@ fn effect(
         Operation::StackControl(operation) => stack_effect(registers, operation),
         Operation::Transfer { delayed, target } => Effect::Transfer {
             delayed,
-            transfer: transfer_of(registers, predicates, specials, fetch, target),
+            transfer: transfer_of(registers, specials, fetch, target),
         },
         Operation::Trap(_) => Effect::Exception,
         Operation::Xret { delayed: _ } => Effect::Exception,

@@ -15,7 +15,8 @@ use Rattle.state.specs.State.{State, Shaped, noneWaits, wellFormed, ended as ha
 use Rattle.bundle_rules.specs.declared.Counts.{Counts}
 use Rattle.bundle_rules.specs.Bundle.{Outcome, outcome, noCounts, lent, bundleAt, bundle}
 use Rattle.machine_laws.specs.StepCases.{isDone}
-use Rattle.machine_laws.specs.KeptLaws.{well-formed-parts, bundle-shaped}
+use Rattle.machine_laws.specs.KeptLaws.{bundle-shaped}
+use Rattle.machine_laws.specs.WellFormedLaws.{well-formed-parts}
 use Rattle.machine_laws.specs.StackKept.{bundle-lengths}
 use Rattle.run_rules.specs.Run.{plus, counted, run, Tried, triedAt, tries}
 use Rattle.marking.specs.declared.Marking.{Marking}

@@ -26,7 +26,7 @@ use Rattle.alu_effects.specs.AluEffects.{holds}
 use Rattle.state.specs.State.{State, startOf, loadOk, wellFormed}
 use Rattle.bundle_rules.specs.Bundle.{bundle}
 use Rattle.machine_laws.specs.StepCases.{effectAt, bundle-cases}
-use Rattle.machine_laws.specs.KeptLaws.{loadBegun, well-formed-parts, well-formed-whole, written-well-formed}
+use Rattle.machine_laws.specs.WellFormedLaws.{loadBegun, well-formed-parts, well-formed-whole, written-well-formed}
 
 module _ (b : Buffers) (s : Start) where
   operation-ok : (o : Operation) → OperationInRange o → loadOk (loadBegun b (effectOf s o)) ≡ true

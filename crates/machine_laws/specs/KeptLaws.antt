@@ -1,28 +1,17 @@
--- What a bundle writes keeps a state well formed.
-use Prim.Native.Nat.{ℕ, zero, suc, _+_, _-_, _/_, _<_}
-use mathlib.Core.Bool.{Bool, true, false, cond, _&&_}
+-- What a bundle writes: by cases, and what it keeps of the registers and the predicates.
+use Prim.Native.Nat.{ℕ, zero, suc, _-_, _/_}
+use mathlib.Core.Bool.{Bool, true, false, cond}
 use mathlib.Core.List.{List, _∷_}
-use mathlib.Core.Path.{_≡_, refl, ap, _∙_}
+use mathlib.Core.Path.{_≡_, refl, _∙_}
 use native.Mathlib.Omega.{arith}
-use borrow.Author.Tests.{leb-true, leb-false, le-leb, eq-eqb, eqb-true}
-use lib.Dec.{eqb, leb, eqb·suc-zero}
-use lib.ListN.{length, getD, set, length-set}
-use lib.Seq.{getD-set-other}
-use Rattle.big_endian.specs.Bytes.{wordAt}
-use Rattle.big_endian.specs.BytesLaws.{number-bound}
+use borrow.Author.Tests.{leb-true, leb-false, le-leb}
+use lib.Dec.{leb, eqb·suc-zero}
+use lib.ListN.{length, set, length-set}
 use Rattle.isa.specs.declared.Special.{Special}
 use Rattle.isa.specs.declared.Special.the-variants.{S0, Sl, Sh, Ss, St, Srb, Sro, Sxb, Sxo}
-use Rattle.isa.specs.declared.Operation.{Operation}
-use Rattle.isa.specs.declared.Operation.the-variants as operation
-use Rattle.isa.specs.declared.Instruction.{Instruction}
-use Rattle.isa.specs.declared.StackOperation.the-variants.{Sres, Sens, Sfree, Sspill}
-use Rattle.isa.specs.declared.Bundle.{Bundle}
-use Rattle.isa.specs.declared.Bundle.the-variants.{Undecodable, One, Two, Long}
-use Rattle.decoder_laws.specs.Ranges.{OperationInRange, InstructionInRange, InRange}
-use Rattle.decoder_laws.specs.RangeLaws.{decode-in-range}
-use Rattle.stack_cache.specs.RangeLaws.{and-left, and-right}
+use Rattle.stack_cache.specs.RangeLaws.{and-right}
 use Rattle.settings.specs.declared.Settings.{Settings}
-use Rattle.state.specs.State.{State, Shaped, startOf, state, withRegister, withPredicate, withPredicates, withSpecial, withSpecials, predicatesOf, withFlow, goingOn, landing, landed, transferred, loadOk, waitOk, wellFormed}
+use Rattle.state.specs.State.{State, Shaped, state, withRegister, withPredicate, withPredicates, withSpecial, withSpecials, predicatesOf, withFlow, goingOn, landing, landed, transferred, waitOk}
 use Rattle.effects.specs.declared.Transfer.{Transfer}
 use Rattle.effects.specs.declared.Transfer.the-variants.{Br, Call, Block}
 use Rattle.state.specs.declared.WaitingTransfer.{WaitingTransfer}
@@ -33,13 +22,11 @@ use Rattle.alu_effects.specs.declared.AluEffect.{AluEffect}
 use Rattle.alu_effects.specs.declared.AluEffect.the-variants as alu
 use Rattle.effects.specs.declared.Effect.{Effect}
 use Rattle.effects.specs.declared.Effect.the-variants as effect
-use Rattle.memory.specs.Access.{Buffers, loadedValue}
+use Rattle.memory.specs.Access.{Buffers}
 use Rattle.alu_effects.specs.declared.Specials.{Specials}
-use Rattle.effects.specs.Effect.{Start, slotOne, slotOneEffect, effectOf, stackEffect}
-use Rattle.alu_effects.specs.AluEffects.{holds}
 use Rattle.state.specs.Writes.{writeAlu, delaySlots, nearer, begun}
-use Rattle.bundle_rules.specs.Bundle.{writeOne, onward, written, bundleAt, bundle, lent, step}
-use Rattle.machine_laws.specs.StepCases.{effectAt, stateAfter, bundle-cases, step-cases}
+use Rattle.bundle_rules.specs.Bundle.{writeOne, onward, written, bundle, lent, step}
+use Rattle.machine_laws.specs.StepCases.{bundle-cases, step-cases}
 
 -- A special register written changes special registers alone, and s0 the predicates alone.
 pub withSpecial-cases : (P : State → Type 0) (s : State) (d : Special) (v : ℕ) → P (withPredicates s (true ∷ predicatesOf 7 (v / 2)))
@@ -165,143 +152,6 @@ pub written-shaped : (g : Settings) (b : Buffers) (s : State) (one : Effect) (tw
 written-shaped g b s one two following h =
     let t = written-lasts (λ l. length l ≡ 32) (λ l. length l ≡ 8) lengths-last g b s one two following (h .registers, h .predicates) in
     record { registers = t .0; predicates = t .1 }
-
--- The parts of a well-formed state.
-pub record WellFormed (s : State) : Type 0 where
-  pub zero-register : getD (s .registers) 0 0 ≡ 0
-  pub true-predicate : getD (s .predicates) 0 false ≡ true
-  pub load : loadOk (s .load) ≡ true
-  pub transfer : waitOk (s .transfer) ≡ true
-
--- A well-formed state has them.
-pub well-formed-parts : (s : State) → wellFormed s ≡ true → WellFormed s
-unfolding wellFormed
-well-formed-parts s e =
-    let r = eqb (getD (s .registers) 0 0) 0 in
-    let p = getD (s .predicates) 0 false in
-    let l = loadOk (s .load) in
-    let w = waitOk (s .transfer) in
-    let x = and-left (r && p) (l && w) e in
-    let y = and-right (r && p) (l && w) e in
-    record { zero-register = eqb-true _ _ (and-left r p x); true-predicate = and-right r p x; load = and-left l w y; transfer = and-right l w y }
-
--- A state that has them is well formed.
-pub well-formed-whole : (s : State) → WellFormed s → wellFormed s ≡ true
-unfolding wellFormed
-well-formed-whole s h = rw (eq-eqb _ _ (h .zero-register), h .true-predicate, h .load, h .transfer)
-
--- The load that slot one begins.
-abbrev pub loadBegun : Buffers → Effect → WaitingLoad
-loadBegun b (effect.Alu a) = load.Nothing
-loadBegun b (effect.Special d v) = load.Nothing
-loadBegun b (effect.Product x y) = load.Nothing
-loadBegun b (effect.Load k w r a) = load.Waits r (loadedValue b k w a)
-loadBegun b (effect.Store k w a v) = load.Nothing
-loadBegun b (effect.Stack c n m) = load.Nothing
-loadBegun b (effect.Transfer d t) = load.Nothing
-loadBegun b effect.Exception = load.Nothing
-
--- A load that has landed waits no more.
-landed-load : (s : State) → landed s .load ≡ load.Nothing
-unfolding landed
-landed-load s = go (s .load) refl
-  where
-    go : (l : WaitingLoad) → s .load ≡ l → landing l s .load ≡ load.Nothing
-    go load.Nothing e = e
-    go (load.Waits r v) e = refl
-
--- Slot one leaves the load that it begins.
-writeOne-load : (g : Settings) (b : Buffers) (from : State) (e : Effect) (onto : State) → onto .load ≡ load.Nothing → writeOne g b from e onto .load ≡ loadBegun b e
-unfolding writeOne
-writeOne-load g b from (effect.Alu a) onto h = writeAlu-cases (λ s. s .load ≡ load.Nothing) a onto (λ rs ps. h)
-writeOne-load g b from (effect.Special d v) onto h = withSpecial-cases (λ s. s .load ≡ load.Nothing) onto d v h (λ x. h)
-writeOne-load g b from (effect.Product x y) onto h = h
-writeOne-load g b from (effect.Load j w r a) onto h = refl
-writeOne-load g b from (effect.Store j w a v) onto h = h
-writeOne-load g b from (effect.Stack c n m) onto h = h
-writeOne-load g b from (effect.Transfer d t) onto h = h
-writeOne-load g b from effect.Exception onto h = h
-
--- The load that waits after a bundle is the one that slot one began.
-pub written-load : (g : Settings) (b : Buffers) (s : State) (one : Effect) (two : AluEffect) (following : ℕ) → written g b s one two following .load ≡ loadBegun b one
-unfolding written
-written-load g b s one two following =
-    let t = writeOne-load g b s one (landed s) (landed-load s) in
-    onward-cases (λ x. x .load ≡ loadBegun b one) following _ one (s .transfer) (λ srb sro fetch base w q. writeAlu-cases (λ x. x .load ≡ loadBegun b one) two _ (λ rs ps. t))
-
--- r0 stays zero and p0 true.
-firsts-last : Lasting (λ l. getD l 0 0 ≡ 0) (λ l. getD l 0 false ≡ true)
-firsts-last =
-    record {
-      registers = λ l r v e. getD-set-other l (suc r) 0 v 0 (λ z. omega arith) ∙ e;
-      predicates = λ l i v e. getD-set-other l (suc i) 0 v false (λ z. omega arith) ∙ e;
-      word = λ v. refl;
-    }
-
--- What is written onto a well-formed state is well formed, if the register of a load that slot one begins is below 32.
-pub written-well-formed : (g : Settings) (b : Buffers) (s : State) (one : Effect) (two : AluEffect) (following : ℕ) → loadOk (loadBegun b one) ≡ true
-    → WellFormed s → WellFormed (written g b s one two following)
-unfolding written
-written-well-formed g b s one two following p h =
-    let t = written-lasts (λ l. getD l 0 0 ≡ 0) (λ l. getD l 0 false ≡ true) firsts-last g b s one two following (h .zero-register, h .true-predicate) in
-    record {
-      zero-register = t .0;
-      true-predicate = t .1;
-      load = ap loadOk (written-load g b s one two following) ∙ p;
-      transfer = onward-cases (λ x. waitOk (x .transfer) ≡ true) following _ one (s .transfer) (λ srb sro fetch base w q. q (h .transfer));
-    }
-
--- A bundle in the decoder's ranges begins no load to a register above 31.
-module _ (b : Buffers) (s : Start) where
-  operation-load-ok : (o : Operation) → OperationInRange o → loadOk (loadBegun b (effectOf s o)) ≡ true
-  unfolding effectOf stackEffect
-  operation-load-ok (operation.Alu o) p = refl
-  operation-load-ok (operation.Multiply f x y) p = refl
-  operation-load-ok (operation.Mts d r) p = refl
-  operation-load-ok (operation.Mfs r d) p = refl
-  operation-load-ok (operation.Load k w rd ra o) p = le-leb rd 31 (omega (arith, p .0))
-  operation-load-ok (operation.Store k w ra rs o) p = refl
-  operation-load-ok (operation.StackControl (Sres n)) p = refl
-  operation-load-ok (operation.StackControl (Sens a)) p = refl
-  operation-load-ok (operation.StackControl (Sfree n)) p = refl
-  operation-load-ok (operation.StackControl (Sspill a)) p = refl
-  operation-load-ok (operation.Transfer d t) p = refl
-  operation-load-ok (operation.Trap n) p = refl
-  operation-load-ok (operation.Xret d) p = refl
-
-  instruction-load-ok : (i : Instruction) → InstructionInRange i → loadOk (loadBegun b (slotOneEffect s i)) ≡ true
-  unfolding slotOneEffect
-  instruction-load-ok i p = go (holds (s .predicates) (i .guard))
-    where
-      go : (t : Bool) → loadOk (loadBegun b (cond t (effectOf s (i .operation)) (effect.Alu alu.Nothing))) ≡ true
-      go true = operation-load-ok (i .operation) (p .1)
-      go false = refl
-
-  pub bundle-load-ok : (i : Bundle) → InRange i → loadOk (loadBegun b (slotOne s i)) ≡ true
-  bundle-load-ok Undecodable p = refl
-  bundle-load-ok (One i) p = instruction-load-ok i p
-  bundle-load-ok (Two i j) p = instruction-load-ok i (p .0)
-  bundle-load-ok (Long i) p = instruction-load-ok i p
-
--- What is decoded from code made of bytes is in range.
-pub bundle-in-range : (code : List ℕ) (a : ℕ) → ((i : ℕ) → getD code i 0 < 256) → InRange (bundleAt code a)
-bundle-in-range code a h = decode-in-range (wordAt code a) (wordAt code (a + 4)) (number-bound 4 code (a + 4) h)
-
--- A bundle done, of code made of bytes, keeps a state well formed.
-after-well-formed : (g : Settings) (code : List ℕ) (s : State) (b : Buffers) → ((i : ℕ) → getD code i 0 < 256) → wellFormed s ≡ true → wellFormed (stateAfter g code s b) ≡ true
-after-well-formed g code s b bytes h =
-    well-formed-whole _ (written-well-formed g b s (effectAt code s) _ _ (bundle-load-ok b (startOf s) (bundleAt code (s .fetch)) (bundle-in-range code (s .fetch) bytes)) (well-formed-parts s h))
-
--- So does every bundle, whatever it answers.
-pub bundle-well-formed : (g : Settings) (code : List ℕ) (s : State) (b : Buffers) → ((i : ℕ) → getD code i 0 < 256) → wellFormed s ≡ true
-    → wellFormed (bundle g code s b .state) ≡ true
-bundle-well-formed g code s b bytes h = bundle-cases g code s b (λ o. wellFormed (o .state) ≡ true) (λ n j. h) (λ j. after-well-formed g code s b bytes h)
-
--- So does every step.
-pub step-well-formed : (code : List ℕ) (lo hi : ℕ) (s : State) (b : Buffers) → ((i : ℕ) → getD code i 0 < 256) → wellFormed s ≡ true
-    → wellFormed (step code lo hi s b .state) ≡ true
-step-well-formed code lo hi s b bytes h =
-    step-cases code lo hi s b (λ o. wellFormed (o .state) ≡ true) (λ a p. h) (λ p j. after-well-formed (lent code lo hi b) code s b bytes h)
 
 -- A bundle keeps the lengths of the lists of registers and predicates.
 pub bundle-shaped : (g : Settings) (code : List ℕ) (s : State) (b : Buffers) → Shaped s → Shaped (bundle g code s b .state)

@@ -1,4 +1,5 @@
 pub mod StepCases
 pub mod KeptLaws
+pub mod WellFormedLaws
 pub mod StackKept
 pub mod CountLaws

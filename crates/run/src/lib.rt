@@ -11,6 +11,7 @@ ghost use Rattle.settings.specs.Answer.{spent};
 ghost use Rattle.state.specs.State.{State as MachineState};
 ghost use Rattle.run_rules.specs.Run.{plus, run};
 ghost use Rattle.run.specs.Ran.{returned, whole, wholeOf};
+use bundle::outcome::no_counts;
 use bundle::step::readiness;
 use bundle::step::step;
 use bundle_rules::Answer;
@@ -53,18 +54,6 @@ fn sum(c: Counts, d: Counts) -> Counts
     }
 }
 
-// No bundle is done yet.
-fn none() -> Counts
-    ensures { λ r. ⌜ r ≡ noCounts ⌝ }
-{
-    Counts {
-        bundles: 0,
-        cycles: 0,
-        spilled: 0,
-        filled: 0,
-    }
-}
-
 // What a run answers whose budget is used up.
 fn at_budget_end(r: Readiness) -> RunAnswer
     ensures { λ x. ⌜ ((s : MachineState) (b : Buffers) → outcome (returned x) s noCounts b ≡ readyOr r s b (outcome spent s noCounts b)) ⌝ }
@@ -102,7 +91,7 @@ fn bundles(
     ensures { λ r. ⌜ wholeOf (now (registers .exit)) (now (predicates .exit)) r (buffers (now (main .exit)) (now (local .exit)) (now (cache .exit))) ≡ run (now (code .entry)) lo hi budget (joined (now (registers .entry)) (now (predicates .entry)) start) (buffers (now (main .entry)) (now (local .entry)) (now (cache .entry))) ⌝ }
 {
     let mut core = start;
-    let mut counts = none();
+    let mut counts = no_counts();
     let mut left = budget;
     while 0 < left {
         let r = step(

@@ -21,11 +21,11 @@ Inv-loop registers₀ predicates₀ code main₀ local₀ cache₀ lo hi budget 
 abbrev μ-loop : tie.MeasureT-loop
 μ-loop registers₀ predicates₀ code main₀ local₀ cache₀ lo hi budget core₀ counts₀ left₀ registers predicates main local cache core counts left = left
 
-none-requires : tie.Need-none-requires Inv-loop μ-loop
-none-requires c κs = tt
+no-counts-requires : tie.Need-no-counts-requires Inv-loop μ-loop
+no-counts-requires c κs = tt
 
 loop-holds : tie.Need-loop-holds Inv-loop μ-loop
-loop-holds c = (search needs, rw (c .none .ensures) (few-none _), refl, refl, refl, rw (c .none .ensures) (counted-none _))
+loop-holds c = (search needs, rw (c .no-counts .ensures) (few-none _), refl, refl, refl, rw (c .no-counts .ensures) (counted-none _))
 
 step-requires : tie.Need-step-requires Inv-loop μ-loop
 step-requires c κs = tt
@@ -120,7 +120,7 @@ bundles-spec =
     (tie.spec
     Inv-loop
     μ-loop
-    none-requires
+    no-counts-requires
     loop-holds
     step-requires
     enum-known-answer

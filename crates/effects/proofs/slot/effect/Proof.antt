@@ -111,7 +111,7 @@ returns-7 c = rw (c .before .before .o7 .given .1, ← c .stack-effect .ensures)
 
 returns-8 : tie.Need-returns-8
 unfolding effectOf
-returns-8 c = rw (c .before .before .o8 .given .1, ← c .transfer-of .ensures)
+returns-8 c = rw (c .before .before .o8 .given .1, ← c .transfer-of .ensures _)
 
 returns-9 : tie.Need-returns-9
 unfolding effectOf
