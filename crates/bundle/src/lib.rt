@@ -5,4 +5,3 @@ pub mod outcome;
 mod slot_one;
 mod stack_moves;
 pub mod step;
-mod writes;

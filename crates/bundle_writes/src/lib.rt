@@ -65,7 +65,7 @@ fn onward(core: Core, one: Effect, waiting: TransferWords, following: u32) -> Co
 }
 
 // The order of the writes: the load that waited, slot one, slot two, and a transfer that falls due.
-pub(crate) fn write(
+pub fn write(
     core: Core,
     registers: &mut [u32; 32],
     predicates: &mut [bool; 8],
@@ -99,7 +99,7 @@ fn transfer_cycles(delayed: bool, t: Transfer) -> u64
     }
 }
 
-pub(crate) fn cycles(one: Effect) -> u64
+pub fn cycles(one: Effect) -> u64
     ensures { λ r. ⌜ r ≡ cyclesOf one ⌝ }
 {
     match one {

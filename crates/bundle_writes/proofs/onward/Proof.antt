@@ -12,8 +12,8 @@ use Rattle.state.specs.State.{State}
 use Rattle.state.specs.Writes.{nearer}
 use Rattle.bundle_rules.specs.Bundle.{onward}
 use borrow.Author.Needs.{needs}
-use Rattle.bundle.proofs.writes.onward.Statement.{statement}
-use Rattle.bundle.proofs.writes.onward.Tie as tie
+use Rattle.bundle_writes.proofs.onward.Statement.{statement}
+use Rattle.bundle_writes.proofs.onward.Tie as tie
 
 -- The effects that are not told apart by name.
 abbrev others : List ℕ

@@ -8,8 +8,8 @@ use Rattle.effects.specs.declared.Effect.the-variants.{Alu, Special, Product, L
 use Rattle.effects.proofs.Effect.{the-type}
 use Rattle.bundle_rules.specs.Bundle.{cyclesOf}
 use borrow.Author.Needs.{needs}
-use Rattle.bundle.proofs.writes.cycles.Statement.{statement}
-use Rattle.bundle.proofs.writes.cycles.Tie as tie
+use Rattle.bundle_writes.proofs.cycles.Statement.{statement}
+use Rattle.bundle_writes.proofs.cycles.Tie as tie
 
 -- The effects that are not told apart by name.
 abbrev others : List ℕ

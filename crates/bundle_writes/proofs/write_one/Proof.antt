@@ -10,8 +10,8 @@ use Rattle.state.specs.State.{State}
 use Rattle.state.specs.Core.{waitingLoad}
 use Rattle.bundle_rules.specs.Execute.{writeDone}
 use borrow.Author.Needs.{needs}
-use Rattle.bundle.proofs.writes.write_one.Statement.{statement}
-use Rattle.bundle.proofs.writes.write_one.Tie as tie
+use Rattle.bundle_writes.proofs.write_one.Statement.{statement}
+use Rattle.bundle_writes.proofs.write_one.Tie as tie
 
 -- The effects that are not told apart by name.
 abbrev others : List ℕ

@@ -5,8 +5,8 @@ use Rattle.state.specs.Core.{waitingTransfer}
 use Rattle.bundle_rules.specs.Bundle.{onward}
 use Rattle.bundle_rules.specs.Execute.{writeDone}
 use borrow.Author.Needs.{needs}
-use Rattle.bundle.proofs.writes.write.Statement.{statement}
-use Rattle.bundle.proofs.writes.write.Tie as tie
+use Rattle.bundle_writes.proofs.write.Statement.{statement}
+use Rattle.bundle_writes.proofs.write.Tie as tie
 
 land-load-requires : tie.Need-land-load-requires
 land-load-requires c κs = tt
