@@ -15,7 +15,7 @@ use Rattle.isa.specs.declared.AccessKind.the-variants.{Stack, Local, Cached, Ma
 use Rattle.stack_cache.specs.declared.StackControl.{StackControl}
 use Rattle.stack_cache.specs.Stack.{spills, fills, spilled, filled, cacheNumber, putCacheNumber}
 use Rattle.stack_cache.specs.StackLaws.{length-putCacheNumber}
-use Rattle.stack_cache.specs.RangeLaws.{and-right}
+use Rattle.word.specs.BoolLaws.{and-right}
 use Rattle.settings.specs.declared.Settings.{Settings}
 use Rattle.memory.specs.Access.{Buffers, mainOpen, accessOpen, readNumber, stored}
 use Rattle.state.specs.State.{State}

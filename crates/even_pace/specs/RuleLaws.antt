@@ -30,7 +30,7 @@ use Rattle.isa.specs.declared.Target.{Target}
 use Rattle.isa.specs.declared.Target.the-variants.{Call, CallRegister, Br, BrRegister, Brcf, BrcfRegister, Ret}
 use Rattle.isa.specs.declared.Operation.{Operation}
 use Rattle.isa.specs.declared.Operation.the-variants.{Alu, Multiply, Mts, Mfs, Load, Store, StackControl, Transfer, Trap, Xret}
-use Rattle.stack_cache.specs.RangeLaws.{or-left, or-right}
+use Rattle.word.specs.BoolLaws.{or-left, or-right}
 use Rattle.stack_cache.specs.declared.StackControl.the-variants as control
 use Rattle.memory.specs.Access.{loadScale, storeScale}
 use Rattle.effects.specs.declared.Effect.{Effect}

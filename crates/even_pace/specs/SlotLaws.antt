@@ -8,7 +8,7 @@ use Rattle.isa.specs.declared.Instruction.{Instruction}
 use Rattle.isa.specs.declared.AluInstruction.{AluInstruction}
 use Rattle.isa.specs.declared.Bundle.{Bundle}
 use Rattle.isa.specs.declared.Bundle.the-variants.{Undecodable, One, Two, Long}
-use Rattle.stack_cache.specs.RangeLaws.{or-left, or-right}
+use Rattle.word.specs.BoolLaws.{or-left, or-right}
 use Rattle.settings.specs.declared.Settings.{Settings}
 use Rattle.memory.specs.declared.Verdict.the-variants as verdict
 use Rattle.memory.specs.Access.{verdict as verdictOf}

@@ -6,7 +6,7 @@ use mathlib.Core.Logic.{_↔_}
 use mathlib.Core.Path.{_≡_, refl, sym, ap, _∙_}
 use native.Mathlib.Omega.{arith}
 use native.Mathlib.Decide.{ℕ-discrete}
-use Rattle.stack_cache.specs.RangeLaws.{or-left, or-right}
+use Rattle.word.specs.BoolLaws.{or-left, or-right}
 use Rattle.alu_effects.specs.declared.Specials.{Specials}
 use Rattle.state.specs.State.{State, state, withRegister, withPredicate, withLoad, withPredicates, withSpecials}
 use Rattle.state.specs.declared.WaitingLoad.{WaitingLoad}

@@ -11,7 +11,7 @@ use Rattle.isa.specs.declared.Operation.the-variants.{Alu, Multiply, Mts, Mfs, 
 use Rattle.isa.specs.declared.Instruction.{Instruction}
 use Rattle.isa.specs.declared.Bundle.{Bundle}
 use Rattle.isa.specs.declared.Bundle.the-variants.{Undecodable, One, Two, Long}
-use Rattle.stack_cache.specs.RangeLaws.{and-right}
+use Rattle.word.specs.BoolLaws.{and-right}
 use Rattle.settings.specs.declared.Settings.{Settings}
 use Rattle.memory.specs.declared.Verdict.{Verdict}
 use Rattle.memory.specs.declared.Verdict.the-variants.{Fine as Passing, Refused}

@@ -6,7 +6,7 @@ use mathlib.Core.Logic.{_⊎_, inl, inr}
 use mathlib.Core.Option.{some}
 use mathlib.Core.Path.{_≡_, refl}
 use lib.ListN.{length, getElem?}
-use Rattle.stack_cache.specs.RangeLaws.{and-left}
+use Rattle.word.specs.BoolLaws.{and-left}
 use Rattle.memory.specs.Access.{Buffers}
 use Rattle.settings.specs.Settings.{admits}
 use Rattle.state.specs.State.{State, Shaped, wellFormed}

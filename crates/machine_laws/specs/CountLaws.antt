@@ -14,7 +14,7 @@ use Rattle.stack_cache.specs.declared.StackControl.the-variants.{Sres, Sens, Sf
 use Rattle.stack_cache.specs.Stack.{badWindow, badAmount, below, spillWhile, fillWhile, spills, fills}
 use Rattle.stack_cache.specs.Count.{Accepted}
 use Rattle.stack_cache.specs.StackLaws.{length-below}
-use Rattle.stack_cache.specs.RangeLaws.{or-right}
+use Rattle.word.specs.BoolLaws.{or-right}
 use Rattle.stack_control.specs.PlanLaws.{accepted-window}
 use Rattle.settings.specs.declared.Settings.{Settings}
 use Rattle.settings.specs.SettingsLaws.{words-small}

@@ -9,7 +9,7 @@ use lib.Dec.{leb, eqb·suc-zero}
 use lib.ListN.{length, set, length-set}
 use Rattle.isa.specs.declared.Special.{Special}
 use Rattle.isa.specs.declared.Special.the-variants.{S0, Sl, Sh, Ss, St, Srb, Sro, Sxb, Sxo}
-use Rattle.stack_cache.specs.RangeLaws.{and-right}
+use Rattle.word.specs.BoolLaws.{and-right}
 use Rattle.settings.specs.declared.Settings.{Settings}
 use Rattle.state.specs.State.{State, Shaped, state, withRegister, withPredicate, withPredicates, withSpecial, withSpecials, predicatesOf, withFlow, goingOn, landing, landed, transferred, waitOk}
 use Rattle.effects.specs.declared.Transfer.{Transfer}

@@ -23,7 +23,8 @@ use Rattle.stack_cache.specs.Stack.{spills, fills, spilled, topAfter, spillAfte
 use Rattle.stack_cache.specs.Count.{Accepted}
 use Rattle.stack_control.specs.PlanLaws.{spills-window, moves-window}
 use Rattle.stack_cache.specs.StackLaws.{length-putCacheNumber, length-spilled, length-filled}
-use Rattle.stack_cache.specs.RangeLaws.{and-left, and-right, every-at, in-area}
+use Rattle.word.specs.BoolLaws.{and-left, and-right}
+use Rattle.stack_cache.specs.RangeLaws.{every-at, in-area}
 use Rattle.settings.specs.declared.Settings.{Settings}
 use Rattle.state.specs.State.{State}
 use Rattle.alu_effects.specs.declared.AluEffect.{AluEffect}

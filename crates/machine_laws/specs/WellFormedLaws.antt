@@ -19,7 +19,7 @@ use Rattle.isa.specs.declared.Bundle.{Bundle}
 use Rattle.isa.specs.declared.Bundle.the-variants.{Undecodable, One, Two, Long}
 use Rattle.decoder_laws.specs.Ranges.{OperationInRange, InstructionInRange, InRange}
 use Rattle.decoder_laws.specs.RangeLaws.{decode-in-range}
-use Rattle.stack_cache.specs.RangeLaws.{and-left, and-right}
+use Rattle.word.specs.BoolLaws.{and-left, and-right}
 use Rattle.settings.specs.declared.Settings.{Settings}
 use Rattle.state.specs.State.{State, startOf, state, landing, landed, loadOk, waitOk, wellFormed}
 use Rattle.effects.specs.declared.Transfer.{Transfer}

@@ -7,7 +7,7 @@ use lib.Dec.{leb, eqb}
 use Rattle.stack_cache.specs.Stack.{isCacheSize, makeCache}
 use Rattle.stack_cache.specs.declared.StackCache.{StackCache}
 use Rattle.stack_cache.specs.declared.Made.the-variants as made
-use Rattle.stack_cache.specs.RangeLaws.{and-left, and-right}
+use Rattle.word.specs.BoolLaws.{and-left, and-right}
 use Rattle.settings.specs.declared.Settings.{Settings}
 use Rattle.word.specs.Word.{isMultipleOf4}
 use Rattle.settings.specs.Settings.{admits, greatestLength, codeLengthOk, areaOk}

@@ -9,7 +9,7 @@ use native.Mathlib.Omega.{arith}
 use borrow.Author.Tests.{le-leb, lt-leb, ltb-false}
 use lib.ListN.{length}
 use Rattle.word.specs.Word.{isMultipleOf4}
-use Rattle.stack_cache.specs.RangeLaws.{or-right}
+use Rattle.word.specs.BoolLaws.{or-right}
 use Rattle.effects.specs.Effect.{isUndecodable}
 use Rattle.bundle_rules.specs.Refusal.{outsideCode}
 use Rattle.bundle_rules.specs.Bundle.{bundleAt, followingAt}

@@ -8,24 +8,9 @@ use borrow.Author.Tests.{ltb-true, ltb-false, leb-true, leb-false, le-leb, lt-le
 use lib.Dec.{eqb, ltb, leb, eqb·suc-zero}
 use lib.ListN.{length, getD}
 use Rattle.word.specs.Word.{add, sub}
+use Rattle.word.specs.BoolLaws.{and-left, and-right}
 use Rattle.stack_cache.specs.Stack.{below, spillWhile, fillWhile, inArea, every}
 use Rattle.stack_cache.specs.Count.{inside}
-
-pub or-left : (a b : Bool) → a || b ≡ false → a ≡ false
-or-left true b e = e
-or-left false b e = refl
-
-pub or-right : (a b : Bool) → a || b ≡ false → b ≡ false
-or-right true b e = cc
-or-right false b e = e
-
-pub and-left : (a b : Bool) → a && b ≡ true → a ≡ true
-and-left true b e = refl
-and-left false b e = e
-
-pub and-right : (a b : Bool) → a && b ≡ true → b ≡ true
-and-right true b e = e
-and-right false b e = cc
 
 -- What holds of every address of a list holds of each.
 pub every-at : (allowed : ℕ → Bool) (l : List ℕ) → every allowed l ≡ true → (i : ℕ) → i < length l → allowed (getD l i 0) ≡ true

@@ -13,7 +13,8 @@ use Rattle.stack_cache.specs.declared.Plan.the-variants.{Refused, Moves}
 use Rattle.stack_cache.specs.Stack.{below, above, topAfter, spills, fills, spillAfter, badWindow, badAmount, inArea, every, movedOutside, planned}
 use Rattle.stack_cache.specs.Count.{Accepted, Window, spillCount, fillCount, ssAfter, inside}
 use Rattle.stack_cache.specs.StackLaws.{length-below, spillWhile-below, fillWhile-above}
-use Rattle.stack_cache.specs.RangeLaws.{or-left, or-right, and-left, and-right, spillWhile-length, fillWhile-length, every-below, every-fillWhile, inside-end, inside-true}
+use Rattle.word.specs.BoolLaws.{or-left, or-right, and-left, and-right}
+use Rattle.stack_cache.specs.RangeLaws.{spillWhile-length, fillWhile-length, every-below, every-fillWhile, inside-end, inside-true}
 
 -- A window that is not bad, and back.
 pub window : (w st ss : ℕ) → badWindow w st ss ≡ false → Window w st ss

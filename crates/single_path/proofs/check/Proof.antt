@@ -1,5 +1,5 @@
 use mathlib.Core.Path.{refl, sym, _∙_}
-use Rattle.stack_cache.specs.RangeLaws.{and-left}
+use Rattle.word.specs.BoolLaws.{and-left}
 use Rattle.settings.specs.SettingsLaws.{code-small}
 use Rattle.single_path.specs.Check.{settings, checked}
 use Rattle.single_path.proofs.check.Statement.{statement}
