@@ -50,6 +50,6 @@ fn check_part(code: &[u8], e: Extents, marking: Marking) -> Checked {
     single_path::check(&code[0..c], e.main, e.local, e.words, e.lo, e.hi, marking)
 }
 
-pub fn do_check(code: &Bytes, kept: &Kept) {
+pub(crate) fn do_check(code: &Bytes, kept: &Kept) {
     put_checked(check_part(code, extents_of(kept), marking_of(kept)));
 }

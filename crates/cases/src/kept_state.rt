@@ -66,7 +66,7 @@ fn load_of(kept: &Kept) -> WaitingLoad {
     WaitingLoad::Nothing
 }
 
-pub fn state_of(kept: &Kept) -> State {
+pub(crate) fn state_of(kept: &Kept) -> State {
     let registers = registers_of(kept);
     let predicates = flags_of(kept, PREDICATES);
     let specials = specials_of(kept);
@@ -97,7 +97,7 @@ fn keep_waiting_load(kept: &mut Kept, w: WaitingLoad) {
     }
 }
 
-pub fn keep_state(kept: &mut Kept, s: State) {
+pub(crate) fn keep_state(kept: &mut Kept, s: State) {
     let registers = s.registers;
     let predicates = s.predicates;
     let specials = listed(s.specials);

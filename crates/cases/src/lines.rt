@@ -220,7 +220,7 @@ fn take(
 }
 
 // Reads to the file's end. A proved loop has to end, and nothing says that a file does, so the turns are counted down.
-pub fn read_all(
+pub(crate) fn read_all(
     fd: i32,
     path: &[u8],
     piece: &mut Bytes,

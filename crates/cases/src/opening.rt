@@ -59,7 +59,7 @@ fn written(kept: &Kept, length: usize, store: Store) -> usize {
 }
 
 // The next case: what the one before put into the buffers is cleared.
-pub fn start_case(
+pub(crate) fn start_case(
     line: &[u8],
     name: usize,
     main: &mut Memory,
@@ -154,7 +154,7 @@ fn open(code: &Bytes, main: &mut Memory, local: &mut Memory, cache: &mut Cache, 
 }
 
 // At a case's first operation its places are judged, and its state is opened.
-pub fn open_case(
+pub(crate) fn open_case(
     code: &Bytes,
     main: &mut Memory,
     local: &mut Memory,

@@ -118,7 +118,7 @@ fn report(main: &mut Memory, local: &mut Memory, cache: &mut Cache, kept: &Kept)
     copy_cache(&mut *cache, e.words);
 }
 
-pub fn do_step(
+pub(crate) fn do_step(
     code: &Bytes,
     main: &mut Memory,
     local: &mut Memory,
@@ -137,7 +137,7 @@ pub fn do_step(
     report(&mut *main, &mut *local, &mut *cache, &*kept);
 }
 
-pub fn do_run(
+pub(crate) fn do_run(
     budget: u32,
     code: &Bytes,
     main: &mut Memory,

@@ -23,7 +23,7 @@ fn operation_of(said: Line) -> Operation {
     }
 }
 
-pub fn perform(
+pub(crate) fn perform(
     said: Line,
     code: &Bytes,
     main: &mut Memory,

@@ -18,7 +18,7 @@ use case_report::output::say;
 use case_report::output::say_kept;
 use case_report::output::tell;
 
-pub fn put_counts(c: Counts) {
+pub(crate) fn put_counts(c: Counts) {
     say(
         b" bundles % cycles % spilled % filled %\n",
         &[c.bundles, c.cycles, c.spilled, c.filled],
@@ -44,7 +44,7 @@ fn put_load(kept: &Kept) {
 }
 
 // The state lines, all of them.
-pub fn put_state(kept: &Kept) {
+pub(crate) fn put_state(kept: &Kept) {
     say_kept(b"fetch % base %\n", kept, FETCH);
     say_kept(
         b"regs # # # # # # # # # # # # # # # # # # # # # # # # # # # # # # # #\n",

@@ -11,7 +11,7 @@ use lib.ListN.{length}
 use Rattle.word.specs.Word.{add, sub}
 use Rattle.stack_cache.specs.declared.StackControl.{StackControl}
 use Rattle.stack_cache.specs.declared.StackControl.the-variants.{Sres, Sens, Sfree, Sspill}
-use Rattle.stack_cache.specs.Stack.{badWindow, badAmount, below, spillWhile, fillWhile, spills, fills}
+use Rattle.stack_cache.specs.Stack.{badWindow, badAmount, spillWhile, fillWhile, spills, fills}
 use Rattle.stack_cache.specs.Count.{Accepted}
 use Rattle.stack_cache.specs.StackLaws.{length-below}
 use Rattle.word.specs.BoolLaws.{or-right}

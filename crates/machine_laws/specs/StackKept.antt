@@ -1,7 +1,7 @@
 -- What a bundle keeps of the buffers: their lengths, the bytes outside the stack area where it moves stack words and those inside
 -- where it stores; and the window that a stack instruction leaves.
 use Prim.Native.Nat.{ℕ, _+_, _-_, _^_, _<_, _≤_}
-use mathlib.Core.Bool.{Bool, true, false, not, cond}
+use mathlib.Core.Bool.{Bool, true, false, cond}
 use mathlib.Core.List.{List, _∷_, _++_}
 use mathlib.Core.Path.{_≡_, refl, sym, ap, subst, _∙_}
 use mathlib.Core.Logic.{_⊎_, inl, inr}

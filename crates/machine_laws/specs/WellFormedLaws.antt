@@ -1,5 +1,5 @@
 -- A bundle of code made of bytes keeps a state well formed.
-use Prim.Native.Nat.{ℕ, zero, suc, _+_, _-_, _<_}
+use Prim.Native.Nat.{ℕ, suc, _+_, _<_}
 use mathlib.Core.Bool.{Bool, true, false, cond, _&&_}
 use mathlib.Core.List.{List}
 use mathlib.Core.Path.{_≡_, refl, ap, _∙_}
@@ -10,7 +10,6 @@ use lib.ListN.{getD}
 use lib.Seq.{getD-set-other}
 use Rattle.big_endian.specs.Bytes.{wordAt}
 use Rattle.big_endian.specs.BytesLaws.{number-bound}
-use Rattle.isa.specs.declared.Special.{Special}
 use Rattle.isa.specs.declared.Operation.{Operation}
 use Rattle.isa.specs.declared.Operation.the-variants as operation
 use Rattle.isa.specs.declared.Instruction.{Instruction}
@@ -21,8 +20,7 @@ use Rattle.decoder_laws.specs.Ranges.{OperationInRange, InstructionInRange, InR
 use Rattle.decoder_laws.specs.RangeLaws.{decode-in-range}
 use Rattle.word.specs.BoolLaws.{and-left, and-right}
 use Rattle.settings.specs.declared.Settings.{Settings}
-use Rattle.state.specs.State.{State, startOf, state, landing, landed, loadOk, waitOk, wellFormed}
-use Rattle.effects.specs.declared.Transfer.{Transfer}
+use Rattle.state.specs.State.{State, startOf, landing, landed, loadOk, waitOk, wellFormed}
 use Rattle.state.specs.declared.WaitingLoad.{WaitingLoad}
 use Rattle.state.specs.declared.WaitingLoad.the-variants as load
 use Rattle.alu_effects.specs.declared.AluEffect.{AluEffect}

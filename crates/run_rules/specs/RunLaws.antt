@@ -10,7 +10,7 @@ use Rattle.settings.specs.Answer.{Returned, accepted, done, ended, spent, refus
 use Rattle.memory.specs.Access.{Buffers}
 use Rattle.state.specs.State.{State}
 use Rattle.bundle_rules.specs.declared.Counts.{Counts}
-use Rattle.bundle_rules.specs.Bundle.{Outcome, outcome, noCounts, bundle, step}
+use Rattle.bundle_rules.specs.Bundle.{Outcome, outcome, noCounts, step}
 use Rattle.machine_laws.specs.StepCases.{isDone, step-unchanged}
 use Rattle.machine_laws.specs.CountLaws.{Small}
 use Rattle.run_rules.specs.Run.{plus, ifDone, counted, stopped, run}
