@@ -142,8 +142,12 @@ fn second_effect<'a>(registers: &'a [u32], predicates: &'a [bool], o: AluOperati
     }
 }
 
-// What slot two does.
-pub fn slot_two<'a>(registers: &'a [u32], predicates: &'a [bool], i: AluInstruction) -> AluEffect
+// What the instruction of slot two does: nothing where its guard is false.
+pub fn slot_two_effect<'a>(
+    registers: &'a [u32],
+    predicates: &'a [bool],
+    i: AluInstruction,
+) -> AluEffect
     ensures { λ x. ⌜ x ≡ slotTwoEffect (now (registers .entry)) (now (predicates .entry)) i ⌝ }
 {
     let guard = i.guard;

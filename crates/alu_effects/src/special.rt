@@ -20,11 +20,11 @@ fn predicates_word(p: [bool; 8]) -> u32
     bit(p[0]) + 2 * (bit(p[1]) + 2 * (bit(p[2]) + 2 * (bit(p[3]) + 2 * upper)))
 }
 
-pub fn read_special(predicates: [bool; 8], specials: Specials, s: Special) -> u32
-    ensures { λ r. ⌜ r ≡ special predicates specials s ⌝ }
+pub fn read_special(predicates: &[bool; 8], specials: Specials, s: Special) -> u32
+    ensures { λ r. ⌜ r ≡ special (now (predicates .entry)) specials s ⌝ }
 {
     match s {
-        Special::S0 => predicates_word(predicates),
+        Special::S0 => predicates_word(*predicates),
         Special::Sl => specials.sl,
         Special::Sh => specials.sh,
         Special::Ss => specials.ss,

@@ -5,39 +5,24 @@ use borrow.Author.Tests.{not-true}
 use Rattle.isa.specs.declared.Operation.the-variants.{Alu}
 use Rattle.isa.specs.declared.Instruction.{Instruction}
 use Rattle.isa.specs.declared.AluInstruction.{AluInstruction}
-use Rattle.isa.specs.declared.Bundle.{Bundle}
 use Rattle.isa.specs.declared.Bundle.the-variants as bundle
 use Rattle.marking.specs.declared.Marking.{Marking}
 use Rattle.marking_rules.specs.declared.Rule.{Rule}
 use Rattle.marking_rules.specs.declared.Rule.the-variants.{A, B, C, D, E}
 use Rattle.broken_rules.specs.declared.Found.{Found}
-use Rattle.broken_rules.specs.declared.Found.the-variants.{Nothing, Breaks, Undecodable}
+use Rattle.broken_rules.specs.declared.Found.the-variants.{Nothing, Breaks}
 use Rattle.marking.specs.Marking.{privateGuard}
 use Rattle.marking_rules.specs.Rules.{operationBreaks, instructionBreaks, breaks}
 
--- Of an instruction: a rule found is broken; where nothing is found, none is.
+-- Of an instruction or a bundle: a rule found is broken; where nothing is found, none is.
 unfoldable pub right : (Rule → Bool) → Found → Bool
 right broken Nothing = not (broken A || (broken B || (broken C || (broken D || broken E))))
 right broken (Breaks r) = broken r
-right broken Undecodable = false
-
--- Of a bundle: the same, and one that cannot be decoded is found to be so, alone.
-abbrev isUnread : Found → Bool
-isUnread Nothing = false
-isUnread (Breaks r) = false
-isUnread Undecodable = true
-
-unfoldable pub judged : Marking → Bundle → Found → Bool
-judged m bundle.Undecodable f = isUnread f
-judged m (bundle.One i) f = right (breaks m (bundle.One i)) f
-judged m (bundle.Two i j) f = right (breaks m (bundle.Two i j)) f
-judged m (bundle.Long i) f = right (breaks m (bundle.Long i)) f
 
 -- Of two slots: what is found in slot one, or, where that is nothing, in slot two.
 abbrev pub firstFound : Found → Found → Found
 firstFound Nothing f = f
 firstFound (Breaks r) f = Breaks r
-firstFound Undecodable f = Undecodable
 
 abbrev pub slotTwoBreaks : Marking → AluInstruction → Rule → Bool
 slotTwoBreaks m j = operationBreaks m (privateGuard m (j .guard)) (Alu (j .operation))
@@ -51,8 +36,6 @@ right-pair m i j Nothing (Breaks r) e k = go (instructionBreaks m i r)
     go : (t : Bool) → t || slotTwoBreaks m j r ≡ true
     go true = refl
     go false = k
-right-pair m i j Undecodable h e k = absurd (false≢true e)
-right-pair m i j Nothing Undecodable e k = absurd (false≢true k)
 right-pair m i j Nothing Nothing e k = go (instructionBreaks m i A) (instructionBreaks m i B) (instructionBreaks m i C) (instructionBreaks m i D) (instructionBreaks m i E) (not-true _ e)
   where
     two : Rule → Bool

@@ -1,9 +1,8 @@
 // What an operation and a bundle are found to break. Where `guard` is a parameter it says whether the guard is private.
 ghost use mathlib.Core.Bool.{true};
 ghost use mathlib.Core.Path.{_≡_};
-ghost use Rattle.decoder.specs.Decode.{decode};
 ghost use Rattle.marking_rules.specs.Rules.{asked, operationBreaks, instructionBreaks, breaks};
-ghost use Rattle.broken_rules.specs.Found.{right, slotTwoBreaks, firstFound, judged};
+ghost use Rattle.broken_rules.specs.Found.{right, slotTwoBreaks, firstFound};
 use isa::AluInstruction;
 use isa::Bundle;
 use isa::Instruction;
@@ -14,11 +13,10 @@ use marking_rules::Rule;
 use marking_rules::asked_of;
 use marking_rules::asked_of_alu;
 
-// No rule is broken, one is, or, of a bundle alone, it cannot be decoded.
+// No rule is broken, or one is.
 pub enum Found {
     Nothing,
     Breaks(Rule),
-    Undecodable,
 }
 
 // The first rule that an operation breaks, of which `row` says what the rules ask.
@@ -65,7 +63,6 @@ fn first_found(one: Found, two: Found) -> Found
     match one {
         Found::Nothing => two,
         Found::Breaks(rule) => Found::Breaks(rule),
-        Found::Undecodable => Found::Undecodable,
     }
 }
 
@@ -77,12 +74,12 @@ fn pair_rule(m: Marking, i: Instruction, j: AluInstruction) -> Found
     first_found(one, two)
 }
 
-// The bundle that a first and a second word encode.
-pub fn judge(m: Marking, first: u32, second: u32) -> Found
-    ensures { λ r. ⌜ judged m (decode first second) r ≡ true ⌝ }
+// A rule that a bundle breaks. One that cannot be decoded has nothing that could break one.
+pub fn judge(m: Marking, b: Bundle) -> Found
+    ensures { λ r. ⌜ right (breaks m b) r ≡ true ⌝ }
 {
-    match decoder::decode(first, second) {
-        Bundle::Undecodable => Found::Undecodable,
+    match b {
+        Bundle::Undecodable => Found::Nothing,
         Bundle::One(i) | Bundle::Long(i) => instruction_rule(m, i),
         Bundle::Two(i, j) => pair_rule(m, i, j),
     }

@@ -3,10 +3,11 @@ ghost use mathlib.Core.Path.{_≡_};
 ghost use mathlib.Core.Bool.{true};
 ghost use lib.ListN.{length};
 ghost use Rattle.settings.specs.Settings.{admits};
-ghost use Rattle.memory.specs.Access.{buffers};
-ghost use Rattle.state.specs.Core.{joined};
-ghost use Rattle.bundle_rules.specs.Bundle.{full};
-ghost use Rattle.bundle_rules.specs.Execute.{steppedAs, executed};
+ghost use mathlib.Core.List.{List};
+ghost use Prim.Native.Nat.{ℕ};
+ghost use Rattle.settings.specs.Setup.{found, left, setupOf};
+ghost use Rattle.state.specs.Core.{foundState};
+ghost use Rattle.bundle_rules.specs.Execute.{handedBack, executed};
 use crate::outcome::done;
 use crate::outcome::refused;
 use crate::slot_one::carry_out;
@@ -33,7 +34,7 @@ pub(crate) fn execute(
     cache: &mut [u32],
 ) -> Advanced
     requires { ⌜ (admits g ≡ true) × (g .main ≡ length (now main)) ⌝ }
-    ensures { λ r. ⌜ full (steppedAs (now (registers .exit)) (now (predicates .exit)) r) (buffers (now (main .exit)) (now (local .exit)) (now (cache .exit))) ≡ executed g (joined (now (registers .entry)) (now (predicates .entry)) core) one two following (buffers (now (main .entry)) (now (local .entry)) (now (cache .entry))) ⌝ }
+    ensures { λ r. ⌜ ((code : List ℕ) → handedBack registers predicates r (left main local cache) ≡ executed g (setupOf code g) (foundState registers predicates core) one two following (found main local cache)) ⌝ }
 {
     match carry_out(core, g, one, &mut *main, &mut *local, &mut *cache) {
         Carried::Refused(n) => refused(core, n),

@@ -1,7 +1,8 @@
-// One bundle done or refused. The state is by value, and its registers and predicates are lent.
+// Bundles done or refused, one by one: what a step and a run do. The state is by value, and its registers and predicates are lent.
+pub mod advance;
 mod execute;
-mod fetch;
 pub mod outcome;
+pub mod ready;
 mod slot_one;
 mod stack_moves;
-pub mod step;
+mod underway;

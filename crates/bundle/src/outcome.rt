@@ -4,7 +4,7 @@ ghost use mathlib.Core.Bool.{Bool};
 ghost use mathlib.Core.List.{List};
 ghost use Prim.Native.Nat.{ℕ};
 ghost use Rattle.state.specs.Core.{joined};
-ghost use Rattle.bundle_rules.specs.Bundle.{noCounts};
+ghost use Rattle.bundle_rules.specs.Counts.{noCounts, plus, Fit};
 ghost use Rattle.bundle_rules.specs.Execute.{steppedAs, refusedWith, endedWith, doneWith};
 use bundle_rules::Advanced;
 use bundle_rules::Answer;
@@ -56,6 +56,19 @@ pub(crate) fn done(core: Core, cycles: u64, spilled: u32, filled: u32) -> Advanc
             spilled: wide(spilled),
             filled: wide(filled),
         },
+    }
+}
+
+// The counts of bundles done one after the other.
+pub(crate) fn sum(c: Counts, d: Counts) -> Counts
+    requires { ⌜ Fit (plus c d) ⌝ }
+    ensures { λ r. ⌜ r ≡ plus c d ⌝ }
+{
+    Counts {
+        bundles: c.bundles + d.bundles,
+        cycles: c.cycles + d.cycles,
+        spilled: c.spilled + d.spilled,
+        filled: c.filled + d.filled,
     }
 }
 

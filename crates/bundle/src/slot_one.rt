@@ -4,18 +4,20 @@ ghost use mathlib.Core.Bool.{Bool, true, not, cond};
 ghost use mathlib.Core.List.{List};
 ghost use Prim.Native.Nat.{ℕ, _^_};
 ghost use lib.ListN.{length};
+ghost use Rattle.answers.specs.Test.{verdict};
 ghost use Rattle.settings.specs.Settings.{admits};
-ghost use Rattle.memory.specs.Access.{buffers, loadScale, storeScale, accessVerdict, loadedValue, stored};
+ghost use Rattle.settings.specs.Setup.{found, left, setupOf};
+ghost use Rattle.memory.specs.Access.{storeScale, loadedValue, loadTests, stored, storeTests};
 ghost use Rattle.state.specs.State.{noneWaits};
 ghost use Rattle.state.specs.Core.{joined, waitingTransfer};
 ghost use Rattle.bundle_rules.specs.Execute.{carriedAs, unlessRefused, carriedOut};
 use crate::stack_moves::do_stack;
+use answers::Verdict;
 use bundle_rules::Carried;
 use effects::Effect;
 use isa::AccessKind;
 use isa::LoadWidth;
 use isa::StoreWidth;
-use memory::Verdict;
 use memory::access::load;
 use memory::access::store;
 use memory::judge::judge_load;
@@ -48,7 +50,7 @@ fn do_load(
     local: &[u8],
     cache: &[u32],
 ) -> Carried
-    ensures { λ r. ⌜ carriedAs r (buffers (now (main .entry)) (now (local .entry)) (now (cache .entry))) ≡ unlessRefused (accessVerdict g st ss kind address (2 ^ loadScale width)) (buffers (now (main .entry)) (now (local .entry)) (now (cache .entry))) (carriedAs (Carried.Done (loadedValue (buffers (now (main .entry)) (now (local .entry)) (now (cache .entry))) kind width address) 0 0 0 0) (buffers (now (main .entry)) (now (local .entry)) (now (cache .entry)))) ⌝ }
+    ensures { λ r. ⌜ ((code : List ℕ) → carriedAs r (found main local cache) ≡ unlessRefused (verdict (loadTests g (setupOf code g) st ss kind width address)) (found main local cache) (carriedAs (Carried.Done (loadedValue (found main local cache) kind width address) 0 0 0 0) (found main local cache))) ⌝ }
 {
     if let Verdict::Refused(number) = judge_load(g, st, ss, kind, width, address) {
         return Carried::Refused(number);
@@ -74,7 +76,7 @@ fn do_store(
     local: &mut [u8],
     cache: &mut [u32],
 ) -> Carried
-    ensures { λ r. ⌜ carriedAs r (buffers (now (main .exit)) (now (local .exit)) (now (cache .exit))) ≡ unlessRefused (accessVerdict g st ss kind address (2 ^ storeScale width)) (buffers (now (main .entry)) (now (local .entry)) (now (cache .entry))) (carriedAs (Carried.Done 0 0 0 0 0) (stored (buffers (now (main .entry)) (now (local .entry)) (now (cache .entry))) kind (2 ^ storeScale width) address value)) ⌝ }
+    ensures { λ r. ⌜ ((code : List ℕ) → carriedAs r (left main local cache) ≡ unlessRefused (verdict (storeTests g (setupOf code g) st ss kind width address)) (found main local cache) (carriedAs (Carried.Done 0 0 0 0 0) (stored (found main local cache) kind (2 ^ storeScale width) address value))) ⌝ }
 {
     if let Verdict::Refused(number) = judge_store(g, st, ss, kind, width, address) {
         return Carried::Refused(number);
@@ -112,7 +114,7 @@ pub(crate) fn carry_out(
     cache: &mut [u32],
 ) -> Carried
     requires { ⌜ (admits g ≡ true) × (g .main ≡ length (now main)) ⌝ }
-    ensures { λ r. ⌜ ((rs : List ℕ) (ps : List Bool) → carriedAs r (buffers (now (main .exit)) (now (local .exit)) (now (cache .exit))) ≡ carriedOut g (joined rs ps core) one (buffers (now (main .entry)) (now (local .entry)) (now (cache .entry)))) ⌝ }
+    ensures { λ r. ⌜ ((code rs : List ℕ) (ps : List Bool) → carriedAs r (left main local cache) ≡ carriedOut g (setupOf code g) (joined rs ps core) one (found main local cache)) ⌝ }
 {
     let st = core.specials.st;
     let ss = core.specials.ss;

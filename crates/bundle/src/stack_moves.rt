@@ -5,12 +5,13 @@ ghost use mathlib.Core.List.{List};
 ghost use Prim.Native.Nat.{ℕ, _≤_};
 ghost use lib.ListN.{length};
 ghost use Rattle.settings.specs.Settings.{admits};
-ghost use Rattle.memory.specs.Access.{buffers};
+ghost use Rattle.settings.specs.Setup.{buffers, setupOf};
 ghost use Rattle.state.specs.Core.{joined};
 ghost use Rattle.bundle_rules.specs.Execute.{carriedAs, carriedOut, Moved};
 use bundle_rules::Carried;
 use effects::Effect;
 use settings::Settings;
+use stack_cache::Made;
 use stack_cache::Plan;
 use stack_cache::StackCache;
 use stack_cache::StackControl;
@@ -30,13 +31,14 @@ pub(crate) fn do_stack(
     cache: &mut [u32],
 ) -> Carried
     requires { ⌜ (admits g ≡ true) × (g .main ≡ length (now main)) ⌝ }
-    ensures { λ r. ⌜ ((rs : List ℕ) (ps : List Bool) (l : List ℕ) → carriedAs r (buffers (now (main .exit)) l (now (cache .exit))) ≡ carriedOut g (joined rs ps core) (Effect.Stack control words aligned) (buffers (now (main .entry)) l (now (cache .entry)))) ⌝ }
+    ensures { λ r. ⌜ ((code rs l : List ℕ) (ps : List Bool) → carriedAs r (buffers (now (main .exit)) l (now (cache .exit))) ≡ carriedOut g (setupOf code g) (joined rs ps core) (Effect.Stack control words aligned) (buffers (now (main .entry)) l (now (cache .entry)))) ⌝ }
 {
     if !aligned {
         return Carried::Refused(5);
     }
-    let size = g.words as u32;
-    let stack = StackCache { words: size };
+    let Made::Cache(stack) = StackCache::new(g.words) else {
+        return Carried::Refused(1);
+    };
     let old = core.specials.ss;
     match plan(stack, control, g.lo, g.hi, core.specials.st, old, words) {
         Plan::Refused(number) => Carried::Refused(number),

@@ -1,19 +1,19 @@
 -- "Doing a bundle": the writes in their order, the counts, and one bundle as a whole.
-use Prim.Native.Nat.{ℕ, _+_, _-_, _*_, _^_}
+use Prim.Native.Nat.{ℕ, _-_, _^_}
 use mathlib.Core.Bool.{Bool, not, cond}
 use mathlib.Core.List.{List, _++_}
 use lib.ListN.{length, take, drop}
-use Rattle.big_endian.specs.Bytes.{wordAt}
-use Rattle.decoder.specs.Decode.{bundleWords, decode}
-use Rattle.isa.specs.declared.Bundle.{Bundle}
+use Rattle.answers.specs.declared.Verdict.{Verdict}
+use Rattle.answers.specs.declared.Verdict.the-variants as verdict
+use Rattle.answers.specs.Answer.{Returned, done, ended, refused}
+use Rattle.answers.specs.Test.{verdict}
 use Rattle.stack_cache.specs.declared.StackControl.{StackControl}
 use Rattle.stack_cache.specs.Stack.{topAfter, spillAfter, spills, fills, spilled, filled}
 use Rattle.settings.specs.declared.Settings.{Settings}
-use Rattle.memory.specs.declared.Verdict.{Verdict}
-use Rattle.memory.specs.declared.Verdict.the-variants as verdict
-use Rattle.settings.specs.Answer.{Returned, done, ended, refused}
-use Rattle.settings.specs.Settings.{admits, settingsOf}
-use Rattle.memory.specs.Access.{storeScale, Buffers, buffers, loadedValue, stored, verdict}
+use Rattle.settings.specs.Setup.{Setup, Buffers, buffers, lent}
+use Rattle.settings.specs.Settings.{admits}
+use Rattle.memory.specs.Access.{storeScale, loadedValue, stored}
+use Rattle.fetch.specs.Fetch.{bundleAt, followingAt}
 use Rattle.effects.specs.declared.Transfer.{Transfer}
 use Rattle.effects.specs.declared.Transfer.the-variants.{Br, Call, Block}
 use Rattle.alu_effects.specs.declared.AluEffect.{AluEffect}
@@ -30,6 +30,7 @@ use Rattle.bundle_rules.specs.declared.Readiness.the-variants as ready
 use Rattle.bundle_rules.specs.declared.Counts.{Counts}
 use Rattle.state.specs.Writes.{writeAlu, nearer, begun}
 use Rattle.bundle_rules.specs.Refusal.{bundleTests}
+use Rattle.bundle_rules.specs.Counts.{noCounts}
 
 -- The stack area's part of main memory, and main memory with that part replaced.
 abbrev pub area : ℕ → ℕ → List ℕ → List ℕ
@@ -39,24 +40,24 @@ abbrev pub withArea : ℕ → ℕ → List ℕ → List ℕ → List ℕ
 withArea lo hi m part = take lo m ++ (part ++ drop hi m)
 
 -- The words of a stack instruction moved. Of main memory a spill gets the stack area alone.
-unfoldable pub stackMoved : Settings → State → StackControl → ℕ → Buffers → Buffers
-stackMoved g s c n b =
-    let part = area (g .lo) (g .hi) (b .main) in
+unfoldable pub stackMoved : Settings → Setup → State → StackControl → ℕ → Buffers → Buffers
+stackMoved g x s c n b =
+    let part = area (x .lo) (x .hi) (b .main) in
     buffers
-    (withArea (g .lo) (g .hi) (b .main) (spilled (b .cache) (g .lo) part (spills c (g .words) (s .specials .st) (s .specials .ss) n)))
+    (withArea (x .lo) (x .hi) (b .main) (spilled (b .cache) (x .lo) part (spills c (g .words) (s .specials .st) (s .specials .ss) n)))
     (b .local)
-    (filled part (g .lo) (b .cache) (fills c (s .specials .st) (s .specials .ss) n))
+    (filled part (x .lo) (b .cache) (fills c (s .specials .st) (s .specials .ss) n))
 
 -- What slot one writes to the buffers.
-unfoldable pub buffersAfter : Settings → State → Effect → Buffers → Buffers
-buffersAfter g s (effect.Alu a) b = b
-buffersAfter g s (effect.Special d v) b = b
-buffersAfter g s (effect.Product l h) b = b
-buffersAfter g s (effect.Load k w r a) b = b
-buffersAfter g s (effect.Store k w a v) b = stored b k (2 ^ storeScale w) a v
-buffersAfter g s (effect.Stack c n m) b = stackMoved g s c n b
-buffersAfter g s (effect.Transfer d t) b = b
-buffersAfter g s effect.Exception b = b
+unfoldable pub buffersAfter : Settings → Setup → State → Effect → Buffers → Buffers
+buffersAfter g x s (effect.Alu a) b = b
+buffersAfter g x s (effect.Special d v) b = b
+buffersAfter g x s (effect.Product l h) b = b
+buffersAfter g x s (effect.Load k w r a) b = b
+buffersAfter g x s (effect.Store k w a v) b = stored b k (2 ^ storeScale w) a v
+buffersAfter g x s (effect.Stack c n m) b = stackMoved g x s c n b
+buffersAfter g x s (effect.Transfer d t) b = b
+buffersAfter g x s effect.Exception b = b
 
 -- What slot one writes to the state. `from` is the state at the start, onto which is written what came before.
 unfoldable pub writeOne : Settings → Buffers → State → Effect → State → State
@@ -94,9 +95,6 @@ spilledBy g s = onEffect 0 (λ c n m. length (spills c (g .words) (s .specials .
 abbrev pub filledBy : State → Effect → ℕ
 filledBy s = onEffect 0 (λ c n m. length (fills c (s .specials .st) (s .specials .ss) n)) (λ d t. 0)
 
-abbrev pub noCounts : Counts
-noCounts = record { bundles = 0; cycles = 0; spilled = 0; filled = 0 }
-
 abbrev pub countsOf : Settings → State → Effect → Counts
 countsOf g s e = record { bundles = 1; cycles = cyclesOf e; spilled = spilledBy g s e; filled = filledBy s e }
 
@@ -125,25 +123,18 @@ returned (Refused n) = refused n
 abbrev pub full : Stepped → Buffers → Outcome
 full r b = outcome (returned (r .answer)) (r .state) (r .counts) b
 
--- The bundle at an address, and the address after it.
-abbrev pub bundleAt : List ℕ → ℕ → Bundle
-bundleAt code a = decode (wordAt code a) (wordAt code (a + 4))
-
-abbrev pub followingAt : List ℕ → ℕ → ℕ
-followingAt code a = a + 4 * bundleWords (wordAt code a)
-
 -- A refused bundle leaves all as it was, and counts nothing.
 abbrev pub refusedOr : Verdict → State → Buffers → Outcome → Outcome
 refusedOr verdict.Fine s b other = other
 refusedOr (verdict.Refused n) s b other = outcome (refused n) s noCounts b
 
 -- One bundle done or refused.
-unfoldable pub bundle : Settings → List ℕ → State → Buffers → Outcome
-bundle g code s b =
-    let i = bundleAt code (s .fetch) in
+unfoldable pub bundle : Settings → Setup → State → Buffers → Outcome
+bundle g x s b =
+    let i = bundleAt (x .code) (s .fetch) in
     let one = slotOne (startOf s) i in
-    refusedOr (verdict (bundleTests g code s i one)) s b
-    (outcome done (written g b s one (slotTwo (startOf s) i) (followingAt code (s .fetch))) (countsOf g s one) (buffersAfter g s one b))
+    refusedOr (verdict (bundleTests g x s one)) s b
+    (outcome done (written g b s one (slotTwo (startOf s) i) (followingAt (x .code) (s .fetch))) (countsOf g s one) (buffersAfter g x s one b))
 
 -- What is judged before a bundle is tried: 1, 11 and ended.
 unfoldable pub readiness : Settings → State → Readiness
@@ -158,12 +149,8 @@ readyOr ready.Ready s b other = other
 readyOr ready.Ended s b other = outcome ended s noCounts b
 readyOr (ready.Refused n) s b other = outcome (refused n) s noCounts b
 
--- The settings of what is lent to a step.
-abbrev pub lent : List ℕ → ℕ → ℕ → Buffers → Settings
-lent code lo hi b = settingsOf code (b .main) (b .local) (b .cache) lo hi
-
 -- A step: 1, 11, ended, and then the bundle. An ended state stays as it is.
-unfoldable pub step : List ℕ → ℕ → ℕ → State → Buffers → Outcome
-step code lo hi s b =
-    let g = lent code lo hi b in
-    readyOr (readiness g s) s b (bundle g code s b)
+unfoldable pub step : Setup → State → Buffers → Outcome
+step x s b =
+    let g = lent x b in
+    readyOr (readiness g s) s b (bundle g x s b)

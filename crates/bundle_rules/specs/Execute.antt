@@ -1,36 +1,40 @@
 -- Parts of a bundle, for the contracts of the functions that do it: the outcome of a decoded bundle.
 use Prim.Native.Nat.{ℕ}
-use mathlib.Core.Bool.{Bool, cond}
+use mathlib.Core.Bool.{Bool}
 use mathlib.Core.List.{List}
 use mathlib.Core.Path.{_≡_}
+use denote.Ref.{now}
 use Rattle.stack_cache.specs.Stack.{topAfter, spillAfter, below, above, spilled, filled}
 use Rattle.settings.specs.declared.Settings.{Settings}
-use Rattle.settings.specs.Answer.{done}
-use Rattle.memory.specs.declared.Verdict.{Verdict}
-use Rattle.memory.specs.declared.Verdict.the-variants as verdict
-use Rattle.memory.specs.Access.{Buffers, loadedValue, verdict}
+use Rattle.answers.specs.declared.Verdict.{Verdict}
+use Rattle.answers.specs.declared.Verdict.the-variants as verdict
+use Rattle.answers.specs.Answer.{done}
+use Rattle.answers.specs.Test.{verdict}
+use Rattle.settings.specs.Setup.{Setup, Buffers}
+use Rattle.memory.specs.Access.{loadedValue}
 use Rattle.alu_effects.specs.declared.AluEffect.{AluEffect}
 use Rattle.effects.specs.declared.Effect.{Effect}
 use Rattle.effects.specs.declared.Effect.the-variants as effect
-use Rattle.effects.specs.declared.Effects.{Effects}
-use Rattle.effects.specs.declared.Effects.the-variants as effects
-use Rattle.effects.specs.Effect.{effectsOf, onEffect}
+use Rattle.effects.specs.Effect.{onEffect}
 use Rattle.state.specs.declared.WaitingLoad.the-variants as load
-use Rattle.state.specs.State.{State, startOf, withSpecial, withProduct, withLoad, withStack}
+use Rattle.state.specs.State.{State, withSpecial, withProduct, withLoad, withStack}
 use Rattle.state.specs.Writes.{writeAlu}
 use Rattle.bundle_rules.specs.declared.Carried.{Carried}
 use Rattle.bundle_rules.specs.declared.Carried.the-variants as carried
-use Rattle.bundle_rules.specs.declared.Fetched.{Fetched}
-use Rattle.bundle_rules.specs.declared.Fetched.the-variants as fetch
 use Rattle.bundle_rules.specs.declared.Advanced.{Advanced}
-use Rattle.bundle_rules.specs.Bundle.{Stepped, area, withArea, Outcome, outcome, noCounts, written, spilledBy, filledBy, countsOf, buffersAfter, refusedOr, bundleAt, followingAt}
-use Rattle.state.specs.Core.{joined}
+use Rattle.bundle_rules.specs.Bundle.{Stepped, area, withArea, Outcome, outcome, full, written, spilledBy, filledBy, countsOf, buffersAfter, refusedOr}
+use Rattle.state.specs.Core.{joined, Registers, Predicates}
 use Rattle.bundle_rules.specs.declared.Answer.the-variants.{Done, Ended, Refused}
-use Rattle.bundle_rules.specs.Refusal.{outsideCode, effectTests}
+use Rattle.bundle_rules.specs.Refusal.{effectTests}
+use Rattle.bundle_rules.specs.Counts.{noCounts}
 
 -- What a function gives back with the registers and predicates that it leaves.
 abbrev pub steppedAs : List ℕ → List Bool → Advanced → Stepped
 steppedAs rs ps r = record { answer = r .answer; state = joined rs ps (r .core); counts = r .counts }
+
+-- In contracts, what a function gives back with all that it leaves.
+abbrev pub handedBack : Registers → Predicates → Advanced → Buffers → Outcome
+handedBack registers predicates r b = full (steppedAs (now (registers .exit)) (now (predicates .exit)) r) b
 
 abbrev pub refusedWith : State → ℕ → Stepped
 refusedWith s n = record { answer = Refused n; state = s; counts = noCounts }
@@ -42,10 +46,10 @@ abbrev pub doneWith : State → ℕ → ℕ → ℕ → Stepped
 doneWith s cycles spilled filled = record { answer = Done; state = s; counts = record { bundles = 1; cycles = cycles; spilled = spilled; filled = filled } }
 
 -- A decoded bundle whose slots have these effects, done or refused.
-unfoldable pub executed : Settings → State → Effect → AluEffect → ℕ → Buffers → Outcome
-executed g s one two following b =
-    refusedOr (verdict (effectTests g s one)) s b
-    (outcome done (written g b s one two following) (countsOf g s one) (buffersAfter g s one b))
+unfoldable pub executed : Settings → Setup → State → Effect → AluEffect → ℕ → Buffers → Outcome
+executed g x s one two following b =
+    refusedOr (verdict (effectTests g x s one)) s b
+    (outcome done (written g b s one two following) (countsOf g s one) (buffersAfter g x s one b))
 
 -- Slot one carried out on the stores, with the buffers that it leaves; refused, it leaves them as they were.
 pub record CarriedOut : Type 0 where
@@ -76,10 +80,10 @@ topBy s = onEffect 0 (λ c n m. topAfter c (s .specials .st) n) (λ d t. 0)
 abbrev pub spillBy : Settings → State → Effect → ℕ
 spillBy g s = onEffect 0 (λ c n m. spillAfter c (g .words) (s .specials .st) (s .specials .ss) n) (λ d t. 0)
 
-unfoldable pub carriedOut : Settings → State → Effect → Buffers → CarriedOut
-carriedOut g s one b =
-    unlessRefused (verdict (effectTests g s one)) b
-    (carriedAs (carried.Done (loadedBy b one) (topBy s one) (spillBy g s one) (spilledBy g s one) (filledBy s one)) (buffersAfter g s one b))
+unfoldable pub carriedOut : Settings → Setup → State → Effect → Buffers → CarriedOut
+carriedOut g x s one b =
+    unlessRefused (verdict (effectTests g x s one)) b
+    (carriedAs (carried.Done (loadedBy b one) (topBy s one) (spillBy g s one) (spilledBy g s one) (filledBy s one)) (buffersAfter g x s one b))
 
 -- What slot one writes to the state, of the value loaded and st and ss.
 unfoldable pub writeDone : Effect → ℕ → ℕ → ℕ → State → State
@@ -96,13 +100,3 @@ writeDone effect.Exception loaded st ss onto = onto
 pub record Moved (lo hi ss j k : ℕ) (main cache main′ cache′ : List ℕ) : Type 0 where
   pub memory : main′ ≡ withArea lo hi main (spilled cache lo (area lo hi main) (below j ss))
   pub words : cache′ ≡ filled (area lo hi main) lo cache (above k ss)
-
--- A bundle read: refused with 2 or 3, or the effects of its slots and the following address.
-abbrev pub fetchedOf : Effects → ℕ → Fetched
-fetchedOf effects.Undecodable following = fetch.Refused 3
-fetchedOf (effects.Slots one two) following = fetch.Slots one two following
-
-unfoldable pub fetched : List ℕ → State → Fetched
-fetched code s =
-    cond (outsideCode code (s .fetch)) (fetch.Refused 2)
-    (fetchedOf (effectsOf (startOf s) (bundleAt code (s .fetch))) (followingAt code (s .fetch)))

@@ -1,4 +1,5 @@
 pub mod Refusal
+pub mod Counts
 pub mod Bundle
 pub mod Execute
 pub mod ExecuteLaws

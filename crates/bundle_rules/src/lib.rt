@@ -1,6 +1,4 @@
 // One bundle: the types of what it gives. What it does is in specs/.
-use alu_effects::AluEffect;
-use effects::Effect;
 use state::Core;
 
 // What a step answers; Refused holds document 01's number.
@@ -30,16 +28,6 @@ pub struct Advanced {
     pub answer: Answer,
     pub core: Core,
     pub counts: Counts,
-}
-
-// A bundle read: refused with 2 or 3, or what its two slots do and the address after it.
-pub enum Fetched {
-    Refused(u32),
-    Slots {
-        one: Effect,
-        two: AluEffect,
-        following: u32,
-    },
 }
 
 // Slot one carried out on the stores: refused with a number, or done. What is done tells the value that was loaded, where a stack

@@ -5,7 +5,7 @@ ghost use mathlib.Core.List.{List};
 ghost use Prim.Native.Nat.{ℕ};
 ghost use Rattle.state.specs.State.{landed};
 ghost use Rattle.state.specs.Writes.{writeAlu};
-ghost use Rattle.state.specs.Core.{joined, waitingTransfer};
+ghost use Rattle.state.specs.Core.{joined, waitingTransfer, foundState, leftState};
 ghost use Rattle.bundle_rules.specs.Bundle.{onward, cyclesOf, undelayedCycles};
 ghost use Rattle.bundle_rules.specs.Execute.{writeDone};
 use alu_effects::AluEffect;
@@ -14,7 +14,6 @@ use effects::Transfer;
 use state::Core;
 use state::LoadWords;
 use state::TransferWords;
-use state::flow::write_alu;
 
 // What slot one writes, where carrying it out gave a loaded value, or st and ss.
 fn write_one(
@@ -26,13 +25,10 @@ fn write_one(
     st: u32,
     ss: u32,
 ) -> Core
-    ensures { λ r. ⌜ joined (now (registers .exit)) (now (predicates .exit)) r ≡ writeDone one loaded st ss (joined (now (registers .entry)) (now (predicates .entry)) core) ⌝ }
+    ensures { λ r. ⌜ leftState registers predicates r ≡ writeDone one loaded st ss (foundState registers predicates core) ⌝ }
 {
     match one {
-        Effect::Alu(a) => {
-            write_alu(&mut *registers, &mut *predicates, a);
-            core
-        }
+        Effect::Alu(a) => core.write_alu(&mut *registers, &mut *predicates, a),
         Effect::Special { special, value } => core.write_special(&mut *predicates, special, value),
         Effect::Product { low, high } => core.write_product(low, high),
         Effect::Load {
@@ -76,13 +72,13 @@ pub fn write(
     st: u32,
     ss: u32,
 ) -> Core
-    ensures { λ r. ⌜ joined (now (registers .exit)) (now (predicates .exit)) r ≡ onward one (waitingTransfer (core .transfer)) following (writeAlu two (writeDone one loaded st ss (landed (joined (now (registers .entry)) (now (predicates .entry)) core)))) ⌝ }
+    ensures { λ r. ⌜ leftState registers predicates r ≡ onward one (waitingTransfer (core .transfer)) following (writeAlu two (writeDone one loaded st ss (landed (foundState registers predicates core)))) ⌝ }
 {
     let waiting = core.transfer;
     let onto = core.land_load(&mut *registers);
     let after = write_one(onto, &mut *registers, &mut *predicates, one, loaded, st, ss);
-    write_alu(&mut *registers, &mut *predicates, two);
-    onward(after, one, waiting, following)
+    let last = after.write_alu(&mut *registers, &mut *predicates, two);
+    onward(last, one, waiting, following)
 }
 
 // A delayed transfer's own bundle is one cycle; a form without delay pays for its delay slots.

@@ -7,6 +7,7 @@ use case_kept::kept::Kept;
 use case_notes::marked::marking_of;
 use case_report::output::say;
 use case_report::output::tell;
+use settings::Config;
 use single_path::Checked;
 use single_path::Marking;
 use single_path::Rule;
@@ -47,7 +48,8 @@ fn put_checked(c: Checked) {
 
 fn check_part(code: &[u8], e: Extents, marking: Marking) -> Checked {
     let c = least(e.code, code.len());
-    single_path::check(&code[0..c], e.main, e.local, e.words, e.lo, e.hi, marking)
+    let config = Config { lo: e.lo, hi: e.hi };
+    single_path::check(&code[0..c], e.main, e.local, e.words, config, marking)
 }
 
 pub(crate) fn do_check(code: &Bytes, kept: &Kept) {

@@ -36,6 +36,7 @@ use case_report::output::tell;
 use machine::Opened;
 use machine::Opening;
 use machine::State;
+use settings::Config;
 use text::fields::next_field;
 ghost use Prim.Native.Nat.{_≤_};
 ghost use lib.ListN.{length};
@@ -90,13 +91,13 @@ fn fresh(
     let m = e.main;
     let l = e.local;
     let w = e.words;
+    let config = Config { lo: e.lo, hi: e.hi };
     State::fresh(
         &code[0..c],
         &main[0..m],
         &local[0..l],
         &mut cache[0..w],
-        e.lo,
-        e.hi,
+        config,
         entry,
     )
 }

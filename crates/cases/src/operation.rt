@@ -19,6 +19,7 @@ use machine::State;
 use machine::Stepped;
 use run::Ran;
 use run::RunAnswer;
+use settings::Config;
 ghost use Prim.Native.Nat.{_≤_};
 ghost use lib.ListN.{length};
 
@@ -52,13 +53,13 @@ fn step(
     let m = e.main;
     let l = e.local;
     let w = e.words;
+    let config = Config { lo: e.lo, hi: e.hi };
     s.step(
         &code[0..c],
         &mut main[0..m],
         &mut local[0..l],
         &mut cache[0..w],
-        e.lo,
-        e.hi,
+        config,
     )
 }
 
@@ -77,14 +78,14 @@ fn run_on(
     let m = e.main;
     let l = e.local;
     let w = e.words;
+    let config = Config { lo: e.lo, hi: e.hi };
     run::run(
         s,
         &code[0..c],
         &mut main[0..m],
         &mut local[0..l],
         &mut cache[0..w],
-        e.lo,
-        e.hi,
+        config,
         budget,
     )
 }

@@ -33,8 +33,6 @@ use Rattle.alu_effects.specs.declared.AluEffect.{AluEffect}
 use Rattle.alu_effects.specs.declared.AluEffect.the-variants as alu
 use Rattle.effects.specs.declared.Effect.{Effect}
 use Rattle.effects.specs.declared.Effect.the-variants as effect
-use Rattle.effects.specs.declared.Effects.{Effects}
-use Rattle.effects.specs.declared.Effects.the-variants as effects
 
 -- The part of the state that slots read.
 pub record Start : Type 0 where
@@ -131,14 +129,3 @@ onEffect other f g (effect.Store k w a v) = other
 onEffect other f g (effect.Stack c n m) = f c n m
 onEffect other f g (effect.Transfer d t) = g d t
 onEffect other f g effect.Exception = other
-
--- Refusal 3: undecodable.
-abbrev pub isUndecodable : Bundle → Bool
-isUndecodable Undecodable = true
-isUndecodable (One i) = false
-isUndecodable (Two i j) = false
-isUndecodable (Long i) = false
-
--- Both slots of a bundle, if it has a meaning.
-unfoldable pub effectsOf : Start → Bundle → Effects
-effectsOf s b = cond (isUndecodable b) effects.Undecodable (effects.Slots (slotOne s b) (slotTwo s b))

@@ -3,7 +3,6 @@ pub mod slot;
 
 use alu_effects::AluEffect;
 use isa::AccessKind;
-use isa::Instruction;
 use isa::LoadWidth;
 use isa::Special;
 use isa::StoreWidth;
@@ -49,16 +48,4 @@ pub enum Effect {
         transfer: Transfer,
     },
     Exception,
-}
-
-// What the two slots of a bundle do, if it has a meaning.
-pub enum Effects {
-    Undecodable,
-    Slots { one: Effect, two: AluEffect },
-}
-
-// The instruction of slot one, if the bundle has a meaning.
-pub enum First {
-    Undecodable,
-    Slot(Instruction),
 }

@@ -1,21 +1,17 @@
 // What the slots of a bundle do: their operations read in the state at the start of the bundle.
 ghost use mathlib.Core.Path.{_≡_};
-ghost use Rattle.effects.specs.Effect.{start, accessAddress, address, amountWords, amountAligned, stackEffect, transferOf, effectOf, slotOneEffect, slotTwo, effectsOf};
+ghost use Rattle.effects.specs.Effect.{start, accessAddress, address, amountWords, amountAligned, stackEffect, transferOf, effectOf, slotOneEffect, slotOne, slotTwo};
 ghost use mathlib.Core.Bool.{Bool};
 ghost use mathlib.Core.List.{List};
 ghost use Prim.Native.Nat.{ℕ};
-ghost use Rattle.decoder.specs.Decode.{decode};
-ghost use Rattle.effects.specs.EffectLaws.{firstOf};
 use crate::Effect;
-use crate::Effects;
-use crate::First;
 use crate::Transfer;
 use alu_effects::AluEffect;
 use alu_effects::Specials;
 use alu_effects::either_slot::alu_effect;
 use alu_effects::either_slot::operand;
 use alu_effects::either_slot::register;
-use alu_effects::either_slot::slot_two;
+use alu_effects::either_slot::slot_two_effect;
 use alu_effects::special::read_special;
 use isa::AccessKind;
 use isa::Bundle;
@@ -136,17 +132,17 @@ fn address(registers: &[u32], st: u32, kind: AccessKind, scale: u32, ra: u32, of
 }
 
 // What an operation does.
-fn effect(
-    registers: &[u32],
-    predicates: [bool; 8],
+fn effect<'a>(
+    registers: &'a [u32],
+    predicates: &'a [bool; 8],
     specials: Specials,
     fetch: u32,
     o: Operation,
 ) -> Effect
-    ensures { λ x. ⌜ x ≡ effectOf (start (now (registers .entry)) predicates specials fetch) o ⌝ }
+    ensures { λ x. ⌜ x ≡ effectOf (start (now (registers .entry)) (now (predicates .entry)) specials fetch) o ⌝ }
 {
     match o {
-        Operation::Alu(a) => Effect::Alu(alu_effect(registers, &predicates, a)),
+        Operation::Alu(a) => Effect::Alu(alu_effect(registers, predicates, a)),
         Operation::Multiply { function, rs1, rs2 } => {
             let p = alu::multiply(function, register(registers, rs1), register(registers, rs2));
             Effect::Product {
@@ -196,83 +192,50 @@ fn effect(
     }
 }
 
-// What slot one does: nothing where its guard is false.
-fn slot_one(
-    registers: &[u32],
-    predicates: [bool; 8],
+// What the instruction of slot one does: nothing where its guard is false.
+fn slot_one_effect<'a>(
+    registers: &'a [u32],
+    predicates: &'a [bool; 8],
     specials: Specials,
     fetch: u32,
     i: Instruction,
 ) -> Effect
-    ensures { λ x. ⌜ x ≡ slotOneEffect (start (now (registers .entry)) predicates specials fetch) i ⌝ }
+    ensures { λ x. ⌜ x ≡ slotOneEffect (start (now (registers .entry)) (now (predicates .entry)) specials fetch) i ⌝ }
 {
     let guard = i.guard;
     let operation = i.operation;
-    if operand(&predicates, guard) {
+    if operand(predicates, guard) {
         return effect(registers, predicates, specials, fetch, operation);
     }
     Effect::Alu(AluEffect::Nothing)
 }
 
-fn first_slot(b: Bundle) -> First
-    ensures { λ r. ⌜ r ≡ firstOf b ⌝ }
+// What slot one of a bundle does.
+pub fn slot_one<'a>(
+    registers: &'a [u32],
+    predicates: &'a [bool; 8],
+    specials: Specials,
+    fetch: u32,
+    b: Bundle,
+) -> Effect
+    ensures { λ x. ⌜ x ≡ slotOne (start (now (registers .entry)) (now (predicates .entry)) specials fetch) b ⌝ }
 {
     match b {
-        Bundle::Undecodable => First::Undecodable,
-        Bundle::One(i) => First::Slot(i),
-        Bundle::Two(i, _) => First::Slot(i),
-        Bundle::Long(i) => First::Slot(i),
+        Bundle::Undecodable => Effect::Alu(AluEffect::Nothing),
+        Bundle::One(i) | Bundle::Long(i) | Bundle::Two(i, _) => {
+            slot_one_effect(registers, predicates, specials, fetch, i)
+        }
     }
 }
 
 // What slot two of a bundle does; nothing where it has none.
-fn second<'a>(registers: &'a [u32], predicates: &'a [bool], b: Bundle) -> AluEffect
+pub fn slot_two<'a>(registers: &'a [u32], predicates: &'a [bool], b: Bundle) -> AluEffect
     ensures { λ x. ⌜ ((specials : Specials) (fetch : ℕ) → x ≡ slotTwo (start (now (registers .entry)) (now (predicates .entry)) specials fetch) b) ⌝ }
 {
     match b {
         Bundle::Undecodable => AluEffect::Nothing,
         Bundle::One(_) => AluEffect::Nothing,
-        Bundle::Two(_, j) => slot_two(registers, predicates, j),
+        Bundle::Two(_, j) => slot_two_effect(registers, predicates, j),
         Bundle::Long(_) => AluEffect::Nothing,
     }
-}
-
-// What both slots of a bundle do.
-fn effects(
-    registers: &[u32],
-    predicates: [bool; 8],
-    specials: Specials,
-    fetch: u32,
-    b: Bundle,
-) -> Effects
-    ensures { λ x. ⌜ x ≡ effectsOf (start (now (registers .entry)) predicates specials fetch) b ⌝ }
-{
-    match first_slot(b) {
-        First::Undecodable => Effects::Undecodable,
-        First::Slot(i) => {
-            let one = slot_one(registers, predicates, specials, fetch, i);
-            let two = second(registers, &predicates, b);
-            Effects::Slots { one, two }
-        }
-    }
-}
-
-// What both slots of the bundle do that two words encode.
-pub fn read(
-    registers: &[u32],
-    predicates: [bool; 8],
-    specials: Specials,
-    fetch: u32,
-    first: u32,
-    second: u32,
-) -> Effects
-    ensures { λ x. ⌜ x ≡ effectsOf (start (now (registers .entry)) predicates specials fetch) (decode first second) ⌝ }
-{
-    effects(
-        registers,
-        predicates,
-        specials,
-        fetch,
-        decoder::decode(first, second),
-    )
 }

@@ -10,7 +10,7 @@ use Rattle.isa.specs.declared.StoreWidth.{StoreWidth}
 use Rattle.stack_cache.specs.declared.StackControl.{StackControl}
 use Rattle.stack_cache.specs.Stack.{topAfter, spillAfter}
 use Rattle.settings.specs.declared.Settings.{Settings}
-use Rattle.memory.specs.Access.{Buffers, loadScale, loadedValue, extended}
+use Rattle.memory.specs.Access.{loadScale, loadedValue, extended}
 use Rattle.effects.specs.declared.Transfer.{Transfer}
 use Rattle.alu_effects.specs.declared.AluEffect.{AluEffect}
 use Rattle.alu_effects.specs.declared.AluEffect.the-variants as alu
@@ -29,6 +29,7 @@ use Rattle.even_pace.specs.StateLaws.{state-refl, state-sym, state-trans
 use Rattle.even_pace.specs.WriteLaws.{special-both, product-both, stack-both, load-both, register-quiet, predicate-quiet, product-quiet, special-quiet, load-quiet, waits-private, waits-none}
 use Rattle.even_pace.specs.FlowLaws.{nearer-both, begun-both}
 use Rattle.even_pace.specs.BufferLaws.{read-both}
+use Rattle.settings.specs.Setup.{Buffers, Setup}
 
 -- The same effect in both runs, with values that may differ where they go to a private place.
 pub data SameAlu (m : Marking) : AluEffect → AluEffect → Type 0 where
@@ -44,7 +45,7 @@ pub data SameEffect (m : Marking) : Effect → Effect → Type 0 where
       → SameEffect m (effect.Load k w r a) (effect.Load k w r a)
   store : {k : AccessKind} {w : StoreWidth} {a v₁ v₂ : ℕ} → (privateStore m k ≡ false → v₁ ≡ v₂)
       → SameEffect m (effect.Store k w a v₁) (effect.Store k w a v₂)
-  stack : {c : StackControl} {n : ℕ} {x : Bool} → SameEffect m (effect.Stack c n x) (effect.Stack c n x)
+  stack : {c : StackControl} {n : ℕ} {z : Bool} → SameEffect m (effect.Stack c n z) (effect.Stack c n z)
   transfer : {d : Bool} {t : Transfer} → SameEffect m (effect.Transfer d t) (effect.Transfer d t)
   exception : SameEffect m effect.Exception effect.Exception
 
@@ -90,13 +91,13 @@ writeAlu-alike s (same-alu h) = writeAlu-both s h
 writeAlu-alike {s₁ = s₁} {s₂ = s₂} s (both-quiet p q) = state-trans (writeAlu-quiet s₁ p) (state-trans s (state-sym (writeAlu-quiet s₂ q)))
 
 -- Slot one's write, onto states that agree.
-module _ {m : Marking} (g : Settings) {b₁ b₂ : Buffers} (b : SameBuffers m (g .lo) (g .hi) b₁ b₂) {from₁ from₂ : State} (from : SameState m from₁ from₂) where
-  loaded-both : (k : AccessKind) (w : LoadWidth) (r a : ℕ) → Passed g from₁ (effect.Load k w r a) → privateStore m k ≡ false
+module _ {m : Marking} (g : Settings) (x : Setup) {b₁ b₂ : Buffers} (b : SameBuffers m x b₁ b₂) {from₁ from₂ : State} (from : SameState m from₁ from₂) where
+  loaded-both : (k : AccessKind) (w : LoadWidth) (r a : ℕ) → Passed g x from₁ (effect.Load k w r a) → privateStore m k ≡ false
       → loadedValue b₁ k w a ≡ loadedValue b₂ k w a
   unfolding loadedValue
-  loaded-both k w r a p h = ap (extended w) (read-both m g b (from₁ .specials .st) (from₁ .specials .ss) k a (2 ^ loadScale w) (passed-open _ g _ _ k a _ p) h)
+  loaded-both k w r a p h = ap (extended w) (read-both m g x b (from₁ .specials .st) (from₁ .specials .ss) k a (2 ^ loadScale w) (passed-open _ g _ _ k a _ p) h)
 
-  writeOne-both : {e₁ e₂ : Effect} {s₁ s₂ : State} → SameState m s₁ s₂ → SameEffect m e₁ e₂ → Passed g from₁ e₁
+  writeOne-both : {e₁ e₂ : Effect} {s₁ s₂ : State} → SameState m s₁ s₂ → SameEffect m e₁ e₂ → Passed g x from₁ e₁
       → SameState m (writeOne g b₁ from₁ e₁ s₁) (writeOne g b₂ from₂ e₂ s₂)
   unfolding writeOne
   writeOne-both s (of-alu h) p = writeAlu-both s h
@@ -105,21 +106,21 @@ module _ {m : Marking} (g : Settings) {b₁ b₂ : Buffers} (b : SameBuffers m (
   writeOne-both s (load {k} {w} {r} {a} h) p = load-both s r _ _ (λ q. loaded-both k w r a p (h q))
   writeOne-both s (store h) p = s
   writeOne-both s (stack {c} {n}) p =
-      stack-both s _ _ _ _ (ap (λ (x : ℕ). topAfter c x n) (from .specials .st)) (λ i. spillAfter c (g .words) (from .specials .st i) (from .specials .ss i) n)
+      stack-both s _ _ _ _ (ap (λ (z : ℕ). topAfter c z n) (from .specials .st)) (λ i. spillAfter c (g .words) (from .specials .st i) (from .specials .ss i) n)
   writeOne-both s transfer p = s
   writeOne-both s exception p = s
 
-  writeOne-quiet : {e : Effect} (c : Buffers) (x s : State) → QuietEffect m e → s .load ≡ Nothing → length (s .predicates) ≡ 8
+  writeOne-quiet : {e : Effect} (c : Buffers) (z s : State) → QuietEffect m e → s .load ≡ Nothing → length (s .predicates) ≡ 8
       → getD (s .predicates) 0 false ≡ true
-      → SameState m (writeOne g c x e s) s
+      → SameState m (writeOne g c z e s) s
   unfolding writeOne
-  writeOne-quiet c x s (quiet-alu h) l p q = writeAlu-quiet s h
-  writeOne-quiet c x s (quiet-special h) l p q = special-quiet s _ _ h p q
-  writeOne-quiet c x s (quiet-product h k) l p q = product-quiet s _ _ h k
-  writeOne-quiet c x s (quiet-load h) l p q = load-quiet s _ (s .load) (waits-private m _ _ h) (λ r v t e. waits-none m r v t (sym l ∙ e))
-  writeOne-quiet c x s (quiet-store h) l p q = state-refl s
+  writeOne-quiet c z s (quiet-alu h) l p q = writeAlu-quiet s h
+  writeOne-quiet c z s (quiet-special h) l p q = special-quiet s _ _ h p q
+  writeOne-quiet c z s (quiet-product h k) l p q = product-quiet s _ _ h k
+  writeOne-quiet c z s (quiet-load h) l p q = load-quiet s _ (s .load) (waits-private m _ _ h) (λ r v t e. waits-none m r v t (sym l ∙ e))
+  writeOne-quiet c z s (quiet-store h) l p q = state-refl s
 
-  pub writeOne-alike : {e₁ e₂ : Effect} {s₁ s₂ : State} → SameState m s₁ s₂ → AlikeEffect m e₁ e₂ → Passed g from₁ e₁
+  pub writeOne-alike : {e₁ e₂ : Effect} {s₁ s₂ : State} → SameState m s₁ s₂ → AlikeEffect m e₁ e₂ → Passed g x from₁ e₁
       → s₁ .load ≡ Nothing → s₂ .load ≡ Nothing → length (s₁ .predicates) ≡ 8 → length (s₂ .predicates) ≡ 8 → getD (s₁ .predicates) 0 false ≡ true
       → getD (s₂ .predicates) 0 false ≡ true
       → SameState m (writeOne g b₁ from₁ e₁ s₁) (writeOne g b₂ from₂ e₂ s₂)
@@ -139,12 +140,12 @@ module _ {m : Marking} {s₁ s₂ : State} (s : SameState m s₁ s₂) (w : Wait
   onward-both (transfer {d} {t}) = begun-both s d t following
   onward-both exception = nearer-both s w following
 
-  onward-quiet : {e : Effect} (x : State) → QuietEffect m e → onward e w following x ≡ nearer w following x
-  onward-quiet x (quiet-alu h) = refl
-  onward-quiet x (quiet-special h) = refl
-  onward-quiet x (quiet-product h k) = refl
-  onward-quiet x (quiet-load h) = refl
-  onward-quiet x (quiet-store h) = refl
+  onward-quiet : {e : Effect} (z : State) → QuietEffect m e → onward e w following z ≡ nearer w following z
+  onward-quiet z (quiet-alu h) = refl
+  onward-quiet z (quiet-special h) = refl
+  onward-quiet z (quiet-product h k) = refl
+  onward-quiet z (quiet-load h) = refl
+  onward-quiet z (quiet-store h) = refl
 
   pub onward-alike : {e₁ e₂ : Effect} → AlikeEffect m e₁ e₂ → SameState m (onward e₁ w following s₁) (onward e₂ w following s₂)
   onward-alike (same-effect h) = onward-both h

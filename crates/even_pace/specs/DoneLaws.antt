@@ -6,7 +6,7 @@ use mathlib.Core.Path.{_≡_, refl, sym, ap, subst, _∙_}
 use lib.ListN.{length, getD}
 use Rattle.stack_cache.specs.declared.StackControl.{StackControl}
 use Rattle.settings.specs.declared.Settings.{Settings}
-use Rattle.memory.specs.Access.{Buffers, storeScale, verdict as verdictOf}
+use Rattle.memory.specs.Access.{storeScale}
 use Rattle.alu_effects.specs.declared.AluEffect.{AluEffect}
 use Rattle.effects.specs.declared.Effect.{Effect}
 use Rattle.effects.specs.declared.Effect.the-variants as effect
@@ -22,21 +22,23 @@ use Rattle.even_pace.specs.Terms.{SameState, SameBuffers, Agree}
 use Rattle.even_pace.specs.FlowLaws.{landed-both, landed-predicates, landed-none}
 use Rattle.even_pace.specs.BufferLaws.{buffers-refl, buffers-sym, buffers-trans, store-both, store-quiet, moved-both}
 use Rattle.even_pace.specs.Alike.{SameEffect, of-alu, special, product, load, store, stack, transfer, exception, QuietEffect, quiet-alu, quiet-special, quiet-product, quiet-load, quiet-store, AlikeAlu, AlikeEffect, same-effect, quiet-effects, writeAlu-alike, writeOne-alike, onward-alike}
+use Rattle.settings.specs.Setup.{Buffers, Setup}
+use Rattle.answers.specs.Test.{verdict as verdictOf}
 
 -- What of a state judges and counts a bundle: ss, st and the waiting transfer.
 judging : State → State
 judging s = state [] [] (specials 0 0 (s .specials .ss) (s .specials .st) 0 0 0 0) 0 0 (s .transfer) Nothing
 
-tests-judging : (g : Settings) (s : State) (e : Effect) → effectTests g s e ≡ effectTests g (judging s) e
+tests-judging : (g : Settings) (x : Setup) (s : State) (e : Effect) → effectTests g x s e ≡ effectTests g x (judging s) e
 unfolding judging
-tests-judging g s (effect.Alu a) = refl
-tests-judging g s (effect.Special d v) = refl
-tests-judging g s (effect.Product l h) = refl
-tests-judging g s (effect.Load k w r a) = refl
-tests-judging g s (effect.Store k w a v) = refl
-tests-judging g s (effect.Stack c n x) = refl
-tests-judging g s (effect.Transfer d t) = refl
-tests-judging g s effect.Exception = refl
+tests-judging g x s (effect.Alu a) = refl
+tests-judging g x s (effect.Special d v) = refl
+tests-judging g x s (effect.Product l h) = refl
+tests-judging g x s (effect.Load k w r a) = refl
+tests-judging g x s (effect.Store k w a v) = refl
+tests-judging g x s (effect.Stack c n z) = refl
+tests-judging g x s (effect.Transfer d t) = refl
+tests-judging g x s effect.Exception = refl
 
 counts-judging : (g : Settings) (s : State) (e : Effect) → countsOf g s e ≡ countsOf g (judging s) e
 unfolding judging
@@ -45,33 +47,33 @@ counts-judging g s (effect.Special d v) = refl
 counts-judging g s (effect.Product l h) = refl
 counts-judging g s (effect.Load k w r a) = refl
 counts-judging g s (effect.Store k w a v) = refl
-counts-judging g s (effect.Stack c n x) = refl
+counts-judging g s (effect.Stack c n z) = refl
 counts-judging g s (effect.Transfer d t) = refl
 counts-judging g s effect.Exception = refl
 
-moved-judging : (g : Settings) (s : State) (c : StackControl) (n : ℕ) (b : Buffers) → stackMoved g s c n b ≡ stackMoved g (judging s) c n b
+moved-judging : (g : Settings) (x : Setup) (s : State) (c : StackControl) (n : ℕ) (b : Buffers) → stackMoved g x s c n b ≡ stackMoved g x (judging s) c n b
 unfolding judging stackMoved
-moved-judging g s c n b = refl
+moved-judging g x s c n b = refl
 
-module _ {m : Marking} (g : Settings) {s₁ s₂ : State} (a : SameState m s₁ s₂) where
+module _ {m : Marking} (g : Settings) (x : Setup) {s₁ s₂ : State} (a : SameState m s₁ s₂) where
   same-judging : judging s₁ ≡ judging s₂
   unfolding judging
   same-judging = λ i. state [] [] (specials 0 0 (a .specials .ss i) (a .specials .st i) 0 0 0 0) 0 0 (a .transfer i) Nothing
 
-  tests-same : (e : Effect) → effectTests g s₁ e ≡ effectTests g s₂ e
-  tests-same e = tests-judging g s₁ e ∙ ap (λ (s : State). effectTests g s e) same-judging ∙ sym (tests-judging g s₂ e)
+  tests-same : (e : Effect) → effectTests g x s₁ e ≡ effectTests g x s₂ e
+  tests-same e = tests-judging g x s₁ e ∙ ap (λ (s : State). effectTests g x s e) same-judging ∙ sym (tests-judging g x s₂ e)
 
   counts-same : (e : Effect) → countsOf g s₁ e ≡ countsOf g s₂ e
   counts-same e = counts-judging g s₁ e ∙ ap (λ (s : State). countsOf g s e) same-judging ∙ sym (counts-judging g s₂ e)
 
   -- The same effect is judged with the same number.
-  pub verdict-both : {e₁ e₂ : Effect} → SameEffect m e₁ e₂ → verdictOf (effectTests g s₁ e₁) ≡ verdictOf (effectTests g s₂ e₂)
+  pub verdict-both : {e₁ e₂ : Effect} → SameEffect m e₁ e₂ → verdictOf (effectTests g x s₁ e₁) ≡ verdictOf (effectTests g x s₂ e₂)
   verdict-both (of-alu h) = refl
   verdict-both (special h) = refl
   verdict-both (product h k) = refl
-  verdict-both (load {k} {w} {r} {a = x} h) = ap verdictOf (tests-same (effect.Load k w r x))
-  verdict-both (store {k} {w} {a = x} {v₁} h) = ap verdictOf (tests-same (effect.Store k w x v₁))
-  verdict-both (stack {c} {n} {x}) = ap verdictOf (tests-same (effect.Stack c n x))
+  verdict-both (load {k} {w} {r} {a = z} h) = ap verdictOf (tests-same (effect.Load k w r z))
+  verdict-both (store {k} {w} {a = z} {v₁} h) = ap verdictOf (tests-same (effect.Store k w z v₁))
+  verdict-both (stack {c} {n} {z}) = ap verdictOf (tests-same (effect.Stack c n z))
   verdict-both (transfer {d} {t}) = ap verdictOf (tests-same (effect.Transfer d t))
   verdict-both exception = refl
 
@@ -81,7 +83,7 @@ module _ {m : Marking} (g : Settings) {s₁ s₂ : State} (a : SameState m s₁ 
   counts-both (product h k) = refl
   counts-both (load h) = refl
   counts-both (store h) = refl
-  counts-both (stack {c} {n} {x}) = counts-same (effect.Stack c n x)
+  counts-both (stack {c} {n} {z}) = counts-same (effect.Stack c n z)
   counts-both (transfer {d} {t}) = refl
   counts-both exception = refl
 
@@ -94,48 +96,48 @@ counts-quiet g s (quiet-product h k) = refl
 counts-quiet g s (quiet-load h) = refl
 counts-quiet g s (quiet-store h) = refl
 
-pub counts-alike : {m : Marking} {e₁ e₂ : Effect} (g : Settings) {s₁ s₂ : State} → SameState m s₁ s₂ → AlikeEffect m e₁ e₂
+pub counts-alike : {m : Marking} {e₁ e₂ : Effect} (g : Settings) (x : Setup) {s₁ s₂ : State} → SameState m s₁ s₂ → AlikeEffect m e₁ e₂
     → countsOf g s₁ e₁ ≡ countsOf g s₂ e₂
-counts-alike g a (same-effect h) = counts-both g a h
-counts-alike g {s₁} {s₂} a (quiet-effects h k) = counts-quiet g s₁ h ∙ sym (counts-quiet g s₂ k)
+counts-alike g x a (same-effect h) = counts-both g x a h
+counts-alike g x {s₁} {s₂} a (quiet-effects h k) = counts-quiet g s₁ h ∙ sym (counts-quiet g s₂ k)
 
 -- The buffers after a bundle.
-module _ {m : Marking} (g : Settings) (ordered : g .lo ≤ g .hi) {s₁ s₂ : State} (a : SameState m s₁ s₂)
-    {b₁ b₂ : Buffers} (b : SameBuffers m (g .lo) (g .hi) b₁ b₂) (inside : g .hi ≤ length (b₁ .main)) where
-  buffers-both : {e₁ e₂ : Effect} → SameEffect m e₁ e₂ → Passed g s₁ e₁
-      → SameBuffers m (g .lo) (g .hi) (buffersAfter g s₁ e₁ b₁) (buffersAfter g s₂ e₂ b₂)
+module _ {m : Marking} (g : Settings) (x : Setup) (ordered : x .lo ≤ x .hi) {s₁ s₂ : State} (a : SameState m s₁ s₂)
+    {b₁ b₂ : Buffers} (b : SameBuffers m x b₁ b₂) (inside : x .hi ≤ length (b₁ .main)) where
+  buffers-both : {e₁ e₂ : Effect} → SameEffect m e₁ e₂ → Passed g x s₁ e₁
+      → SameBuffers m x (buffersAfter g x s₁ e₁ b₁) (buffersAfter g x s₂ e₂ b₂)
   unfolding buffersAfter
   buffers-both (of-alu h) p = b
   buffers-both (special h) p = b
   buffers-both (product h k) p = b
   buffers-both (load h) p = b
-  buffers-both (store {k} {w} {a = x} {v₁} {v₂} h) p = store-both m g b (s₁ .specials .st) (s₁ .specials .ss) k x (2 ^ storeScale w) v₁ v₂ (passed-open _ g _ _ k x _ p) h
-  buffers-both (stack {c} {n} {x}) p =
-      let e = moved-judging g s₁ c n b₂ ∙ ap (λ (s : State). stackMoved g s c n b₂) (same-judging g a) ∙ sym (moved-judging g s₂ c n b₂) in
-      subst (λ (x : Buffers). SameBuffers m (g .lo) (g .hi) (stackMoved g s₁ c n b₁) x) e (moved-both m g ordered s₁ c n b inside)
+  buffers-both (store {k} {w} {a = z} {v₁} {v₂} h) p = store-both m g x b (s₁ .specials .st) (s₁ .specials .ss) k z (2 ^ storeScale w) v₁ v₂ (passed-open _ g _ _ k z _ p) h
+  buffers-both (stack {c} {n} {z}) p =
+      let e = moved-judging g x s₁ c n b₂ ∙ ap (λ (s : State). stackMoved g x s c n b₂) (same-judging g x a) ∙ sym (moved-judging g x s₂ c n b₂) in
+      subst (λ (z : Buffers). SameBuffers m x (stackMoved g x s₁ c n b₁) z) e (moved-both m g x ordered s₁ c n b inside)
   buffers-both transfer p = b
   buffers-both exception p = b
 
-  buffers-quiet : {e : Effect} (s : State) (c : Buffers) → QuietEffect m e → Passed g s e → SameBuffers m (g .lo) (g .hi) (buffersAfter g s e c) c
+  buffers-quiet : {e : Effect} (s : State) (c : Buffers) → QuietEffect m e → Passed g x s e → SameBuffers m x (buffersAfter g x s e c) c
   unfolding buffersAfter
   buffers-quiet s c (quiet-alu h) p = buffers-refl c
   buffers-quiet s c (quiet-special h) p = buffers-refl c
   buffers-quiet s c (quiet-product h k) p = buffers-refl c
   buffers-quiet s c (quiet-load h) p = buffers-refl c
-  buffers-quiet s c (quiet-store {k} {w} {a = x} {v} h) p = store-quiet m g c (s .specials .st) (s .specials .ss) k x (2 ^ storeScale w) v (passed-open _ g _ _ k x _ p) h
+  buffers-quiet s c (quiet-store {k} {w} {a = z} {v} h) p = store-quiet m g x c (s .specials .st) (s .specials .ss) k z (2 ^ storeScale w) v (passed-open _ g _ _ k z _ p) h
 
-  buffers-alike : {e₁ e₂ : Effect} → AlikeEffect m e₁ e₂ → Passed g s₁ e₁ → Passed g s₂ e₂
-      → SameBuffers m (g .lo) (g .hi) (buffersAfter g s₁ e₁ b₁) (buffersAfter g s₂ e₂ b₂)
+  buffers-alike : {e₁ e₂ : Effect} → AlikeEffect m e₁ e₂ → Passed g x s₁ e₁ → Passed g x s₂ e₂
+      → SameBuffers m x (buffersAfter g x s₁ e₁ b₁) (buffersAfter g x s₂ e₂ b₂)
   buffers-alike (same-effect h) p q = buffers-both h p
   buffers-alike (quiet-effects h k) p q = buffers-trans (buffers-quiet s₁ b₁ h p) (buffers-trans b (buffers-sym (buffers-quiet s₂ b₂ k q)))
 
   -- The state after a bundle.
-  written-alike : {e₁ e₂ : Effect} {two₁ two₂ : AluEffect} (following : ℕ) → AlikeEffect m e₁ e₂ → AlikeAlu m two₁ two₂ → Passed g s₁ e₁
+  written-alike : {e₁ e₂ : Effect} {two₁ two₂ : AluEffect} (following : ℕ) → AlikeEffect m e₁ e₂ → AlikeAlu m two₁ two₂ → Passed g x s₁ e₁
       → length (s₁ .predicates) ≡ 8 → length (s₂ .predicates) ≡ 8 → getD (s₁ .predicates) 0 false ≡ true → getD (s₂ .predicates) 0 false ≡ true
       → SameState m (written g b₁ s₁ e₁ two₁ following) (written g b₂ s₂ e₂ two₂ following)
   unfolding written
   written-alike {e₁} {e₂} {two₁} {two₂} following e two p n₁ n₂ t₁ t₂ =
-      let one = writeOne-alike g b a (landed-both a) e p (landed-none s₁) (landed-none s₂) (ap length (landed-predicates s₁) ∙ n₁) (ap length (landed-predicates s₂) ∙ n₂)
+      let one = writeOne-alike g x b a (landed-both a) e p (landed-none s₁) (landed-none s₂) (ap length (landed-predicates s₁) ∙ n₁) (ap length (landed-predicates s₂) ∙ n₂)
       (ap (λ (l : List Bool). getD l 0 false) (landed-predicates s₁) ∙ t₁) (ap (λ (l : List Bool). getD l 0 false) (landed-predicates s₂) ∙ t₂) in
       let after₁ = writeAlu two₁ (writeOne g b₁ s₁ e₁ (landed s₁)) in
       let after₂ = writeAlu two₂ (writeOne g b₂ s₂ e₂ (landed s₂)) in
@@ -143,8 +145,8 @@ module _ {m : Marking} (g : Settings) (ordered : g .lo ≤ g .hi) {s₁ s₂ : S
       (a .transfer) (onward-alike (writeAlu-alike one two) (s₁ .transfer) following e)
 
   -- Both.
-  pub done-alike : {e₁ e₂ : Effect} {two₁ two₂ : AluEffect} (following : ℕ) → AlikeEffect m e₁ e₂ → AlikeAlu m two₁ two₂ → Passed g s₁ e₁
-      → Passed g s₂ e₂
+  pub done-alike : {e₁ e₂ : Effect} {two₁ two₂ : AluEffect} (following : ℕ) → AlikeEffect m e₁ e₂ → AlikeAlu m two₁ two₂ → Passed g x s₁ e₁
+      → Passed g x s₂ e₂
       → length (s₁ .predicates) ≡ 8 → length (s₂ .predicates) ≡ 8 → getD (s₁ .predicates) 0 false ≡ true → getD (s₂ .predicates) 0 false ≡ true
-      → Agree m (g .lo) (g .hi) (written g b₁ s₁ e₁ two₁ following) (buffersAfter g s₁ e₁ b₁) (written g b₂ s₂ e₂ two₂ following) (buffersAfter g s₂ e₂ b₂)
+      → Agree m x (written g b₁ s₁ e₁ two₁ following) (buffersAfter g x s₁ e₁ b₁) (written g b₂ s₂ e₂ two₂ following) (buffersAfter g x s₂ e₂ b₂)
   done-alike following e two p q n₁ n₂ t₁ t₂ = record { state = written-alike following e two p n₁ n₂ t₁ t₂; buffers = buffers-alike e p q }

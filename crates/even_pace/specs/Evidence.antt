@@ -8,28 +8,30 @@ use mathlib.Core.Option.{some}
 use mathlib.Core.Path.{_≡_, refl, sym, ap, subst, _∙_}
 use native.Mathlib.Omega.{arith}
 use lib.ListN.{getElem?}
-use Rattle.settings.specs.Answer.{Returned, ended, refused}
+use Rattle.answers.specs.Answer.{Returned, ended, refused}
 use Rattle.state.specs.State.{State}
 use Rattle.state.specs.declared.WaitingLoad.the-variants as load
 use Rattle.bundle_rules.specs.declared.Counts.{Counts}
-use Rattle.bundle_rules.specs.Bundle.{noCounts, bundleAt, step}
+use Rattle.bundle_rules.specs.Bundle.{step}
 use Rattle.run_rules.specs.Run.{run, Tried, triedAt, tries}
 use Rattle.marking.specs.Marking.{publicRegister}
 use Rattle.single_path.specs.Check.{Walked, first, accepted}
 use Rattle.single_path.specs.WalkLaws.{walked-inside}
-use Rattle.even_pace.specs.Terms.{Agree, hasPrivateAccess, Stops, not-walked, refused-access, SameTried, StopsAt, EvenPace}
+use Rattle.even_pace.specs.Terms.{Agree, hasPrivateAccess, Stops, not-walked, refused-access, SameTried, EvenPace}
 use Rattle.even_pace.specs.WriteLaws.{load-quiet, waits-private, waits-none}
 use Rattle.even_pace.specs.BufferLaws.{buffers-refl}
 use Rattle.even_pace.specs.StopLaws.{isRefused}
-use Rattle.even_pace.specs.ListLaws.{orElse, isSome, stops-here}
+use Rattle.even_pace.specs.ListLaws.{orElse, isSome, stops-here, StopTried}
 use Rattle.even_pace.specs.Theorem.{even-pace}
-use Rattle.even_pace.specs.Examples.{bytesOf, lo, hi, lent, marking, begin, check, broken, hasAccess, tried, answered, begin-shaped, begin-well, begin-agree}
+use Rattle.even_pace.specs.Examples.{bytesOf, within, lent, marking, begin, check, broken, hasAccess, tried, answered, begin-shaped, begin-well, begin-agree}
+use Rattle.bundle_rules.specs.Counts.{noCounts}
+use Rattle.fetch.specs.Fetch.{bundleAt}
 
 -- Even pace of two runs of a program from states that differ in r1 and p1.
 abbrev pub Even : ℕ → List ℕ → State → State → Type 0
 Even k code s₁ s₂ =
-    EvenPace marking code lo hi (tries code lo hi k s₁ lent noCounts) (tries code lo hi k s₂ lent noCounts)
-    (run code lo hi k s₁ lent .answer) (run code lo hi k s₂ lent .answer)
+    EvenPace marking (within code) (tries (within code) k s₁ lent noCounts) (tries (within code) k s₂ lent noCounts)
+    (run (within code) k s₁ lent .answer) (run (within code) k s₂ lent .answer)
 
 -- (p1) lwl r1 = [r0]; add r1 = r1, r1; add r2 = r2 + 1: accepted, and even whatever r1, p1 and the budget are.
 abbrev pub program : List ℕ
@@ -42,8 +44,8 @@ program-accepted = refl
 pub program-even : (k v₁ v₂ : ℕ) (p₁ p₂ : Bool) → Even k program (begin v₁ p₁ load.Nothing) (begin v₂ p₂ load.Nothing)
 unfolding check
 program-even k v₁ v₂ p₁ p₂ =
-    even-pace program lo hi k marking (begin v₁ p₁ load.Nothing) (begin v₂ p₂ load.Nothing) lent lent program-accepted
-    (begin-shaped v₁ p₁ load.Nothing) (begin-shaped v₂ p₂ load.Nothing) (begin-well v₁ p₁) (begin-well v₂ p₂) (begin-agree v₁ v₂ p₁ p₂)
+    even-pace (within program) k marking (begin v₁ p₁ load.Nothing) (begin v₂ p₂ load.Nothing) lent lent program-accepted
+    (begin-shaped v₁ p₁ load.Nothing) (begin-shaped v₂ p₂ load.Nothing) (begin-well v₁ p₁) (begin-well v₂ p₂) (begin-agree program v₁ v₂ p₁ p₂)
 
 pub program-ends : (answered 3 program (begin 7 true load.Nothing) ≡ ended) × (answered 3 program (begin 9 false load.Nothing) ≡ ended)
 unfolding answered
@@ -55,7 +57,7 @@ goes code t w e (not-walked n) = n w
 goes code t w e (refused-access n p q) = false≢true (sym e ∙ q)
 
 module _ (code : List ℕ) (t₁ t₂ : Tried) (a₁ a₂ : Returned) (n₁ : ¬ Stops marking code t₁) (n₂ : ¬ Stops marking code t₂) where
-  not-at : (k : ℕ) → StopsAt marking code lo hi (t₁ ∷ []) (t₂ ∷ []) k → ⊥
+  not-at : (k : ℕ) → StopTried marking (within code) (t₁ ∷ []) (t₂ ∷ []) k → ⊥
   not-at zero s = go (s .stops)
     where
       go : Stops marking code (s .t₁) ⊎ Stops marking code (s .t₂) → ⊥
@@ -63,13 +65,13 @@ module _ (code : List ℕ) (t₁ t₂ : Tried) (a₁ a₂ : Returned) (n₁ : ¬
       go (inr h) = n₂ (subst (Stops marking code) (sym (ap (orElse t₂) (s .tried₂))) h)
   not-at (suc k) s = false≢true (ap isSome (s .tried₁))
 
-  uneven : (SameTried marking lo hi t₁ t₂ → a₁ ≡ a₂ → ⊥) → EvenPace marking code lo hi (t₁ ∷ []) (t₂ ∷ []) a₁ a₂ → ⊥
+  uneven : (SameTried marking (within code) t₁ t₂ → a₁ ≡ a₂ → ⊥) → EvenPace marking (within code) (t₁ ∷ []) (t₂ ∷ []) a₁ a₂ → ⊥
   uneven d (inl s) = not-at (s .0) (s .1)
   uneven d (inr w) = d (w .each 0 t₁ t₂ refl refl .2) (w .answers)
 
 -- One bundle of a program, as it is tried from a state.
 abbrev one : List ℕ → State → Tried
-one code s = triedAt 0 noCounts (step code lo hi s lent)
+one code s = triedAt 0 noCounts (step (within code) s lent)
 
 -- A: (p1) brnd 1 takes 3 cycles or 1.
 abbrev pub programA : List ℕ
@@ -156,7 +158,7 @@ uneven-E =
     (λ s e. absurd (omega (arith, s .contents .state .fetch)))
 
 -- A load to a register that is no public destination waits in one run only.
-private-load : (r : ℕ) → publicRegister marking r ≡ false → Agree marking lo hi (begin 0 true (load.Waits r 9)) lent (begin 0 true load.Nothing) lent
+private-load : (r : ℕ) → publicRegister marking r ≡ false → Agree marking (within []) (begin 0 true (load.Waits r 9)) lent (begin 0 true load.Nothing) lent
 private-load r h =
     record {
       state = load-quiet (begin 0 true load.Nothing) (load.Waits r 9) load.Nothing (waits-private marking r 9 h) (waits-none marking);
@@ -164,13 +166,13 @@ private-load r h =
     }
 
 -- Waiting loads to r0 and to the private r1 may be in one run only; one to the public r2 may not.
-pub load-to-r0 : Agree marking lo hi (begin 0 true (load.Waits 0 9)) lent (begin 0 true load.Nothing) lent
+pub load-to-r0 : Agree marking (within []) (begin 0 true (load.Waits 0 9)) lent (begin 0 true load.Nothing) lent
 load-to-r0 = private-load 0 refl
 
-pub load-to-r1 : Agree marking lo hi (begin 0 true (load.Waits 1 9)) lent (begin 0 true load.Nothing) lent
+pub load-to-r1 : Agree marking (within []) (begin 0 true (load.Waits 1 9)) lent (begin 0 true load.Nothing) lent
 load-to-r1 = private-load 1 refl
 
-pub load-to-r2 : Agree marking lo hi (begin 0 true (load.Waits 2 9)) lent (begin 0 true load.Nothing) lent → ⊥
+pub load-to-r2 : Agree marking (within []) (begin 0 true (load.Waits 2 9)) lent (begin 0 true load.Nothing) lent → ⊥
 load-to-r2 a = waits-none marking 2 9 refl (a .state .load 2 9 refl .0 refl)
 
 -- (p1) lwl r0 = [r0] is accepted, and leaves such a load in one run only.
@@ -202,8 +204,8 @@ pub stops-S : Stops marking programS (one programS (begin 0 true load.Nothing))
 unfolding tried hasAccess
 stops-S = refused-access 6 refl refl
 
-pub first-S : StopsAt marking programS lo hi (tries programS lo hi 1 (begin 0 true load.Nothing) lent noCounts)
-    (tries programS lo hi 1 (begin 0 false load.Nothing) lent noCounts) 0
+pub first-S : StopTried marking (within programS) (tries (within programS) 1 (begin 0 true load.Nothing) lent noCounts)
+    (tries (within programS) 1 (begin 0 false load.Nothing) lent noCounts) 0
 unfolding tried
 first-S = stops-here (one programS (begin 0 true load.Nothing)) (one programS (begin 0 false load.Nothing)) [] [] refl (inl stops-S)
 

@@ -11,17 +11,16 @@ use Rattle.isa.specs.Format.{reading, row}
 use Rattle.decoder.specs.Decode as decoder
 use Rattle.decoder.specs.Decode.{bundleWords, guardOf, slotTwo, decode}
 use Rattle.stack_cache.specs.Stack.{isCacheSize, cacheWord, putCacheWord, partOf, putPart, cacheNumber, putCacheNumber, below, spillWhile, fillWhile, topAfter, spills, fills, spillAfter, badWindow, badAmount, every, movedOutside, spilled, filled}
-use Rattle.settings.specs.Answer.{Returned}
+use Rattle.answers.specs.Answer.{Returned}
 use Rattle.settings.specs.Settings.{admits}
-use Rattle.memory.specs.Access.{Buffers, buffers, loadScale, storeScale, readNumber, extended, loadedValue, stored, mainOpen, accessOpen, verdict}
+use Rattle.memory.specs.Access.{loadScale, storeScale, readNumber, extended, loadedValue, stored, mainOpen, accessOpen}
 use Rattle.alu_effects.specs.AluEffects.{predicatesWord, special, op2Value, aluEffect, slotTwoEffect}
 use Rattle.effects.specs.Effect.{accessAddress, amountWords, amountAligned, stackEffect, transferOf, effectOf, slotOneEffect}
 use Rattle.state.specs.State.{State, Shaped, state, specials, withRegister, withPredicate, predicatesOf, withSpecial, landed, transferred, wellFormed, ended as hasEnded}
 use Rattle.state.specs.declared.WaitingTransfer.the-variants as transfer
 use Rattle.state.specs.declared.WaitingLoad.{WaitingLoad}
 use Rattle.state.specs.declared.WaitingLoad.the-variants as load
-use Rattle.bundle_rules.specs.Refusal.{outsideCode}
-use Rattle.bundle_rules.specs.Bundle.{stackMoved, buffersAfter, writeOne, written, bundleAt, noCounts, bundle, readiness, step}
+use Rattle.bundle_rules.specs.Bundle.{stackMoved, buffersAfter, writeOne, written, bundle, readiness, step}
 use Rattle.state.specs.Writes.{writeAlu, delaySlots}
 use Rattle.run_rules.specs.Run.{run, Tried, tries}
 use Rattle.marking.specs.declared.Marking.{Marking}
@@ -32,6 +31,10 @@ use Rattle.single_path.specs.Check.{CheckAnswer, walkFrom, checked}
 use Rattle.even_pace.specs.Terms.{Agree, hasPrivateAccess}
 use Rattle.even_pace.specs.StateLaws.{state-refl, with-registers, with-predicates}
 use Rattle.even_pace.specs.BufferLaws.{buffers-refl}
+use Rattle.settings.specs.Setup.{Setup, Buffers, buffers, touches}
+use Rattle.answers.specs.Test.{verdict}
+use Rattle.fetch.specs.Fetch.{outsideCode, bundleAt}
+use Rattle.bundle_rules.specs.Counts.{noCounts}
 
 -- The bytes of code words.
 abbrev pub bytesOf : List ℕ → List ℕ
@@ -39,11 +42,8 @@ bytesOf [] = []
 bytesOf (w ∷ ws) = w / 16777216 ∷ w / 65536 % 256 ∷ w / 256 % 256 ∷ w % 256 ∷ bytesOf ws
 
 -- Main memory of 32 bytes with the stack area from 16 on, 4 bytes of local memory and a cache of 4 words, all zero.
-abbrev pub lo : ℕ
-lo = 16
-
-abbrev pub hi : ℕ
-hi = 32
+abbrev pub within : List ℕ → Setup
+within code = record { code = code; lo = 16; hi = 32 }
 
 abbrev pub lent : Buffers
 lent = buffers (replicate 32 0) (replicate 4 0) (replicate 4 0)
@@ -63,14 +63,14 @@ marking =
 
 -- A state at address 0 with a value in r1, one in p1, and a load that waits or none.
 abbrev pub begin : ℕ → Bool → WaitingLoad → State
-begin v p waiting = state (0 ∷ v ∷ replicate 30 0) (true ∷ p ∷ replicate 6 false) (specials 0 0 hi hi 0 4 0 0) 0 0 transfer.Nothing waiting
+begin v p waiting = state (0 ∷ v ∷ replicate 30 0) (true ∷ p ∷ replicate 6 false) (specials 0 0 32 32 0 4 0 0) 0 0 transfer.Nothing waiting
 
 -- What the check answers, which rules the bundle at 0 breaks, what a run tries, and what it answers. (The first line of each names
 -- the definitions by which it is computed.)
 unfoldable pub check : List ℕ → CheckAnswer
-unfolding checked walkFrom admits isCacheSize markingOk outsideCode numberAt bundleWords decode guardOf decoder.slotOne slotTwo reading row signed
+unfolding checked walkFrom verdict admits isCacheSize markingOk outsideCode numberAt bundleWords decode guardOf decoder.slotOne slotTwo reading row signed
     keeps breaks operationBreaks asked breaksA breaksB breaksC breaksD breaksE privateStore someOf
-check code = checked code 32 4 4 lo hi marking
+check code = checked (within code) 32 4 4 marking
 
 unfoldable pub broken : List ℕ → List Bool
 unfolding numberAt bundleWords decode guardOf decoder.slotOne slotTwo reading row signed breaks operationBreaks asked breaksA breaksB breaksC breaksD breaksE privateStore someOf
@@ -86,15 +86,15 @@ unfolding tries step readiness admits isCacheSize wellFormed hasEnded bundle
     slotOneEffect slotTwoEffect effectOf aluEffect op2Value arithmetic multiply compare combine
     lessSigned lessEqualSigned shiftRightSigned copyBit productSigned predicatesWord special
     loadScale storeScale accessAddress stackEffect amountWords amountAligned transferOf
-    verdict mainOpen accessOpen badWindow badAmount movedOutside every spills spillWhile below fills fillWhile topAfter spillAfter
+    verdict touches mainOpen accessOpen badWindow badAmount movedOutside every spills spillWhile below fills fillWhile topAfter spillAfter
     written landed writeOne writeAlu withRegister withPredicate withSpecial predicatesOf delaySlots transferred
     loadedValue extended signExtend readNumber cacheNumber cacheWord partOf
     buffersAfter stored putNumber putCacheNumber putCacheWord putPart stackMoved spilled filled
-tried k code s = tries code lo hi k s lent noCounts
+tried k code s = tries (within code) k s lent noCounts
 
 unfoldable pub answered : ℕ → List ℕ → State → Returned
 unfolding run tried tries
-answered k code s = run code lo hi k s lent .answer
+answered k code s = run (within code) k s lent .answer
 
 -- Such states have the right shape, and any two of them agree.
 pub begin-shaped : (v : ℕ) (p : Bool) (w : WaitingLoad) → Shaped (begin v p w)
@@ -104,8 +104,8 @@ pub begin-well : (v : ℕ) (p : Bool) → wellFormed (begin v p load.Nothing) �
 unfolding wellFormed
 begin-well v p = refl
 
-pub begin-agree : (v₁ v₂ : ℕ) (p₁ p₂ : Bool) → Agree marking lo hi (begin v₁ p₁ load.Nothing) lent (begin v₂ p₂ load.Nothing) lent
-begin-agree v₁ v₂ p₁ p₂ =
+pub begin-agree : (code : List ℕ) (v₁ v₂ : ℕ) (p₁ p₂ : Bool) → Agree marking (within code) (begin v₁ p₁ load.Nothing) lent (begin v₂ p₂ load.Nothing) lent
+begin-agree code v₁ v₂ p₁ p₂ =
     record {
       state = with-predicates (with-registers (state-refl (begin v₁ p₁ load.Nothing)) (0 ∷ v₁ ∷ replicate 30 0) (0 ∷ v₂ ∷ replicate 30 0) (record { lengths = refl; places = registers }))
           (true ∷ p₁ ∷ replicate 6 false) (true ∷ p₂ ∷ replicate 6 false) (record { lengths = refl; places = predicates });

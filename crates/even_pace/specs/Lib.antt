@@ -11,7 +11,6 @@ pub mod RuleLaws
 pub mod SlotLaws
 pub mod BundleLaws
 pub mod StopLaws
-pub mod WellLaws
 pub mod ListLaws
 pub mod TriesLaws
 pub mod Pace

@@ -10,13 +10,12 @@ use Rattle.isa.specs.declared.Bundle.{Bundle}
 use Rattle.isa.specs.declared.Bundle.the-variants.{Undecodable, One, Two, Long}
 use Rattle.word.specs.BoolLaws.{or-left, or-right}
 use Rattle.settings.specs.declared.Settings.{Settings}
-use Rattle.memory.specs.declared.Verdict.the-variants as verdict
-use Rattle.memory.specs.Access.{verdict as verdictOf}
+use Rattle.answers.specs.declared.Verdict.the-variants as verdict
 use Rattle.alu_effects.specs.declared.AluEffect.the-variants as alu
 use Rattle.effects.specs.declared.Effect.{Effect}
 use Rattle.effects.specs.declared.Effect.the-variants as effect
 use Rattle.alu_effects.specs.AluEffects.{holds, aluEffect, slotTwoEffect}
-use Rattle.effects.specs.Effect.{effectOf, slotOneEffect, slotOne, slotTwo, isUndecodable}
+use Rattle.effects.specs.Effect.{effectOf, slotOneEffect, slotOne, slotTwo}
 use Rattle.state.specs.State.{State, startOf}
 use Rattle.bundle_rules.specs.Refusal.{effectTests}
 use Rattle.marking.specs.declared.Marking.{Marking}
@@ -27,40 +26,43 @@ use Rattle.marking_rules.specs.Rules.{asked, breaksA, breaksB, operationBreaks,
 use Rattle.even_pace.specs.Terms.{SameState, privateAccess, hasPrivateAccess}
 use Rattle.even_pace.specs.Alike.{SameEffect, of-alu, no-write, QuietAlu, quiet-none, QuietEffect, quiet-alu, AlikeAlu, same-alu, both-quiet}
 use Rattle.even_pace.specs.RuleLaws.{Keeps, stack-guarded, transfer-guarded, alu-quiet, operation-quiet, holds-same, alu-same, operation-same}
+use Rattle.answers.specs.Test.{verdict as verdictOf}
+use Rattle.fetch.specs.Fetch.{isUndecodable}
+use Rattle.settings.specs.Setup.{Setup}
 
 -- Slot one in both runs: the same effect; or effects that do not show, which only a load or store can have refused.
-pub data SlotCase (m : Marking) (g : Settings) (s₁ s₂ : State) (access : Bool) (e₁ e₂ : Effect) : Type 0 where
-  public-slot : SameEffect m e₁ e₂ → SlotCase m g s₁ s₂ access e₁ e₂
-  private-slot : QuietEffect m e₁ → QuietEffect m e₂ → (access ≡ false → verdictOf (effectTests g s₁ e₁) ≡ verdict.Fine)
-      → (access ≡ false → verdictOf (effectTests g s₂ e₂) ≡ verdict.Fine)
-      → SlotCase m g s₁ s₂ access e₁ e₂
+pub data SlotCase (m : Marking) (g : Settings) (x : Setup) (s₁ s₂ : State) (access : Bool) (e₁ e₂ : Effect) : Type 0 where
+  public-slot : SameEffect m e₁ e₂ → SlotCase m g x s₁ s₂ access e₁ e₂
+  private-slot : QuietEffect m e₁ → QuietEffect m e₂ → (access ≡ false → verdictOf (effectTests g x s₁ e₁) ≡ verdict.Fine)
+      → (access ≡ false → verdictOf (effectTests g x s₂ e₂) ≡ verdict.Fine)
+      → SlotCase m g x s₁ s₂ access e₁ e₂
 
 instruction-keeps : (m : Marking) (p : Bool) (o : Operation) → ((r : Rule) → operationBreaks m p o r ≡ false) → Keeps m p o
 unfolding operationBreaks
 instruction-keeps m p o h = record { a = h rule.A; b = h rule.B; c = h rule.C; d = h rule.D; e = h rule.E }
 
 -- Under a private guard only a load or store can be refused.
-quiet-fine : (m : Marking) (g : Settings) (s : State) (o : Operation) → Keeps m true o → asked m o .access ≡ false
-    → verdictOf (effectTests g s (effectOf (startOf s) o)) ≡ verdict.Fine
+quiet-fine : (m : Marking) (g : Settings) (x : Setup) (s : State) (o : Operation) → Keeps m true o → asked m o .access ≡ false
+    → verdictOf (effectTests g x s (effectOf (startOf s) o)) ≡ verdict.Fine
 unfolding asked breaksA effectOf verdictOf
-quiet-fine m g s (Alu o) k h = refl
-quiet-fine m g s (Multiply f x y) k h = refl
-quiet-fine m g s (Mts d r) k h = refl
-quiet-fine m g s (Mfs r d) k h = refl
-quiet-fine m g s (Load j w rd ra o) k h = absurd (false≢true (sym h))
-quiet-fine m g s (Store j w ra rs o) k h = absurd (false≢true (sym h))
-quiet-fine m g s (StackControl o) k h = absurd (false≢true (sym (k .a) ∙ stack-guarded m o))
-quiet-fine m g s (Transfer d t) k h = absurd (false≢true (sym (k .a) ∙ transfer-guarded m d t))
-quiet-fine m g s (Trap n) k h = absurd (false≢true (sym (k .a)))
-quiet-fine m g s (Xret d) k h = absurd (false≢true (sym (k .a)))
+quiet-fine m g x s (Alu o) k h = refl
+quiet-fine m g x s (Multiply f z y) k h = refl
+quiet-fine m g x s (Mts d r) k h = refl
+quiet-fine m g x s (Mfs r d) k h = refl
+quiet-fine m g x s (Load j w rd ra o) k h = absurd (false≢true (sym h))
+quiet-fine m g x s (Store j w ra rs o) k h = absurd (false≢true (sym h))
+quiet-fine m g x s (StackControl o) k h = absurd (false≢true (sym (k .a) ∙ stack-guarded m o))
+quiet-fine m g x s (Transfer d t) k h = absurd (false≢true (sym (k .a) ∙ transfer-guarded m d t))
+quiet-fine m g x s (Trap n) k h = absurd (false≢true (sym (k .a)))
+quiet-fine m g x s (Xret d) k h = absurd (false≢true (sym (k .a)))
 
-nothing-fine : (g : Settings) (s : State) → verdictOf (effectTests g s (effect.Alu alu.Nothing)) ≡ verdict.Fine
+nothing-fine : (g : Settings) (x : Setup) (s : State) → verdictOf (effectTests g x s (effect.Alu alu.Nothing)) ≡ verdict.Fine
 unfolding verdictOf
-nothing-fine g s = refl
+nothing-fine g x s = refl
 
-module _ {m : Marking} (g : Settings) {s₁ s₂ : State} (a : SameState m s₁ s₂) (eight : length (s₁ .predicates) ≡ 8) where
+module _ {m : Marking} (g : Settings) (x : Setup) {s₁ s₂ : State} (a : SameState m s₁ s₂) (eight : length (s₁ .predicates) ≡ 8) where
   slot-one : (i : Instruction) → ((r : Rule) → instructionBreaks m i r ≡ false)
-      → SlotCase m g s₁ s₂ (privateAccess m i) (slotOneEffect (startOf s₁) i) (slotOneEffect (startOf s₂) i)
+      → SlotCase m g x s₁ s₂ (privateAccess m i) (slotOneEffect (startOf s₁) i) (slotOneEffect (startOf s₂) i)
   unfolding slotOneEffect
   slot-one i h = go (privateGuard m (i .guard)) refl (instruction-keeps m (privateGuard m (i .guard)) (i .operation) h)
     where
@@ -83,12 +85,12 @@ module _ {m : Marking} (g : Settings) {s₁ s₂ : State} (a : SameState m s₁ 
       quiet s true k = operation-quiet m s o k
       quiet s false k = quiet-alu quiet-none
 
-      fine : (s : State) (t : Bool) → Keeps m true o → access ≡ false → verdictOf (effectTests g s (e s t)) ≡ verdict.Fine
-      fine s true k q = quiet-fine m g s o k q
-      fine s false k q = nothing-fine g s
+      fine : (s : State) (t : Bool) → Keeps m true o → access ≡ false → verdictOf (effectTests g x s (e s t)) ≡ verdict.Fine
+      fine s true k q = quiet-fine m g x s o k q
+      fine s false k q = nothing-fine g x s
 
       go : (p : Bool) → privateGuard m (i .guard) ≡ p → Keeps m p o
-          → SlotCase m g s₁ s₂ (p && access) (e s₁ (holds (s₁ .predicates) (i .guard))) (e s₂ (holds (s₂ .predicates) (i .guard)))
+          → SlotCase m g x s₁ s₂ (p && access) (e s₁ (holds (s₁ .predicates) (i .guard))) (e s₂ (holds (s₂ .predicates) (i .guard)))
       go false p k = public-slot (same (holds (s₁ .predicates) (i .guard)) (holds (s₂ .predicates) (i .guard)) (holds-same a eight (i .guard) p) k)
       go true p k =
           let t = holds (s₁ .predicates) (i .guard) in
@@ -120,7 +122,7 @@ module _ {m : Marking} (g : Settings) {s₁ s₂ : State} (a : SameState m s₁ 
       go true p k = both-quiet (quiet s₁ (holds (s₁ .predicates) (j .guard)) k) (quiet s₂ (holds (s₂ .predicates) (j .guard)) k)
 
   pub bundle-one : (i : Bundle) → isUndecodable i ≡ false → ((r : Rule) → breaks m i r ≡ false)
-      → SlotCase m g s₁ s₂ (hasPrivateAccess m i) (slotOne (startOf s₁) i) (slotOne (startOf s₂) i)
+      → SlotCase m g x s₁ s₂ (hasPrivateAccess m i) (slotOne (startOf s₁) i) (slotOne (startOf s₂) i)
   unfolding breaks hasPrivateAccess
   bundle-one Undecodable d h = absurd (false≢true (sym d))
   bundle-one (One i) d h = slot-one i h

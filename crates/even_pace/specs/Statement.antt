@@ -3,20 +3,20 @@ use Prim.Native.Nat.{ℕ}
 use mathlib.Core.Bool.{true}
 use mathlib.Core.List.{List}
 use mathlib.Core.Path.{_≡_}
-use Rattle.memory.specs.Access.{Buffers}
 use Rattle.state.specs.State.{State, Shaped, wellFormed}
-use Rattle.bundle_rules.specs.Bundle.{noCounts}
 use Rattle.run_rules.specs.Run.{run, tries}
 use Rattle.marking.specs.declared.Marking.{Marking}
 use Rattle.even_pace.specs.Terms.{Accepted, Agree, EvenPace}
+use Rattle.settings.specs.Setup.{Buffers, Setup}
+use Rattle.bundle_rules.specs.Counts.{noCounts}
 
 -- Take accepted code, and two runs of it whose settings, marking and budget are the same. If both first states are well formed and all
 -- that is public is the same in both, the runs keep even pace. A state's lists of registers and predicates have the lengths that its
 -- type gives them.
 abbrev pub Demand3 : Type 0
-Demand3 = (code : List ℕ) (lo hi budget : ℕ) (m : Marking) (s₁ s₂ : State) (b₁ b₂ : Buffers)
-    → Accepted code lo hi m b₁
+Demand3 = (x : Setup) (budget : ℕ) (m : Marking) (s₁ s₂ : State) (b₁ b₂ : Buffers)
+    → Accepted x m b₁
     → Shaped s₁ → Shaped s₂ → wellFormed s₁ ≡ true → wellFormed s₂ ≡ true
-    → Agree m lo hi s₁ b₁ s₂ b₂
-    → EvenPace m code lo hi (tries code lo hi budget s₁ b₁ noCounts) (tries code lo hi budget s₂ b₂ noCounts)
-    (run code lo hi budget s₁ b₁ .answer) (run code lo hi budget s₂ b₂ .answer)
+    → Agree m x s₁ b₁ s₂ b₂
+    → EvenPace m x (tries x budget s₁ b₁ noCounts) (tries x budget s₂ b₂ noCounts)
+    (run x budget s₁ b₁ .answer) (run x budget s₂ b₂ .answer)

@@ -13,17 +13,17 @@ use Rattle.isa.specs.declared.Bundle.{Bundle}
 use Rattle.isa.specs.declared.Bundle.the-variants.{Undecodable, One, Two, Long}
 use Rattle.word.specs.BoolLaws.{and-right}
 use Rattle.settings.specs.declared.Settings.{Settings}
-use Rattle.memory.specs.declared.Verdict.{Verdict}
-use Rattle.memory.specs.declared.Verdict.the-variants.{Fine as Passing, Refused}
-use Rattle.settings.specs.Answer.{Returned, accepted, done, ended, spent, refused}
-use Rattle.memory.specs.Access.{Buffers, verdict as verdictOf, loadScale, storeScale, badAccess, mainReadable, mainWritable, accessOpen, accessTests}
+use Rattle.answers.specs.declared.Verdict.{Verdict}
+use Rattle.answers.specs.declared.Verdict.the-variants.{Fine as Passing, Refused}
+use Rattle.answers.specs.Answer.{Returned, accepted, done, ended, spent, refused}
+use Rattle.memory.specs.Access.{loadScale, storeScale, badAccess, mainReadable, mainWritable, accessOpen, accessTests}
 use Rattle.alu_effects.specs.declared.AluEffect.the-variants as alu
 use Rattle.effects.specs.declared.Effect.the-variants as effect
 use Rattle.alu_effects.specs.AluEffects.{holds}
 use Rattle.effects.specs.Effect.{address, effectOf, slotOneEffect, slotOne}
 use Rattle.state.specs.State.{State, startOf}
 use Rattle.bundle_rules.specs.Refusal.{effectTests}
-use Rattle.bundle_rules.specs.Bundle.{Outcome, bundleAt, followingAt, refusedOr, bundle}
+use Rattle.bundle_rules.specs.Bundle.{Outcome, refusedOr, bundle}
 use Rattle.marking.specs.declared.Marking.{Marking}
 use Rattle.marking_rules.specs.declared.Asked.{Asked}
 use Rattle.marking.specs.Marking.{privateGuard}
@@ -32,6 +32,9 @@ use Rattle.marking_rules.specs.RuleLaws.{alu-row, stack-row, transfer-row}
 use Rattle.single_path.specs.CheckLaws.{Fine}
 use Rattle.even_pace.specs.Terms.{privateAccess, hasPrivateAccess}
 use Rattle.even_pace.specs.BundleLaws.{doneOf, bundle-outcome}
+use Rattle.settings.specs.Setup.{Buffers, Setup}
+use Rattle.answers.specs.Test.{verdict as verdictOf}
+use Rattle.fetch.specs.Fetch.{bundleAt, followingAt}
 
 -- The numbers of an access.
 abbrev pub OfAccess : ℕ → Type 0
@@ -45,43 +48,47 @@ abbrev isRefusal : Verdict → Bool
 isRefusal Passing = false
 isRefusal (Refused n) = true
 
-module _ (g : Settings) (s : State) (n : ℕ) where
+module _ (g : Settings) (x : Setup) (s : State) (n : ℕ) where
   -- The three tests of an access.
-  three : (x y z : Bool) → cond x (Refused 5) (cond y (Refused 7) (cond z (Refused 6) Passing)) ≡ Refused n → OfAccess n
+  three : (u y z : Bool) → cond u (Refused 5) (cond y (Refused 7) (cond z (Refused 6) Passing)) ≡ Refused n → OfAccess n
   three true y z e = inl (sym (ap (numberOf n) e))
   three false true z e = inr (inl (sym (ap (numberOf n) e)))
   three false false true e = inr (inr (sym (ap (numberOf n) e)))
   three false false false e = absurd (false≢true (ap isRefusal e))
 
-  tests-number : (main : Settings → ℕ → ℕ → Bool) (k : AccessKind) (a x : ℕ) → verdictOf (accessTests main g (s .specials .st) (s .specials .ss) k a x) ≡ Refused n
+  tests-number : (main : Bool) (k : AccessKind) (a u : ℕ) → verdictOf (accessTests main g (s .specials .st) (s .specials .ss) k a u) ≡ Refused n
       → OfAccess n
   unfolding verdictOf
-  tests-number main k a x = three (not (eqb (a % x) 0)) (badAccess g (s .specials .st) (s .specials .ss) k) (not (accessOpen main g (s .specials .st) (s .specials .ss) k a x))
+  tests-number main k a u = three (not (eqb (a % u) 0)) (badAccess g (s .specials .st) (s .specials .ss) k) (not (accessOpen main g (s .specials .st) (s .specials .ss) k a u))
 
   access-number : (m : Marking) (o : Operation) → asked m o .access ≡ true
-      → verdictOf (effectTests g s (effectOf (startOf s) o)) ≡ Refused n → OfAccess n
+      → verdictOf (effectTests g x s (effectOf (startOf s) o)) ≡ Refused n → OfAccess n
   unfolding asked effectOf verdictOf
-  access-number m (Alu o) h e = absurd (false≢true (sym (ap (λ (x : Asked). x .access) (alu-row m o)) ∙ h))
-  access-number m (Multiply f x y) h e = absurd (false≢true h)
+  access-number m (Alu o) h e = absurd (false≢true (sym (ap (λ (u : Asked). u .access) (alu-row m o)) ∙ h))
+  access-number m (Multiply f u y) h e = absurd (false≢true h)
   access-number m (Mts d r) h e = absurd (false≢true h)
   access-number m (Mfs r d) h e = absurd (false≢true h)
-  access-number m (Load k w rd ra o) h e = tests-number mainReadable k (address (s .registers) (s .specials .st) k (loadScale w) ra o) (2 ^ loadScale w) e
-  access-number m (Store k w ra rs o) h e = tests-number mainWritable k (address (s .registers) (s .specials .st) k (storeScale w) ra o) (2 ^ storeScale w) e
-  access-number m (StackControl o) h e = absurd (false≢true (sym (ap (λ (x : Asked). x .access) (stack-row m o)) ∙ h))
-  access-number m (Transfer d t) h e = absurd (false≢true (sym (ap (λ (x : Asked). x .access) (transfer-row m d t)) ∙ h))
+  access-number m (Load k w rd ra o) h e =
+      let a = address (s .registers) (s .specials .st) k (loadScale w) ra o in
+      tests-number (mainReadable g x a (2 ^ loadScale w)) k a (2 ^ loadScale w) e
+  access-number m (Store k w ra rs o) h e =
+      let a = address (s .registers) (s .specials .st) k (storeScale w) ra o in
+      tests-number (mainWritable g x a (2 ^ storeScale w)) k a (2 ^ storeScale w) e
+  access-number m (StackControl o) h e = absurd (false≢true (sym (ap (λ (u : Asked). u .access) (stack-row m o)) ∙ h))
+  access-number m (Transfer d t) h e = absurd (false≢true (sym (ap (λ (u : Asked). u .access) (transfer-row m d t)) ∙ h))
   access-number m (Trap k) h e = absurd (false≢true h)
   access-number m (Xret d) h e = absurd (false≢true h)
 
-  slot-number : (m : Marking) (i : Instruction) → privateAccess m i ≡ true → verdictOf (effectTests g s (slotOneEffect (startOf s) i)) ≡ Refused n
+  slot-number : (m : Marking) (i : Instruction) → privateAccess m i ≡ true → verdictOf (effectTests g x s (slotOneEffect (startOf s) i)) ≡ Refused n
       → OfAccess n
   unfolding slotOneEffect verdictOf
   slot-number m i h = go (holds (s .predicates) (i .guard))
     where
-      go : (t : Bool) → verdictOf (effectTests g s (cond t (effectOf (startOf s) (i .operation)) (effect.Alu alu.Nothing))) ≡ Refused n → OfAccess n
+      go : (t : Bool) → verdictOf (effectTests g x s (cond t (effectOf (startOf s) (i .operation)) (effect.Alu alu.Nothing))) ≡ Refused n → OfAccess n
       go true e = access-number m (i .operation) (and-right (privateGuard m (i .guard)) _ h) e
       go false e = absurd (false≢true (ap isRefusal e))
 
-  bundle-number : (m : Marking) (i : Bundle) → hasPrivateAccess m i ≡ true → verdictOf (effectTests g s (slotOne (startOf s) i)) ≡ Refused n
+  bundle-number : (m : Marking) (i : Bundle) → hasPrivateAccess m i ≡ true → verdictOf (effectTests g x s (slotOne (startOf s) i)) ≡ Refused n
       → OfAccess n
   unfolding hasPrivateAccess
   bundle-number m Undecodable h e = absurd (false≢true h)
@@ -104,16 +111,16 @@ isRefused spent = false
 isRefused (refused n) = true
 
 -- At an address whose bundle can be read, a refusal of a bundle with a load or store under a private guard is the access's.
-pub refused-for-access : {m : Marking} (g : Settings) (code : List ℕ) (s : State) (b : Buffers) (n : ℕ) → Fine m code (s .fetch)
-    → hasPrivateAccess m (bundleAt code (s .fetch)) ≡ true
-    → bundle g code s b .answer ≡ refused n → OfAccess n
-refused-for-access {m} g code s b n f h e =
-    go (verdictOf (effectTests g s (slotOne (startOf s) i))) refl (sym (ap (λ (o : Outcome). o .answer) (bundle-outcome g code s b f)) ∙ e)
+pub refused-for-access : {m : Marking} (g : Settings) (x : Setup) (s : State) (b : Buffers) (n : ℕ) → Fine m (x .code) (s .fetch)
+    → hasPrivateAccess m (bundleAt (x .code) (s .fetch)) ≡ true
+    → bundle g x s b .answer ≡ refused n → OfAccess n
+refused-for-access {m} g x s b n f h e =
+    go (verdictOf (effectTests g x s (slotOne (startOf s) i))) refl (sym (ap (λ (o : Outcome). o .answer) (bundle-outcome g x s b f)) ∙ e)
   where
     i : Bundle
-    i = bundleAt code (s .fetch)
+    i = bundleAt (x .code) (s .fetch)
 
-    go : (v : Verdict) → verdictOf (effectTests g s (slotOne (startOf s) i)) ≡ v
-        → refusedOr v s b (doneOf g i (followingAt code (s .fetch)) s b) .answer ≡ refused n → OfAccess n
+    go : (v : Verdict) → verdictOf (effectTests g x s (slotOne (startOf s) i)) ≡ v
+        → refusedOr v s b (doneOf g x i (followingAt (x .code) (s .fetch)) s b) .answer ≡ refused n → OfAccess n
     go Passing p q = absurd (false≢true (ap isRefused q))
-    go (Refused k) p q = bundle-number g s n m i h (p ∙ ap Refused (ap (answerNumber n) q))
+    go (Refused k) p q = bundle-number g x s n m i h (p ∙ ap Refused (ap (answerNumber n) q))

@@ -5,29 +5,28 @@ use mathlib.Core.List.{List}
 use mathlib.Core.Logic.{_⊎_, _↔_}
 use mathlib.Core.Option.{some}
 use mathlib.Core.Path.{_≡_}
-use lib.Dec.{leb, ltb}
 use lib.ListN.{length, getD, getElem?}
 use Rattle.isa.specs.declared.Instruction.{Instruction}
 use Rattle.isa.specs.declared.Bundle.{Bundle}
 use Rattle.isa.specs.declared.Bundle.the-variants.{Undecodable, One, Two, Long}
-use Rattle.settings.specs.Answer.{Returned, refused}
-use Rattle.memory.specs.Access.{Buffers}
+use Rattle.answers.specs.Answer.{Returned, refused}
 use Rattle.alu_effects.specs.declared.Specials.{Specials}
 use Rattle.state.specs.State.{State}
 use Rattle.state.specs.declared.WaitingLoad.the-variants.{Waits}
-use Rattle.bundle_rules.specs.Bundle.{bundleAt}
 use Rattle.run_rules.specs.Run.{Tried}
 use Rattle.marking.specs.declared.Marking.{Marking}
 use Rattle.marking.specs.Marking.{privateRegister, privatePredicate, privateGuard, publicRegister}
 use Rattle.marking_rules.specs.Rules.{asked}
 use Rattle.single_path.specs.Check.{Walked, accepted, checked}
+use Rattle.settings.specs.Setup.{Setup, Buffers, isStackByte}
+use Rattle.fetch.specs.Fetch.{bundleAt}
 
--- Terms that stand elsewhere: `settings` and `Walked` (single_path, Check), `privateGuard` (marking, Marking), well formed as
--- `wellFormed` (state, State), and the bundles that a run tries as `tries` (run, Run).
+-- Terms that stand elsewhere: `settings` (settings, Setup), `Walked` (single_path, Check), `privateGuard` (marking, Marking), well
+-- formed as `wellFormed` (state, State), and the bundles that a run tries as `tries` (run_rules, Run).
 
 -- Accepted code: the check of it answers so under the settings and the marking. The lengths are those of what is lent.
-abbrev pub Accepted : List ℕ → ℕ → ℕ → Marking → Buffers → Type 0
-Accepted code lo hi m b = checked code (length (b .main)) (length (b .local)) (length (b .cache)) lo hi m ≡ accepted
+abbrev pub Accepted : Setup → Marking → Buffers → Type 0
+Accepted x m b = checked x (length (b .main)) (length (b .local)) (length (b .cache)) m ≡ accepted
 
 -- Two lists of one length that are equal wherever they are not private.
 pub record Same {A : Type 0} (private : ℕ → Bool) (default : A) (l₁ l₂ : List A) : Type 0 where
@@ -56,20 +55,20 @@ pub record SameState (m : Marking) (s₁ s₂ : State) : Type 0 where
   pub transfer : s₁ .transfer ≡ s₂ .transfer
   pub load : (r v : ℕ) → publicRegister m r ≡ true → (s₁ .load ≡ Waits r v) ↔ (s₂ .load ≡ Waits r v)
 
--- A byte of main memory belongs to the stack inside the stack area, which is from lo to hi.
-abbrev pub privateByte : Marking → ℕ → ℕ → ℕ → Bool
-privateByte m lo hi a = cond (leb lo a && ltb a hi) (m .stack) (m .main)
+-- A byte of main memory is private as the stack is, or as main memory is.
+abbrev pub privateByte : Marking → Setup → ℕ → Bool
+privateByte m x a = cond (isStackByte x a) (m .stack) (m .main)
 
 -- Public contents: the lent buffers. Their lengths are settings, and equal.
-pub record SameBuffers (m : Marking) (lo hi : ℕ) (b₁ b₂ : Buffers) : Type 0 where
-  pub main : Same (privateByte m lo hi) 0 (b₁ .main) (b₂ .main)
+pub record SameBuffers (m : Marking) (x : Setup) (b₁ b₂ : Buffers) : Type 0 where
+  pub main : Same (privateByte m x) 0 (b₁ .main) (b₂ .main)
   pub local : Same (λ a. m .local) 0 (b₁ .local) (b₂ .local)
   pub cache : Same (λ a. m .stack) 0 (b₁ .cache) (b₂ .cache)
 
 -- Two runs agree on everything public. Tag data, every private value, is what they may differ in.
-pub record Agree (m : Marking) (lo hi : ℕ) (s₁ : State) (b₁ : Buffers) (s₂ : State) (b₂ : Buffers) : Type 0 where
+pub record Agree (m : Marking) (x : Setup) (s₁ : State) (b₁ : Buffers) (s₂ : State) (b₂ : Buffers) : Type 0 where
   pub state : SameState m s₁ s₂
-  pub buffers : SameBuffers m lo hi b₁ b₂
+  pub buffers : SameBuffers m x b₁ b₂
 
 -- Whether slot one of a bundle is a load or store, a stack one too, under a private guard.
 abbrev pub privateAccess : Marking → Instruction → Bool
@@ -88,33 +87,43 @@ pub data Stops (m : Marking) (code : List ℕ) (t : Tried) : Type 0 where
   refused-access : (n : ℕ) → t .answer ≡ refused n → hasPrivateAccess m (bundleAt code (t .fetch)) ≡ true → Stops m code t
 
 -- Of a bundle tried in both runs: its fetch address is equal, and so are, after it, the four counts and the public contents.
-pub record SameTried (m : Marking) (lo hi : ℕ) (t₁ t₂ : Tried) : Type 0 where
+pub record SameTried (m : Marking) (x : Setup) (t₁ t₂ : Tried) : Type 0 where
   pub fetch : t₁ .fetch ≡ t₂ .fetch
   pub counts : t₁ .counts ≡ t₂ .counts
-  pub contents : Agree m lo hi (t₁ .state) (t₁ .buffers) (t₂ .state) (t₂ .buffers)
+  pub contents : Agree m x (t₁ .state) (t₁ .buffers) (t₂ .state) (t₂ .buffers)
 
-module _ (m : Marking) (code : List ℕ) (lo hi : ℕ) (T₁ T₂ : List Tried) where
-  -- The bundles at place j of the two lists, the first being at 0: neither is a stopping event, and they are alike.
-  abbrev pub EvenAt : ℕ → Type 0
-  EvenAt j = (t₁ t₂ : Tried) → getElem? T₁ j ≡ some t₁ → getElem? T₂ j ≡ some t₂ → ¬ Stops m code t₁ × ¬ Stops m code t₂ × SameTried m lo hi t₁ t₂
+-- The same fetch address.
+abbrev pub SameFetch : Tried → Tried → Type 0
+SameFetch t₁ t₂ = t₁ .fetch ≡ t₂ .fetch
 
-  -- The bundle at place k is tried in both runs at one fetch address, and is the first that is a stopping event in either; both
-  -- lists have all the places before it, where the runs are even.
+-- Two lists of entries, of which some are stopping events. The entries at place j, the first being at 0: neither is a stopping event, and
+-- they are alike.
+abbrev pub EvenAt : {E : Type 0} → (E → Type 0) → (E → E → Type 0) → List E → List E → ℕ → Type 0
+EvenAt {E} Stop Alike T₁ T₂ j = (t₁ t₂ : E) → getElem? T₁ j ≡ some t₁ → getElem? T₂ j ≡ some t₂ → ¬ Stop t₁ × ¬ Stop t₂ × Alike t₁ t₂
+
+-- The lists as a whole. `Met` is what holds of the entries at a stopping event, `Alike` what holds of those before it.
+module _ {E : Type 0} (Stop : E → Type 0) (Met Alike : E → E → Type 0) (T₁ T₂ : List E) where
+  -- Both lists have an entry at place k, the first that is a stopping event in either; both have all the places before it, where they
+  -- are even.
   pub record StopsAt (k : ℕ) : Type 0 where
-    pub t₁ : Tried
-    pub t₂ : Tried
+    pub t₁ : E
+    pub t₂ : E
     pub tried₁ : getElem? T₁ k ≡ some t₁
     pub tried₂ : getElem? T₂ k ≡ some t₂
-    pub stops : Stops m code t₁ ⊎ Stops m code t₂
-    pub fetch : t₁ .fetch ≡ t₂ .fetch
-    pub before : (j : ℕ) → j < k → EvenAt j
+    pub stops : Stop t₁ ⊎ Stop t₂
+    pub met : Met t₁ t₂
+    pub before : (j : ℕ) → j < k → EvenAt Stop Alike T₁ T₂ j
 
-  -- No bundle is a stopping event: the lists are equally long and even at every place, and the answers of the runs are equal.
+  -- No entry is a stopping event: the lists are equally long and even at every place, and the answers are equal.
   pub record Throughout (a₁ a₂ : Returned) : Type 0 where
-    pub each : (j : ℕ) → EvenAt j
+    pub each : (j : ℕ) → EvenAt Stop Alike T₁ T₂ j
     pub lengths : length T₁ ≡ length T₂
     pub answers : a₁ ≡ a₂
 
-  -- Even pace of two runs, which try the bundles T₁ and T₂ and give the answers a₁ and a₂.
-  abbrev pub EvenPace : Returned → Returned → Type 0
-  EvenPace a₁ a₂ = ((k : ℕ) × StopsAt k) ⊎ Throughout a₁ a₂
+  abbrev pub EvenLists : Returned → Returned → Type 0
+  EvenLists a₁ a₂ = ((k : ℕ) × StopsAt k) ⊎ Throughout a₁ a₂
+
+-- Even pace of two runs, which try the bundles T₁ and T₂ and give the answers a₁ and a₂: a bundle that is a stopping event is tried in
+-- both at one fetch address.
+abbrev pub EvenPace : Marking → Setup → List Tried → List Tried → Returned → Returned → Type 0
+EvenPace m x = EvenLists (Stops m (x .code)) SameFetch (SameTried m x)

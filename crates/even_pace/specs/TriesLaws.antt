@@ -4,61 +4,62 @@ use mathlib.Core.Bool.{true, false, cond}
 use mathlib.Core.List.{List, [], _∷_}
 use mathlib.Core.Path.{_≡_, refl, ap}
 use lib.ListN.{length}
-use Rattle.settings.specs.Answer.{Returned, accepted, done, ended, spent, refused}
+use Rattle.answers.specs.Answer.{Returned, accepted, done, ended, spent, refused}
 use Rattle.settings.specs.Settings.{admits}
-use Rattle.memory.specs.Access.{Buffers}
 use Rattle.state.specs.State.{State, wellFormed, ended as hasEnded}
 use Rattle.bundle_rules.specs.declared.Counts.{Counts}
-use Rattle.bundle_rules.specs.Bundle.{Outcome, outcome, noCounts, readiness, lent, bundle}
+use Rattle.bundle_rules.specs.Bundle.{Outcome, outcome, readiness, bundle}
 use Rattle.machine_laws.specs.StepCases.{isDone, Going, step-bundle, step-ended}
-use Rattle.run_rules.specs.Run.{plus, ifDone, counted, run, Tried, triedAt, tries}
+use Rattle.run_rules.specs.Run.{ifDone, counted, run, Tried, triedAt, tries}
+use Rattle.settings.specs.Setup.{Buffers, lent, Setup}
+use Rattle.bundle_rules.specs.Counts.{noCounts, plus}
 
 -- By cases on done is by cases on a truth value.
-if-done : {A : Type 0} (a : Returned) (x y : A) → ifDone a x y ≡ cond (isDone a) x y
-if-done done x y = refl
-if-done accepted x y = refl
-if-done ended x y = refl
-if-done spent x y = refl
-if-done (refused n) x y = refl
+if-done : {A : Type 0} (a : Returned) (z y : A) → ifDone a z y ≡ cond (isDone a) z y
+if-done done z y = refl
+if-done accepted z y = refl
+if-done ended z y = refl
+if-done spent z y = refl
+if-done (refused n) z y = refl
 
-module _ (code : List ℕ) (lo hi k : ℕ) (s : State) (b : Buffers) (admitted : admits (lent code lo hi b) ≡ true) (well : wellFormed s ≡ true) where
+module _ (x : Setup) (k : ℕ) (s : State) (b : Buffers) (admitted : admits (lent x b) ≡ true) (well : wellFormed s ≡ true) where
   -- With no budget left.
-  pub run-none : (c : Counts) → tries code lo hi 0 s b c ≡ []
+  pub run-none : (c : Counts) → tries x 0 s b c ≡ []
   unfolding tries
   run-none c = refl
 
-  pub run-last-ended : hasEnded s (length code) ≡ true → run code lo hi 0 s b ≡ outcome ended s noCounts b
+  pub run-last-ended : hasEnded s (length (x .code)) ≡ true → run x 0 s b ≡ outcome ended s noCounts b
   unfolding run readiness
   run-last-ended e = rw (admitted, well, e)
 
-  pub run-spent : hasEnded s (length code) ≡ false → run code lo hi 0 s b ≡ outcome spent s noCounts b
+  pub run-spent : hasEnded s (length (x .code)) ≡ false → run x 0 s b ≡ outcome spent s noCounts b
   unfolding run readiness
   run-spent e = rw (admitted, well, e)
 
   -- An ended state.
-  pub tries-ended : (c : Counts) → hasEnded s (length code) ≡ true → tries code lo hi (suc k) s b c ≡ []
+  pub tries-ended : (c : Counts) → hasEnded s (length (x .code)) ≡ true → tries x (suc k) s b c ≡ []
   unfolding tries readiness
   tries-ended c e = rw (admitted, well, e)
 
-  pub run-ended : hasEnded s (length code) ≡ true → run code lo hi (suc k) s b ≡ outcome ended s noCounts b
+  pub run-ended : hasEnded s (length (x .code)) ≡ true → run x (suc k) s b ≡ outcome ended s noCounts b
   unfolding run
-  run-ended e = rw (step-ended code lo hi s b admitted well e)
+  run-ended e = rw (step-ended x s b admitted well e)
 
-  module _ (e : hasEnded s (length code) ≡ false) where
-    going : Going code lo hi s b
+  module _ (e : hasEnded s (length (x .code)) ≡ false) where
+    going : Going x s b
     going = record { admitted = admitted; well-formed = well; not-ended = e }
 
     abbrev o : Outcome
-    o = bundle (lent code lo hi b) code s b
+    o = bundle (lent x b) x s b
 
     -- Any other state: a bundle is tried, and followed by the others if it is done.
     pub tries-going : (c : Counts)
-        → tries code lo hi (suc k) s b c ≡ triedAt (s .fetch) c o ∷ cond (isDone (o .answer)) (tries code lo hi k (o .state) (o .buffers) (plus c (o .counts))) []
+        → tries x (suc k) s b c ≡ triedAt (s .fetch) c o ∷ cond (isDone (o .answer)) (tries x k (o .state) (o .buffers) (plus c (o .counts))) []
     unfolding tries readiness
     tries-going c =
-        rw (step-bundle code lo hi s b going, admitted, well, e)
-        (ap (λ (l : List Tried). triedAt (s .fetch) c o ∷ l) (if-done (o .answer) (tries code lo hi k (o .state) (o .buffers) (plus c (o .counts))) []))
+        rw (step-bundle x s b going, admitted, well, e)
+        (ap (λ (l : List Tried). triedAt (s .fetch) c o ∷ l) (if-done (o .answer) (tries x k (o .state) (o .buffers) (plus c (o .counts))) []))
 
-    pub run-going : run code lo hi (suc k) s b ≡ cond (isDone (o .answer)) (counted (o .counts) (run code lo hi k (o .state) (o .buffers))) o
+    pub run-going : run x (suc k) s b ≡ cond (isDone (o .answer)) (counted (o .counts) (run x k (o .state) (o .buffers))) o
     unfolding run
-    run-going = rw (step-bundle code lo hi s b going) (if-done (o .answer) (counted (o .counts) (run code lo hi k (o .state) (o .buffers))) o)
+    run-going = rw (step-bundle x s b going) (if-done (o .answer) (counted (o .counts) (run x k (o .state) (o .buffers))) o)

@@ -6,8 +6,9 @@ use mathlib.Core.List.{List}
 use lib.Dec.{leb}
 use lib.ListN.{length, replicate}
 use Rattle.word.specs.Word.{isMultipleOf4}
-use Rattle.settings.specs.Answer.{Returned, accepted, refused}
-use Rattle.settings.specs.Settings.{admits, settingsOf}
+use Rattle.answers.specs.Answer.{Returned, accepted, refused}
+use Rattle.settings.specs.Settings.{admits}
+use Rattle.settings.specs.Setup.{Setup, Buffers, lent}
 use Rattle.state.specs.State.{State, fresh}
 use Rattle.machine.specs.Whole.{stateOf}
 use Rattle.machine.specs.declared.Opened as declared
@@ -30,8 +31,8 @@ returned (Refused n) = refused n
 abbrev pub openWith : declared.Opened → List ℕ → Open
 openWith o c = openOf (returned (o .answer)) (stateOf (o .state)) c
 
-unfoldable pub opening : List ℕ → List ℕ → List ℕ → List ℕ → ℕ → ℕ → ℕ → Open
-opening code main local cache lo hi entry =
-    cond (not (admits (settingsOf code main local cache lo hi))) (openOf (refused 1) (fresh 0 0 0) cache)
-    (cond (not (isMultipleOf4 entry) || leb (length code) entry) (openOf (refused 2) (fresh 0 0 0) cache)
-    (openOf accepted (fresh (length code) hi entry) (replicate (length cache) 0)))
+unfoldable pub opening : Setup → Buffers → ℕ → Open
+opening x b entry =
+    cond (not (admits (lent x b))) (openOf (refused 1) (fresh 0 0 0) (b .cache))
+    (cond (not (isMultipleOf4 entry) || leb (length (x .code)) entry) (openOf (refused 2) (fresh 0 0 0) (b .cache))
+    (openOf accepted (fresh (length (x .code)) (x .hi) entry) (replicate (length (b .cache)) 0)))

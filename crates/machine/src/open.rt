@@ -4,14 +4,15 @@ ghost use mathlib.Core.List.{List};
 ghost use Prim.Native.Nat.{ℕ};
 ghost use lib.ListN.{length, replicate};
 ghost use Rattle.state.specs.State.{fresh};
-ghost use Rattle.settings.specs.Answer.{refused};
+ghost use Rattle.answers.specs.Answer.{refused};
+ghost use Rattle.settings.specs.Setup.{setup, found};
 ghost use Rattle.machine.specs.Whole.{stateOf};
 ghost use Rattle.machine.specs.Open.{openOf, openWith, opening};
 use crate::Opened;
 use crate::Opening;
 use crate::State;
 use alu_effects::Specials;
-use settings::Settings;
+use settings::Config;
 use state::WaitingLoad;
 use state::WaitingTransfer;
 
@@ -66,20 +67,12 @@ impl State {
         main: &[u8],
         local: &[u8],
         cache: &mut [u32],
-        lo: u32,
-        hi: u32,
+        config: Config,
         entry: u32,
     ) -> Opened
-        ensures { λ r. ⌜ openWith r (now (cache .exit)) ≡ opening (now (code .entry)) (now (main .entry)) (now (local .entry)) (now (cache .entry)) lo hi entry ⌝ }
+        ensures { λ r. ⌜ openWith r (now (cache .exit)) ≡ opening (setup (now (code .entry)) config) (found main local cache) entry ⌝ }
     {
-        let g = Settings {
-            code: code.len(),
-            main: main.len(),
-            local: local.len(),
-            words: cache.len(),
-            lo,
-            hi,
-        };
+        let g = config.settings(code, main.len(), local.len(), cache.len());
         if !g.admits() {
             return refused(1);
         }
@@ -90,7 +83,7 @@ impl State {
             return refused(2);
         }
         clear(&mut *cache);
-        let state = initial(code.len() as u32, hi, entry);
+        let state = initial(code.len() as u32, config.hi, entry);
         Opened {
             answer: Opening::Opened,
             state,

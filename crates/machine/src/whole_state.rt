@@ -1,14 +1,13 @@
 // The state of the core, by value, and what is done to it.
 ghost use mathlib.Core.Path.{_≡_};
-ghost use Rattle.state.specs.State.{withRegister, landed, transferred};
+ghost use Rattle.settings.specs.Setup.{setup, found, left};
 ghost use Rattle.state.specs.Core.{joined};
-ghost use Rattle.memory.specs.Access.{buffers};
 ghost use Rattle.bundle_rules.specs.Bundle.{full, step};
 ghost use Rattle.machine.specs.Whole.{stateOf, steppedOf};
 use crate::State;
 use crate::Stepped;
-use effects::Transfer;
-use registers::write_register;
+use bundle::advance::advance;
+use settings::Config;
 use state::Core;
 use state::waiting::load_words;
 use state::waiting::transfer_words;
@@ -54,39 +53,6 @@ impl State {
         }
     }
 
-    // A register written; r0 stays zero.
-    pub fn write_register(self, r: u32, v: u32) -> State
-        ensures { λ x. ⌜ stateOf x ≡ withRegister (stateOf self) r v ⌝ }
-    {
-        let mut registers = self.registers;
-        let predicates = self.predicates;
-        write_register(&mut registers, r, v);
-        State::join(registers, predicates, self.core())
-    }
-
-    // The load waiting from the bundle before is written, and waits no more.
-    pub fn land_load(self) -> State
-        ensures { λ x. ⌜ stateOf x ≡ landed (stateOf self) ⌝ }
-    {
-        let mut registers = self.registers;
-        let predicates = self.predicates;
-        let core = self.core().land_load(&mut registers);
-        State::join(registers, predicates, core)
-    }
-
-    // A transfer carried out at the end of a bundle, whose following address a call keeps, relative to the old base.
-    pub fn transfer(self, transfer: Transfer, following: u32) -> State
-        ensures { λ x. ⌜ stateOf x ≡ transferred (stateOf self) transfer following ⌝ }
-    {
-        let registers = self.registers;
-        let predicates = self.predicates;
-        State::join(
-            registers,
-            predicates,
-            self.core().transfer(transfer, following),
-        )
-    }
-
     // One step: settings and state are judged, an ended state is left as it is, and else the bundle is done or refused.
     pub fn step(
         self,
@@ -94,23 +60,22 @@ impl State {
         main: &mut [u8],
         local: &mut [u8],
         cache: &mut [u32],
-        lo: u32,
-        hi: u32,
+        config: Config,
     ) -> Stepped
-        ensures { λ r. ⌜ full (steppedOf r) (buffers (now (main .exit)) (now (local .exit)) (now (cache .exit))) ≡ step (now (code .entry)) lo hi (stateOf self) (buffers (now (main .entry)) (now (local .entry)) (now (cache .entry))) ⌝ }
+        ensures { λ r. ⌜ full (steppedOf r) (left main local cache) ≡ step (setup (now (code .entry)) config) (stateOf self) (found main local cache) ⌝ }
     {
         let mut registers = self.registers;
         let mut predicates = self.predicates;
-        let r = bundle::step::step(
+        let r = advance(
             self.core(),
             &mut registers,
             &mut predicates,
+            config,
             code,
             &mut *main,
             &mut *local,
             &mut *cache,
-            lo,
-            hi,
+            1,
         );
         let answer = r.answer;
         let counts = r.counts;

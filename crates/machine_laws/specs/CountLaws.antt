@@ -1,8 +1,8 @@
--- The counts of one step are small: sums over a run of 2 ^ 32 bundles fit 64 bits.
+-- The counts of a bundle: 4 cycles, and 512 words moved each way, at most.
 use Prim.Native.Nat.{ℕ, zero, suc, _-_, _*_, _/_, _≤_, min}
 use mathlib.Core.Bool.{Bool, true, false, cond}
 use mathlib.Core.List.{List, [], _∷_}
-use mathlib.Core.Path.{refl}
+use mathlib.Core.Path.{_≡_, refl}
 use native.Mathlib.Omega.{arith}
 use native.Mathlib.Nat.{le-trans}
 use borrow.Author.Tests.{ltb-false}
@@ -17,17 +17,18 @@ use Rattle.stack_cache.specs.StackLaws.{length-below}
 use Rattle.word.specs.BoolLaws.{or-right}
 use Rattle.stack_control.specs.PlanLaws.{accepted-window}
 use Rattle.settings.specs.declared.Settings.{Settings}
+use Rattle.settings.specs.Settings.{admits}
 use Rattle.settings.specs.SettingsLaws.{words-small}
-use Rattle.memory.specs.Access.{Buffers}
 use Rattle.effects.specs.declared.Transfer.{Transfer}
 use Rattle.effects.specs.declared.Transfer.the-variants.{Br, Call, Block}
 use Rattle.effects.specs.declared.Effect.{Effect}
 use Rattle.effects.specs.declared.Effect.the-variants as effect
 use Rattle.state.specs.State.{State}
-use Rattle.bundle_rules.specs.declared.Counts.{Counts}
-use Rattle.bundle_rules.specs.Bundle.{undelayedCycles, noCounts, countsOf, lent, step}
-use Rattle.machine_laws.specs.StepCases.{effectAt, step-cases}
+use Rattle.bundle_rules.specs.Bundle.{undelayedCycles, countsOf, bundle}
+use Rattle.machine_laws.specs.StepCases.{effectAt, bundle-cases}
 use Rattle.machine_laws.specs.StackKept.{Passed, fine-effect, stack-accepted}
+use Rattle.settings.specs.Setup.{Setup, Buffers}
+use Rattle.bundle_rules.specs.Counts.{Few, few-none}
 
 -- Each loop moves no more words than it may.
 spillWhile-few : (most w st ss : ℕ) → length (spillWhile most w st ss) ≤ most
@@ -63,43 +64,33 @@ fills-few Sens w st ss n a = le-trans (fillWhile-few n n st ss) (ltb-false w n (
 fills-few Sfree w st ss n a = omega arith
 fills-few Sspill w st ss n a = omega arith
 
--- Counts of one bundle.
-pub record Small (c : Counts) : Type 0 where
-  pub bundles : c .bundles ≤ 1
-  pub cycles : c .cycles ≤ 4
-  pub spilled : c .spilled ≤ 512
-  pub filled : c .filled ≤ 512
-
 undelayed-small : (t : Transfer) → undelayedCycles t ≤ 4
 undelayed-small (Br target) = omega arith
 undelayed-small (Call target) = omega arith
 undelayed-small (Block target base) = omega arith
 
-effect-small : (g : Settings) (s : State) (e : Effect) → g .words ≤ 512 → Passed g s e → Small (countsOf g s e)
-effect-small g s (effect.Alu a) h p = record { bundles = omega arith; cycles = omega arith; spilled = omega arith; filled = omega arith }
-effect-small g s (effect.Special d v) h p = record { bundles = omega arith; cycles = omega arith; spilled = omega arith; filled = omega arith }
-effect-small g s (effect.Product x y) h p = record { bundles = omega arith; cycles = omega arith; spilled = omega arith; filled = omega arith }
-effect-small g s (effect.Load k w r a) h p = record { bundles = omega arith; cycles = omega arith; spilled = omega arith; filled = omega arith }
-effect-small g s (effect.Store k w a v) h p = record { bundles = omega arith; cycles = omega arith; spilled = omega arith; filled = omega arith }
-effect-small g s (effect.Stack c n m) h p =
+effect-few : (g : Settings) (x : Setup) (s : State) (e : Effect) → g .words ≤ 512 → Passed g x s e → Few 1 (countsOf g s e)
+effect-few g x s (effect.Alu a) h p = record { bundles = omega arith; cycles = omega arith; spilled = omega arith; filled = omega arith }
+effect-few g x s (effect.Special d v) h p = record { bundles = omega arith; cycles = omega arith; spilled = omega arith; filled = omega arith }
+effect-few g x s (effect.Product l k) h p = record { bundles = omega arith; cycles = omega arith; spilled = omega arith; filled = omega arith }
+effect-few g x s (effect.Load k w r a) h p = record { bundles = omega arith; cycles = omega arith; spilled = omega arith; filled = omega arith }
+effect-few g x s (effect.Store k w a v) h p = record { bundles = omega arith; cycles = omega arith; spilled = omega arith; filled = omega arith }
+effect-few g x s (effect.Stack c n m) h p =
     record {
       bundles = omega arith;
       cycles = omega arith;
-      spilled = le-trans (spills-few c (g .words) (s .specials .st) (s .specials .ss) n (stack-accepted g s c n m p)) h;
-      filled = le-trans (fills-few c (g .words) (s .specials .st) (s .specials .ss) n (stack-accepted g s c n m p)) h;
+      spilled = le-trans (spills-few c (g .words) (s .specials .st) (s .specials .ss) n (stack-accepted g x s c n m p)) h;
+      filled = le-trans (fills-few c (g .words) (s .specials .st) (s .specials .ss) n (stack-accepted g x s c n m p)) h;
     }
-effect-small g s (effect.Transfer d t) h p = record { bundles = omega arith; cycles = go d; spilled = omega arith; filled = omega arith }
+effect-few g x s (effect.Transfer d t) h p = record { bundles = omega arith; cycles = go d; spilled = omega arith; filled = omega arith }
   where
     go : (x : Bool) → cond x 1 (undelayedCycles t) ≤ 4
     go true = omega arith
     go false = undelayed-small t
-effect-small g s effect.Exception h p = record { bundles = omega arith; cycles = omega arith; spilled = omega arith; filled = omega arith }
+effect-few g x s effect.Exception h p = record { bundles = omega arith; cycles = omega arith; spilled = omega arith; filled = omega arith }
 
-nothing-small : Small noCounts
-nothing-small = record { bundles = omega arith; cycles = omega arith; spilled = omega arith; filled = omega arith }
-
--- So are those of a step, whatever it answers.
-pub step-small : (code : List ℕ) (lo hi : ℕ) (s : State) (b : Buffers) → Small (step code lo hi s b .counts)
-step-small code lo hi s b =
-    step-cases code lo hi s b (λ o. Small (o .counts)) (λ a p. nothing-small)
-    (λ p j. effect-small (lent code lo hi b) s (effectAt code s) (words-small (lent code lo hi b) (p .admitted)) (fine-effect (lent code lo hi b) code s j (effectAt code s) refl))
+-- The counts of a bundle are those of one bundle, whatever it answers.
+pub bundle-few : (g : Settings) (x : Setup) (s : State) (b : Buffers) → admits g ≡ true → Few 1 (bundle g x s b .counts)
+bundle-few g x s b h =
+    bundle-cases g x s b (λ o. Few 1 (o .counts)) (λ n j. few-none 1)
+    (λ j. effect-few g x s (effectAt x s) (words-small g h) (fine-effect g x s j (effectAt x s) refl))

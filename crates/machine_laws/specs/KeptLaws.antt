@@ -22,11 +22,11 @@ use Rattle.alu_effects.specs.declared.AluEffect.{AluEffect}
 use Rattle.alu_effects.specs.declared.AluEffect.the-variants as alu
 use Rattle.effects.specs.declared.Effect.{Effect}
 use Rattle.effects.specs.declared.Effect.the-variants as effect
-use Rattle.memory.specs.Access.{Buffers}
 use Rattle.alu_effects.specs.declared.Specials.{Specials}
 use Rattle.state.specs.Writes.{writeAlu, delaySlots, nearer, begun}
-use Rattle.bundle_rules.specs.Bundle.{writeOne, onward, written, bundle, lent, step}
+use Rattle.bundle_rules.specs.Bundle.{writeOne, onward, written, bundle, step}
 use Rattle.machine_laws.specs.StepCases.{bundle-cases, step-cases}
+use Rattle.settings.specs.Setup.{Buffers, lent, Setup}
 
 -- A special register written changes special registers alone, and s0 the predicates alone.
 pub withSpecial-cases : (P : State → Type 0) (s : State) (d : Special) (v : ℕ) → P (withPredicates s (true ∷ predicatesOf 7 (v / 2)))
@@ -154,9 +154,9 @@ written-shaped g b s one two following h =
     record { registers = t .0; predicates = t .1 }
 
 -- A bundle keeps the lengths of the lists of registers and predicates.
-pub bundle-shaped : (g : Settings) (code : List ℕ) (s : State) (b : Buffers) → Shaped s → Shaped (bundle g code s b .state)
-bundle-shaped g code s b h = bundle-cases g code s b (λ o. Shaped (o .state)) (λ n j. h) (λ j. written-shaped g b s _ _ _ h)
+pub bundle-shaped : (g : Settings) (x : Setup) (s : State) (b : Buffers) → Shaped s → Shaped (bundle g x s b .state)
+bundle-shaped g x s b h = bundle-cases g x s b (λ o. Shaped (o .state)) (λ n j. h) (λ j. written-shaped g b s _ _ _ h)
 
 -- So does a step.
-pub step-shaped : (code : List ℕ) (lo hi : ℕ) (s : State) (b : Buffers) → Shaped s → Shaped (step code lo hi s b .state)
-step-shaped code lo hi s b h = step-cases code lo hi s b (λ o. Shaped (o .state)) (λ a p. h) (λ p j. written-shaped (lent code lo hi b) b s _ _ _ h)
+pub step-shaped : (x : Setup) (s : State) (b : Buffers) → Shaped s → Shaped (step x s b .state)
+step-shaped x s b h = step-cases x s b (λ o. Shaped (o .state)) (λ a p. h) (λ p j. written-shaped (lent x b) b s _ _ _ h)

@@ -1,5 +1,6 @@
 pub mod StepCases
 pub mod KeptLaws
 pub mod WellFormedLaws
+pub mod WellLaws
 pub mod StackKept
 pub mod CountLaws

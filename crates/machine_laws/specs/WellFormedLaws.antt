@@ -27,12 +27,14 @@ use Rattle.alu_effects.specs.declared.AluEffect.{AluEffect}
 use Rattle.alu_effects.specs.declared.AluEffect.the-variants as alu
 use Rattle.effects.specs.declared.Effect.{Effect}
 use Rattle.effects.specs.declared.Effect.the-variants as effect
-use Rattle.memory.specs.Access.{Buffers, loadedValue}
+use Rattle.memory.specs.Access.{loadedValue}
 use Rattle.effects.specs.Effect.{Start, slotOne, slotOneEffect, effectOf, stackEffect}
 use Rattle.alu_effects.specs.AluEffects.{holds}
-use Rattle.bundle_rules.specs.Bundle.{writeOne, written, bundleAt, bundle, lent, step}
+use Rattle.bundle_rules.specs.Bundle.{writeOne, written, bundle, step}
 use Rattle.machine_laws.specs.StepCases.{effectAt, stateAfter, bundle-cases, step-cases}
 use Rattle.machine_laws.specs.KeptLaws.{withSpecial-cases, writeAlu-cases, onward-cases, Lasting, written-lasts}
+use Rattle.settings.specs.Setup.{Buffers, lent, Setup}
+use Rattle.fetch.specs.Fetch.{bundleAt}
 
 -- The parts of a well-formed state.
 pub record WellFormed (s : State) : Type 0 where
@@ -118,55 +120,3 @@ written-well-formed g b s one two following p h =
       load = ap loadOk (written-load g b s one two following) ∙ p;
       transfer = onward-cases (λ x. waitOk (x .transfer) ≡ true) following _ one (s .transfer) (λ srb sro fetch base w q. q (h .transfer));
     }
-
--- A bundle in the decoder's ranges begins no load to a register above 31.
-module _ (b : Buffers) (s : Start) where
-  operation-load-ok : (o : Operation) → OperationInRange o → loadOk (loadBegun b (effectOf s o)) ≡ true
-  unfolding effectOf stackEffect
-  operation-load-ok (operation.Alu o) p = refl
-  operation-load-ok (operation.Multiply f x y) p = refl
-  operation-load-ok (operation.Mts d r) p = refl
-  operation-load-ok (operation.Mfs r d) p = refl
-  operation-load-ok (operation.Load k w rd ra o) p = le-leb rd 31 (omega (arith, p .0))
-  operation-load-ok (operation.Store k w ra rs o) p = refl
-  operation-load-ok (operation.StackControl (Sres n)) p = refl
-  operation-load-ok (operation.StackControl (Sens a)) p = refl
-  operation-load-ok (operation.StackControl (Sfree n)) p = refl
-  operation-load-ok (operation.StackControl (Sspill a)) p = refl
-  operation-load-ok (operation.Transfer d t) p = refl
-  operation-load-ok (operation.Trap n) p = refl
-  operation-load-ok (operation.Xret d) p = refl
-
-  instruction-load-ok : (i : Instruction) → InstructionInRange i → loadOk (loadBegun b (slotOneEffect s i)) ≡ true
-  unfolding slotOneEffect
-  instruction-load-ok i p = go (holds (s .predicates) (i .guard))
-    where
-      go : (t : Bool) → loadOk (loadBegun b (cond t (effectOf s (i .operation)) (effect.Alu alu.Nothing))) ≡ true
-      go true = operation-load-ok (i .operation) (p .1)
-      go false = refl
-
-  pub bundle-load-ok : (i : Bundle) → InRange i → loadOk (loadBegun b (slotOne s i)) ≡ true
-  bundle-load-ok Undecodable p = refl
-  bundle-load-ok (One i) p = instruction-load-ok i p
-  bundle-load-ok (Two i j) p = instruction-load-ok i (p .0)
-  bundle-load-ok (Long i) p = instruction-load-ok i p
-
--- What is decoded from code made of bytes is in range.
-pub bundle-in-range : (code : List ℕ) (a : ℕ) → ((i : ℕ) → getD code i 0 < 256) → InRange (bundleAt code a)
-bundle-in-range code a h = decode-in-range (wordAt code a) (wordAt code (a + 4)) (number-bound 4 code (a + 4) h)
-
--- A bundle done, of code made of bytes, keeps a state well formed.
-after-well-formed : (g : Settings) (code : List ℕ) (s : State) (b : Buffers) → ((i : ℕ) → getD code i 0 < 256) → wellFormed s ≡ true → wellFormed (stateAfter g code s b) ≡ true
-after-well-formed g code s b bytes h =
-    well-formed-whole _ (written-well-formed g b s (effectAt code s) _ _ (bundle-load-ok b (startOf s) (bundleAt code (s .fetch)) (bundle-in-range code (s .fetch) bytes)) (well-formed-parts s h))
-
--- So does every bundle, whatever it answers.
-pub bundle-well-formed : (g : Settings) (code : List ℕ) (s : State) (b : Buffers) → ((i : ℕ) → getD code i 0 < 256) → wellFormed s ≡ true
-    → wellFormed (bundle g code s b .state) ≡ true
-bundle-well-formed g code s b bytes h = bundle-cases g code s b (λ o. wellFormed (o .state) ≡ true) (λ n j. h) (λ j. after-well-formed g code s b bytes h)
-
--- So does every step.
-pub step-well-formed : (code : List ℕ) (lo hi : ℕ) (s : State) (b : Buffers) → ((i : ℕ) → getD code i 0 < 256) → wellFormed s ≡ true
-    → wellFormed (step code lo hi s b .state) ≡ true
-step-well-formed code lo hi s b bytes h =
-    step-cases code lo hi s b (λ o. wellFormed (o .state) ≡ true) (λ a p. h) (λ p j. after-well-formed (lent code lo hi b) code s b bytes h)

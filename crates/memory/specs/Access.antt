@@ -1,8 +1,8 @@
 -- Loads and stores: the tests of refusals 5, 6 and 7 of an access, and what it reads or writes.
 use Prim.Native.Nat.{ℕ, _+_, _%_, _^_}
-use mathlib.Core.Bool.{Bool, true, false, not, cond, _&&_}
+use mathlib.Core.Bool.{Bool, true, false, not, _&&_}
 use mathlib.Core.List.{List, [], _∷_}
-use lib.Dec.{eqb, ltb, leb}
+use lib.Dec.{eqb, leb}
 use Rattle.word.specs.Word.{signExtend}
 use Rattle.big_endian.specs.Bytes.{numberAt, putNumber}
 use Rattle.isa.specs.declared.AccessKind.{AccessKind}
@@ -13,8 +13,8 @@ use Rattle.isa.specs.declared.StoreWidth.{StoreWidth}
 use Rattle.isa.specs.declared.StoreWidth.the-variants as store
 use Rattle.stack_cache.specs.Stack.{badWindow, cacheNumber, putCacheNumber}
 use Rattle.settings.specs.declared.Settings.{Settings}
-use Rattle.memory.specs.declared.Verdict.{Verdict}
-use Rattle.memory.specs.declared.Verdict.the-variants.{Fine, Refused}
+use Rattle.settings.specs.Setup.{Setup, Buffers, buffers, touchesStack}
+use Rattle.answers.specs.Test.{Test, test}
 
 -- The bytes of an access are 2 ^ scale, and its immediate counts in them.
 unfoldable pub loadScale : LoadWidth → ℕ
@@ -28,15 +28,6 @@ unfoldable pub storeScale : StoreWidth → ℕ
 storeScale store.Word = 2
 storeScale store.Half = 1
 storeScale store.Byte = 0
-
--- What is lent for writing.
-pub record Buffers : Type 0 where
-  pub main : List ℕ
-  pub local : List ℕ
-  pub cache : List ℕ
-
-abbrev pub buffers : List ℕ → List ℕ → List ℕ → Buffers
-buffers m l c = record { main = m; local = l; cache = c }
 
 -- The number of k bytes at an address. Cached and main are one memory.
 unfoldable pub readNumber : Buffers → AccessKind → ℕ → ℕ → ℕ
@@ -62,19 +53,6 @@ stored b Local k a v = buffers (b .main) (putNumber k (b .local) a v) (b .cache)
 stored b Cached k a v = buffers (putNumber k (b .main) a v) (b .local) (b .cache)
 stored b Main k a v = buffers (putNumber k (b .main) a v) (b .local) (b .cache)
 
--- A refusal's number and whether it applies.
-pub record Test : Type 0 where
-  pub number : ℕ
-  pub applies : Bool
-
-abbrev pub test : ℕ → Bool → Test
-test n b = record { number = n; applies = b }
-
--- The first test that applies gives the number.
-unfoldable pub verdict : List Test → Verdict
-verdict [] = Fine
-verdict (t ∷ ts) = cond (t .applies) (Refused (t .number)) (verdict ts)
-
 -- 7 of a stack access: the window is none that a stack cache of W words can have.
 abbrev pub isStack : AccessKind → Bool
 isStack Stack = true
@@ -85,28 +63,32 @@ isStack Main = false
 abbrev pub badAccess : Settings → ℕ → ℕ → AccessKind → Bool
 badAccess g st ss k = isStack k && badWindow (g .words) st ss
 
--- 6: some byte of the access is not open to it. To a main access the main memory is, but not the stack area; to a local one the local
--- memory; to a stack access the window. Loads and stores have a test each. n is the access's number of bytes.
-unfoldable pub mainOpen : Settings → ℕ → ℕ → Bool
-mainOpen g a n = leb (a + n) (g .main) && not (ltb (g .lo) (g .hi) && (ltb a (g .hi) && ltb (g .lo) (a + n)))
+-- Which bytes of main memory are open to a load, and which to a store: those that it has, but for the stack's. n is the access's
+-- number of bytes.
+unfoldable pub mainOpen : Settings → Setup → ℕ → ℕ → Bool
+mainOpen g x a n = leb (a + n) (g .main) && not (touchesStack x a n)
 
-abbrev pub mainReadable : Settings → ℕ → ℕ → Bool
+abbrev pub mainReadable : Settings → Setup → ℕ → ℕ → Bool
 mainReadable = mainOpen
 
-abbrev pub mainWritable : Settings → ℕ → ℕ → Bool
+abbrev pub mainWritable : Settings → Setup → ℕ → ℕ → Bool
 mainWritable = mainOpen
 
-unfoldable pub accessOpen : (Settings → ℕ → ℕ → Bool) → Settings → ℕ → ℕ → AccessKind → ℕ → ℕ → Bool
+-- Whether all bytes of an access are open to it: of main memory as `main` says, all of local memory, and of the stack the window.
+unfoldable pub accessOpen : Bool → Settings → ℕ → ℕ → AccessKind → ℕ → ℕ → Bool
 accessOpen main g st ss Stack a n = leb st a && leb (a + n) ss
 accessOpen main g st ss Local a n = leb (a + n) (g .local)
-accessOpen main g st ss Cached a n = main g a n
-accessOpen main g st ss Main a n = main g a n
+accessOpen main g st ss Cached a n = main
+accessOpen main g st ss Main a n = main
 
--- The tests of an access of n bytes, in their order: 5, 7, 6. 5 is an address that the access width does not divide. `main` tells which
--- bytes of main memory are open to it.
-abbrev pub accessTests : (Settings → ℕ → ℕ → Bool) → Settings → ℕ → ℕ → AccessKind → ℕ → ℕ → List Test
+-- The tests of an access of n bytes, in their order: 5, 7, 6. 5 is an address that the access width does not divide, 6 a byte that is
+-- not open to it.
+abbrev pub accessTests : Bool → Settings → ℕ → ℕ → AccessKind → ℕ → ℕ → List Test
 accessTests main g st ss k a n =
     test 5 (not (eqb (a % n) 0)) ∷ test 7 (badAccess g st ss k) ∷ test 6 (not (accessOpen main g st ss k a n)) ∷ []
 
-unfoldable pub accessVerdict : Settings → ℕ → ℕ → AccessKind → ℕ → ℕ → Verdict
-accessVerdict g st ss k a n = verdict (accessTests mainOpen g st ss k a n)
+abbrev pub loadTests : Settings → Setup → ℕ → ℕ → AccessKind → LoadWidth → ℕ → List Test
+loadTests g x st ss k w a = accessTests (mainReadable g x a (2 ^ loadScale w)) g st ss k a (2 ^ loadScale w)
+
+abbrev pub storeTests : Settings → Setup → ℕ → ℕ → AccessKind → StoreWidth → ℕ → List Test
+storeTests g x st ss k w a = accessTests (mainWritable g x a (2 ^ storeScale w)) g st ss k a (2 ^ storeScale w)

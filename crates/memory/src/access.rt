@@ -3,7 +3,8 @@ ghost use mathlib.Core.Path.{_≡_};
 ghost use Prim.Native.Nat.{_^_};
 ghost use Rattle.big_endian.specs.Bytes.{numberAt, putNumber};
 ghost use Rattle.stack_cache.specs.Stack.{cacheNumber, putCacheNumber};
-ghost use Rattle.memory.specs.Access.{loadScale, storeScale, buffers, extended, loadedValue, stored};
+ghost use Rattle.memory.specs.Access.{loadScale, storeScale, extended, loadedValue, stored};
+ghost use Rattle.settings.specs.Setup.{found, left};
 use isa::AccessKind;
 use isa::LoadWidth;
 use isa::StoreWidth;
@@ -43,7 +44,7 @@ pub fn load(
     width: LoadWidth,
     a: u32,
 ) -> u32
-    ensures { λ r. ⌜ r ≡ loadedValue (buffers (now (main .entry)) (now (local .entry)) (now (cache .entry))) kind width a ⌝ }
+    ensures { λ r. ⌜ r ≡ loadedValue (found main local cache) kind width a ⌝ }
 {
     match kind {
         AccessKind::Stack => load_cache(cache, width, a),
@@ -83,7 +84,7 @@ pub fn store(
     a: u32,
     v: u32,
 )
-    ensures { λ _. ⌜ buffers (now (main .exit)) (now (local .exit)) (now (cache .exit)) ≡ stored (buffers (now (main .entry)) (now (local .entry)) (now (cache .entry))) kind (2 ^ storeScale width) a v ⌝ }
+    ensures { λ _. ⌜ left main local cache ≡ stored (found main local cache) kind (2 ^ storeScale width) a v ⌝ }
 {
     match kind {
         AccessKind::Stack => store_cache(&mut *cache, width, a, v),

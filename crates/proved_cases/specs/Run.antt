@@ -12,28 +12,27 @@ use Rattle.decoder.specs.Decode.{bundleWords, guardOf, slotTwo, decode}
 use Rattle.stack_cache.specs.Stack.{isCacheSize, cacheWord, putCacheWord, partOf, putPart, cacheNumber, putCacheNumber, below, spillWhile, fillWhile, topAfter, spills, fills, spillAfter, badWindow, badAmount, every, movedOutside, spilled, filled}
 use Rattle.state.specs.State.{State, startOf, withRegister, withPredicate, predicatesOf, withSpecial, withStack, landed, goingOn, transferred, wellFormed, ended as hasEnded, fresh}
 use Rattle.state.specs.declared.WaitingTransfer.{WaitingTransfer}
-use Rattle.settings.specs.Answer.{Returned, accepted, done, ended, spent, refused}
+use Rattle.answers.specs.Answer.{Returned, accepted, done, ended, spent, refused}
 use Rattle.bundle_rules.specs.declared.Counts.{Counts}
 use Rattle.settings.specs.Settings.{admits}
-use Rattle.memory.specs.Access.{Buffers, buffers, loadScale, storeScale, readNumber, extended, loadedValue, stored, mainOpen, accessOpen, verdict}
+use Rattle.memory.specs.Access.{loadScale, storeScale, readNumber, extended, loadedValue, stored, mainOpen, accessOpen}
 use Rattle.alu_effects.specs.AluEffects.{predicatesWord, special, op2Value, aluEffect, slotTwoEffect}
 use Rattle.effects.specs.Effect.{accessAddress, amountWords, amountAligned, stackEffect, transferOf, effectOf, slotOneEffect, slotOne, onEffect}
-use Rattle.bundle_rules.specs.Refusal.{outsideCode}
-use Rattle.bundle_rules.specs.Bundle.{stackMoved, buffersAfter, writeOne, written, Outcome, outcome, bundleAt, bundle, readiness, step}
+use Rattle.bundle_rules.specs.Bundle.{stackMoved, buffersAfter, writeOne, written, Outcome, outcome, bundle, readiness, step}
 use Rattle.state.specs.Writes.{writeAlu, delaySlots}
 use Rattle.machine.specs.Open.{Open, opening}
 use Rattle.proved_cases.specs.Case.{Case, AllHold}
+use Rattle.settings.specs.Setup.{Setup, Buffers, buffers, touches}
+use Rattle.answers.specs.Test.{verdict}
+use Rattle.fetch.specs.Fetch.{outsideCode, bundleAt}
 
 -- The machine of every run: main memory of 1024 bytes, all zero, with the stack area from 512 to its end; no local memory.
-abbrev pub lo : ℕ
-lo = 512
-
-abbrev pub hi : ℕ
-hi = 1024
+abbrev pub within : List ℕ → Setup
+within code = record { code = code; lo = 512; hi = 1024 }
 
 -- Main memory that is zero but for its last bytes.
 abbrev pub endingIn : List ℕ → List ℕ
-endingIn last = replicate (hi - length last) 0 ++ last
+endingIn last = replicate (1024 - length last) 0 ++ last
 
 -- What is run: code, the address at which it is entered, what the cache holds then, and how many bundles are tried.
 pub record Given : Type 0 where
@@ -42,14 +41,14 @@ pub record Given : Type 0 where
   pub cache : List ℕ
   pub bundles : ℕ
 
--- The opening. (Its line, and that of `seen`, name the definitions by which it is computed: what unfolds it unfolds them too.)
-unfoldable pub opened : Given → Open
-unfolding opening admits isCacheSize fresh predicatesOf
-opened g = opening (g .code) (endingIn []) [] (g .cache) lo hi (g .entry)
-
 -- The buffers at the start. An opening leaves zeros in the cache; here it holds words that can be told apart.
 abbrev pub lentAtStart : Given → Buffers
 lentAtStart g = buffers (endingIn []) [] (g .cache)
+
+-- The opening. (Its line, and that of `seen`, name the definitions by which it is computed: what unfolds it unfolds them too.)
+unfoldable pub opened : Given → Open
+unfolding opening admits isCacheSize fresh predicatesOf
+opened g = opening (within (g .code)) (lentAtStart g) (g .entry)
 
 -- What a step gives, and the addresses of the words that it spills and fills, in order.
 pub record Seen : Type 0 where
@@ -72,12 +71,12 @@ unfolding step readiness admits isCacheSize wellFormed hasEnded bundle
     slotOneEffect slotTwoEffect effectOf aluEffect op2Value arithmetic multiply compare combine
     lessSigned lessEqualSigned shiftRightSigned copyBit productSigned predicatesWord special
     loadScale storeScale accessAddress stackEffect amountWords amountAligned transferOf
-    verdict mainOpen accessOpen badWindow badAmount movedOutside every spills spillWhile below fills fillWhile topAfter spillAfter
+    verdict touches mainOpen accessOpen badWindow badAmount movedOutside every spills spillWhile below fills fillWhile topAfter spillAfter
     written landed writeOne writeAlu withRegister withPredicate withSpecial predicatesOf delaySlots transferred
     loadedValue extended signExtend readNumber cacheNumber cacheWord partOf
     buffersAfter stored putNumber putCacheNumber putCacheWord putPart stackMoved spilled filled
 seen code s b =
-    let o = step code lo hi s b in
+    let o = step (within code) s b in
     let one = slotOne (startOf s) (bundleAt code (s .fetch)) in
     record {
       outcome = o;
@@ -152,7 +151,7 @@ given r =
 -- registers, base, and no waiting load.
 abbrev pub expected : Run → Tried → Seen
 expected r t =
-    let s = goingOn (fresh (length (given r .code)) hi (given r .entry)) (t .flow .fetch) (t .flow .transfer) in
+    let s = goingOn (fresh (length (given r .code)) 1024 (given r .entry)) (t .flow .fetch) (t .flow .transfer) in
     record {
       outcome = outcome (t .answer) (withStack s (t .stack .st) (t .stack .ss)) (t .counts) (buffers (endingIn (t .lent .last)) [] (t .lent .cache));
       spilled = t .stack .spilled;

@@ -1,2 +1,1 @@
 pub mod Ran
-pub mod LoopLaws

@@ -1,16 +1,19 @@
--- What a run's functions give, as the outcome of a run.
-use Prim.Native.Nat.{ℕ}
-use mathlib.Core.Bool.{Bool}
-use mathlib.Core.List.{List}
-use Rattle.settings.specs.Answer.{Returned, ended, spent, refused}
-use Rattle.memory.specs.Access.{Buffers}
-use Rattle.state.specs.Core.{joined}
+-- What a run gives, as the outcome of a run.
+use mathlib.Core.Bool.{Bool, cond}
+use mathlib.Core.Path.{_≡_, refl, ap, _∙_}
+use lib.ListN.{length}
+use Rattle.answers.specs.Answer.{Returned, ended, spent, refused}
+use Rattle.settings.specs.Setup.{Setup, Buffers}
+use Rattle.state.specs.State.{State, ended as hasEnded}
 use Rattle.machine.specs.Whole.{stateOf}
-use Rattle.bundle_rules.specs.Bundle.{Outcome, outcome}
+use Rattle.bundle_rules.specs.declared.Answer.{Answer}
+use Rattle.bundle_rules.specs.declared.Answer.the-variants.{Done, Ended, Refused}
+use Rattle.bundle_rules.specs.Bundle.{Outcome, outcome, returned as answered}
+use Rattle.bundle_rules.specs.declared.Counts.{Counts}
+use Rattle.run_rules.specs.Loop.{ending}
 use Rattle.run.specs.declared.RunAnswer.{RunAnswer}
 use Rattle.run.specs.declared.RunAnswer.the-variants as answer
 use Rattle.run.specs.declared.Ran.{Ran}
-use Rattle.run.specs.declared.Stopped.{Stopped}
 
 -- What each answer of the function returns.
 abbrev pub returned : RunAnswer → Returned
@@ -22,6 +25,18 @@ returned (answer.Refused n) = refused n
 abbrev pub whole : Ran → Buffers → Outcome
 whole r b = outcome (returned (r .answer)) (stateOf (r .state)) (r .counts) b
 
--- The same of a run on a state whose registers and predicates are lent.
-abbrev pub wholeOf : List ℕ → List Bool → Stopped → Buffers → Outcome
-wholeOf rs ps r b = outcome (returned (r .answer)) (joined rs ps (r .core)) (r .counts) b
+-- How a run ends whose bundles were answered so, by whether its state has ended.
+abbrev pub endsWith : Answer → Bool → Returned
+endsWith Done t = cond t ended spent
+endsWith Ended t = ended
+endsWith (Refused n) t = refused n
+
+-- So the end of what was advanced is the run's.
+pub ends-as : (x : Setup) (a : Answer) (t : Bool) (q : RunAnswer) (s s′ : State) (c : Counts) (b : Buffers) → returned q ≡ endsWith a t
+    → t ≡ hasEnded s (length (x .code)) → s′ ≡ s → outcome (returned q) s′ c b ≡ ending x (outcome (answered a) s c b)
+ends-as x a t q s s′ c b e f h = (λ i. outcome (e i) (h i) c b) ∙ ap (λ (u : Bool). outcome (endsWith a u) s c b) f ∙ go a
+  where
+    go : (a : Answer) → outcome (endsWith a (hasEnded s (length (x .code)))) s c b ≡ ending x (outcome (answered a) s c b)
+    go Done = refl
+    go Ended = refl
+    go (Refused n) = refl

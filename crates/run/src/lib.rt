@@ -1,25 +1,15 @@
 // A run with a budget.
 ghost use mathlib.Core.Path.{_≡_};
-ghost use mathlib.Core.Bool.{Bool};
-ghost use mathlib.Core.List.{List};
-ghost use Prim.Native.Nat.{ℕ, _+_, _^_, _<_};
-ghost use Rattle.memory.specs.Access.{Buffers, buffers};
-ghost use Rattle.bundle_rules.specs.Bundle.{noCounts, outcome, readyOr};
-ghost use Rattle.state.specs.Core.{joined};
+ghost use Rattle.settings.specs.Setup.{setup, found, left};
 ghost use Rattle.machine.specs.Whole.{stateOf};
-ghost use Rattle.settings.specs.Answer.{spent};
-ghost use Rattle.state.specs.State.{State as MachineState};
-ghost use Rattle.run_rules.specs.Run.{plus, run};
-ghost use Rattle.run.specs.Ran.{returned, whole, wholeOf};
-use bundle::outcome::no_counts;
-use bundle::step::readiness;
-use bundle::step::step;
+ghost use Rattle.run_rules.specs.Run.{run};
+ghost use Rattle.run.specs.Ran.{returned, endsWith, whole};
+use bundle::advance::advance;
+use bundle::ready::has_ended;
 use bundle_rules::Answer;
 use bundle_rules::Counts;
-use bundle_rules::Readiness;
 use machine::State;
-use settings::Settings;
-use state::Core;
+use settings::Config;
 
 // What a run answers; Refused holds document 01's number.
 pub enum RunAnswer {
@@ -35,102 +25,20 @@ pub struct Ran {
     pub counts: Counts,
 }
 
-// The same inside the run, whose registers and predicates are lent.
-struct Stopped {
-    answer: RunAnswer,
-    core: Core,
-    counts: Counts,
-}
-
-fn sum(c: Counts, d: Counts) -> Counts
-    requires { ⌜ (c .bundles + d .bundles < 2 ^ 64) × (c .cycles + d .cycles < 2 ^ 64) × (c .spilled + d .spilled < 2 ^ 64) × (c .filled + d .filled < 2 ^ 64) ⌝ }
-    ensures { λ r. ⌜ r ≡ plus c d ⌝ }
+// What a run answers whose bundles were advanced so far.
+fn at_end(a: Answer, ended: bool) -> RunAnswer
+    ensures { λ r. ⌜ returned r ≡ endsWith a ended ⌝ }
 {
-    Counts {
-        bundles: c.bundles + d.bundles,
-        cycles: c.cycles + d.cycles,
-        spilled: c.spilled + d.spilled,
-        filled: c.filled + d.filled,
-    }
-}
-
-// What a run answers whose budget is used up.
-fn at_budget_end(r: Readiness) -> RunAnswer
-    ensures { λ x. ⌜ ((s : MachineState) (b : Buffers) → outcome (returned x) s noCounts b ≡ readyOr r s b (outcome spent s noCounts b)) ⌝ }
-{
-    match r {
-        Readiness::Refused(n) => RunAnswer::Refused(n),
-        Readiness::Ended => RunAnswer::Ended,
-        Readiness::Ready => RunAnswer::Spent,
-    }
-}
-
-fn stop(answer: RunAnswer, core: Core, counts: Counts) -> Stopped
-    ensures { λ r. ⌜ ((rs : List ℕ) (ps : List Bool) (b : Buffers) → wholeOf rs ps r b ≡ outcome (returned answer) (joined rs ps core) counts b) ⌝ }
-{
-    Stopped {
-        answer,
-        core,
-        counts,
-    }
-}
-
-// Bundles from a state on, until the code's end, a refusal or the budget's end.
-fn bundles(
-    start: Core,
-    registers: &mut [u32; 32],
-    predicates: &mut [bool; 8],
-    code: &[u8],
-    main: &mut [u8],
-    local: &mut [u8],
-    cache: &mut [u32],
-    lo: u32,
-    hi: u32,
-    budget: u32,
-) -> Stopped
-    ensures { λ r. ⌜ wholeOf (now (registers .exit)) (now (predicates .exit)) r (buffers (now (main .exit)) (now (local .exit)) (now (cache .exit))) ≡ run (now (code .entry)) lo hi budget (joined (now (registers .entry)) (now (predicates .entry)) start) (buffers (now (main .entry)) (now (local .entry)) (now (cache .entry))) ⌝ }
-{
-    let mut core = start;
-    let mut counts = no_counts();
-    let mut left = budget;
-    while 0 < left {
-        let r = step(
-            core,
-            &mut *registers,
-            &mut *predicates,
-            code,
-            &mut *main,
-            &mut *local,
-            &mut *cache,
-            lo,
-            hi,
-        );
-        let answer = r.answer;
-        let next = r.core;
-        let more = r.counts;
-        match answer {
-            Answer::Refused(n) => return stop(RunAnswer::Refused(n), next, counts),
-            Answer::Ended => return stop(RunAnswer::Ended, next, counts),
-            Answer::Done => {
-                core = next;
-                counts = sum(counts, more);
-                left = left - 1;
+    match a {
+        Answer::Refused(n) => RunAnswer::Refused(n),
+        Answer::Ended => RunAnswer::Ended,
+        Answer::Done => {
+            if ended {
+                return RunAnswer::Ended;
             }
+            RunAnswer::Spent
         }
     }
-    let g = Settings {
-        code: code.len(),
-        main: main.len(),
-        local: local.len(),
-        words: cache.len(),
-        lo,
-        hi,
-    };
-    stop(
-        at_budget_end(readiness(core, &*registers, &*predicates, g)),
-        core,
-        counts,
-    )
 }
 
 // A run from a state. Inside it the registers and predicates are lent to each bundle.
@@ -140,31 +48,31 @@ pub fn run(
     main: &mut [u8],
     local: &mut [u8],
     cache: &mut [u32],
-    lo: u32,
-    hi: u32,
+    config: Config,
     budget: u32,
 ) -> Ran
-    ensures { λ r. ⌜ whole r (buffers (now (main .exit)) (now (local .exit)) (now (cache .exit))) ≡ run (now (code .entry)) lo hi budget (stateOf start) (buffers (now (main .entry)) (now (local .entry)) (now (cache .entry))) ⌝ }
+    ensures { λ r. ⌜ whole r (left main local cache) ≡ run (setup (now (code .entry)) config) budget (stateOf start) (found main local cache) ⌝ }
 {
     let mut registers = start.registers;
     let mut predicates = start.predicates;
-    let r = bundles(
+    let r = advance(
         start.core(),
         &mut registers,
         &mut predicates,
+        config,
         code,
         &mut *main,
         &mut *local,
         &mut *cache,
-        lo,
-        hi,
         budget,
     );
     let answer = r.answer;
+    let core = r.core;
     let counts = r.counts;
-    let state = State::join(registers, predicates, r.core);
+    let ended = has_ended(core, code.len());
+    let state = State::join(registers, predicates, core);
     Ran {
-        answer,
+        answer: at_end(answer, ended),
         state,
         counts,
     }

@@ -1,3 +1,5 @@
 pub mod Run
 pub mod RunLaws
 pub mod TriesLaws
+pub mod Loop
+pub mod LoopLaws

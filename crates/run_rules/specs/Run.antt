@@ -1,18 +1,14 @@
 -- A run with a budget: the bundle repeated, and beside it the list of the bundles that it tries.
 use Prim.Native.Nat.{ℕ, zero, suc, _+_}
 use mathlib.Core.List.{List, [], _∷_}
-use Rattle.settings.specs.Answer.{Returned, accepted, done, ended, spent, refused}
-use Rattle.memory.specs.Access.{Buffers}
+use Rattle.answers.specs.Answer.{Returned, accepted, done, ended, spent, refused}
 use Rattle.state.specs.State.{State}
 use Rattle.bundle_rules.specs.declared.Counts.{Counts}
 use Rattle.bundle_rules.specs.declared.Readiness.{Readiness}
 use Rattle.bundle_rules.specs.declared.Readiness.the-variants.{Ready, Ended, Refused}
-use Rattle.bundle_rules.specs.Bundle.{Outcome, outcome, noCounts, readiness, readyOr, lent, step}
-
--- Counts are summed bundle by bundle.
-abbrev pub plus : Counts → Counts → Counts
-plus c d =
-    record { bundles = c .bundles + d .bundles; cycles = c .cycles + d .cycles; spilled = c .spilled + d .spilled; filled = c .filled + d .filled }
+use Rattle.bundle_rules.specs.Bundle.{Outcome, outcome, readiness, readyOr, step}
+use Rattle.settings.specs.Setup.{Buffers, lent, Setup}
+use Rattle.bundle_rules.specs.Counts.{noCounts, plus}
 
 -- By cases: a bundle done, and every other answer.
 abbrev pub ifDone : {A : Type 0} → Returned → A → A → A
@@ -27,15 +23,15 @@ abbrev pub counted : Counts → Outcome → Outcome
 counted c o = outcome (o .answer) (o .state) (plus c (o .counts)) (o .buffers)
 
 -- A run with no budget left: 1, 11, ended, spent.
-abbrev pub stopped : List ℕ → ℕ → ℕ → State → Buffers → Outcome
-stopped code lo hi s b = readyOr (readiness (lent code lo hi b) s) s b (outcome spent s noCounts b)
+abbrev pub stopped : Setup → State → Buffers → Outcome
+stopped x s b = readyOr (readiness (lent x b) s) s b (outcome spent s noCounts b)
 
 -- A run: a bundle that is done is followed by the run of the rest, and any other answer of the step is the run's. A run is spent if its budget is used up and the state has not ended.
-unfoldable pub run : List ℕ → ℕ → ℕ → ℕ → State → Buffers → Outcome
-run code lo hi zero s b = stopped code lo hi s b
-run code lo hi (suc k) s b =
-    let o = step code lo hi s b in
-    let rest = run code lo hi k (o .state) (o .buffers) in
+unfoldable pub run : Setup → ℕ → State → Buffers → Outcome
+run x zero s b = stopped x s b
+run x (suc k) s b =
+    let o = step x s b in
+    let rest = run x k (o .state) (o .buffers) in
     ifDone (o .answer) (counted (o .counts) rest) o
 
 -- A tried bundle: its fetch address, whether it was done or refused and with which number, the counts so far, and the state and
@@ -58,20 +54,20 @@ whenReady (Refused n) l = []
 
 -- The bundles that a run tries, each from the state and buffers that the one before left, the first from those handed in. A refused
 -- one is tried too, and ends the list. The last argument is what the bundles before have counted.
-unfoldable pub tries : List ℕ → ℕ → ℕ → ℕ → State → Buffers → Counts → List Tried
-tries code lo hi zero s b before = []
-tries code lo hi (suc k) s b before =
-    let o = step code lo hi s b in
+unfoldable pub tries : Setup → ℕ → State → Buffers → Counts → List Tried
+tries x zero s b before = []
+tries x (suc k) s b before =
+    let o = step x s b in
     let t = triedAt (s .fetch) before o in
-    let rest = tries code lo hi k (o .state) (o .buffers) (t .counts) in
-    whenReady (readiness (lent code lo hi b) s) (t ∷ ifDone (o .answer) rest [])
+    let rest = tries x k (o .state) (o .buffers) (t .counts) in
+    whenReady (readiness (lent x b) s) (t ∷ ifDone (o .answer) rest [])
 
 -- What a list of tried bundles ends in: the refusal of its last, or, where the last was done, ended or spent; with the state, the
 -- buffers and the counts after the last that was done.
-unfoldable pub endOf : List ℕ → ℕ → ℕ → State → Buffers → Counts → List Tried → Outcome
-endOf code lo hi s b before [] = counted before (stopped code lo hi s b)
-endOf code lo hi s b before (t ∷ rest) =
-    ifDone (t .answer) (endOf code lo hi (t .state) (t .buffers) (t .counts) rest) (outcome (t .answer) (t .state) (t .counts) (t .buffers))
+unfoldable pub endOf : Setup → State → Buffers → Counts → List Tried → Outcome
+endOf x s b before [] = counted before (stopped x s b)
+endOf x s b before (t ∷ rest) =
+    ifDone (t .answer) (endOf x (t .state) (t .buffers) (t .counts) rest) (outcome (t .answer) (t .state) (t .counts) (t .buffers))
 
 -- How many of a list of tried bundles were done.
 unfoldable pub doneIn : List Tried → ℕ

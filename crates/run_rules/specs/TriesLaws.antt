@@ -4,20 +4,21 @@ use mathlib.Core.Bool.{false}
 use mathlib.Core.List.{List, [], _∷_}
 use mathlib.Core.Path.{_≡_, refl, sym, ap, _∙_}
 use native.Mathlib.Omega.{arith}
-use Rattle.settings.specs.Answer.{Returned, accepted, done, ended, spent, refused}
-use Rattle.memory.specs.Access.{Buffers}
+use Rattle.answers.specs.Answer.{Returned, accepted, done, ended, spent, refused}
 use Rattle.state.specs.State.{State}
 use Rattle.bundle_rules.specs.declared.Counts.{Counts}
 use Rattle.bundle_rules.specs.declared.Readiness.{Readiness}
 use Rattle.bundle_rules.specs.declared.Readiness.the-variants.{Ready, Ended, Refused}
-use Rattle.bundle_rules.specs.Bundle.{Outcome, outcome, noCounts, bundle, readiness, readyOr, lent, step}
+use Rattle.bundle_rules.specs.Bundle.{Outcome, outcome, bundle, readiness, readyOr, step}
 use Rattle.machine_laws.specs.StepCases.{isDone, bundle-cases, step-cases}
-use Rattle.run_rules.specs.Run.{plus, ifDone, counted, run, Tried, triedAt, whenReady, tries, endOf, doneIn}
+use Rattle.run_rules.specs.Run.{ifDone, counted, run, Tried, triedAt, whenReady, tries, endOf, doneIn}
 use Rattle.run_rules.specs.RunLaws.{counted-counted, counted-none}
+use Rattle.settings.specs.Setup.{Buffers, lent, Setup}
+use Rattle.bundle_rules.specs.Counts.{noCounts, plus}
 
 -- How many bundles a step counts: 1 where it is done.
-pub step-one : (code : List ℕ) (lo hi : ℕ) (s : State) (b : Buffers) → step code lo hi s b .counts .bundles ≡ ifDone (step code lo hi s b .answer) 1 0
-step-one code lo hi s b = step-cases code lo hi s b (λ o. o .counts .bundles ≡ ifDone (o .answer) 1 0) none (λ p j. refl)
+pub step-one : (x : Setup) (s : State) (b : Buffers) → step x s b .counts .bundles ≡ ifDone (step x s b .answer) 1 0
+step-one x s b = step-cases x s b (λ o. o .counts .bundles ≡ ifDone (o .answer) 1 0) none (λ p j. refl)
   where
     none : (a : Returned) → isDone a ≡ false → _≡_ {A = ℕ} 0 (ifDone a 1 0)
     none done e = cc
@@ -27,23 +28,23 @@ step-one code lo hi s b = step-cases code lo hi s b (λ o. o .counts .bundles �
     none (refused n) e = refl
 
 -- What a step gives where no bundle is tried.
-step-readiness : (code : List ℕ) (lo hi : ℕ) (s : State) (b : Buffers) (r : Readiness) → readiness (lent code lo hi b) s ≡ r
-    → step code lo hi s b ≡ readyOr r s b (bundle (lent code lo hi b) code s b)
+step-readiness : (x : Setup) (s : State) (b : Buffers) (r : Readiness) → readiness (lent x b) s ≡ r
+    → step x s b ≡ readyOr r s b (bundle (lent x b) x s b)
 unfolding step
-step-readiness code lo hi s b r e = ap (λ (x : Readiness). readyOr x s b (bundle (lent code lo hi b) code s b)) e
+step-readiness x s b r e = ap (λ (y : Readiness). readyOr y s b (bundle (lent x b) x s b)) e
 
 -- A step never answers spent.
-step-spent : (code : List ℕ) (lo hi : ℕ) (s : State) (b : Buffers) → step code lo hi s b .answer ≡ spent → (x y : ℕ) → x ≡ y
-step-spent code lo hi s b e = go (readiness (lent code lo hi b) s) refl
+step-spent : (x : Setup) (s : State) (b : Buffers) → step x s b .answer ≡ spent → (i k : ℕ) → i ≡ k
+step-spent x s b e = go (readiness (lent x b) s) refl
   where
-    go : (r : Readiness) → readiness (lent code lo hi b) s ≡ r → (x y : ℕ) → x ≡ y
+    go : (r : Readiness) → readiness (lent x b) s ≡ r → (i k : ℕ) → i ≡ k
     go Ready p =
-        bundle-cases (lent code lo hi b) code s b (λ o. o .answer ≡ spent → (x y : ℕ) → x ≡ y) (λ n j q x y. cc) (λ j q x y. cc)
-        (ap (λ (o : Outcome). o .answer) (sym (step-readiness code lo hi s b Ready p)) ∙ e)
-    go Ended p = λ x y. let q : ended ≡ spent = ap (λ (o : Outcome). o .answer) (sym (step-readiness code lo hi s b Ended p)) ∙ e in cc
-    go (Refused n) p = λ x y. let q : refused n ≡ spent = ap (λ (o : Outcome). o .answer) (sym (step-readiness code lo hi s b (Refused n) p)) ∙ e in cc
+        bundle-cases (lent x b) x s b (λ o. o .answer ≡ spent → (i k : ℕ) → i ≡ k) (λ n j q i k. cc) (λ j q i k. cc)
+        (ap (λ (o : Outcome). o .answer) (sym (step-readiness x s b Ready p)) ∙ e)
+    go Ended p = λ i k. let q : ended ≡ spent = ap (λ (o : Outcome). o .answer) (sym (step-readiness x s b Ended p)) ∙ e in cc
+    go (Refused n) p = λ i k. let q : refused n ≡ spent = ap (λ (o : Outcome). o .answer) (sym (step-readiness x s b (Refused n) p)) ∙ e in cc
 
-module _ (code : List ℕ) (lo hi : ℕ) (s : State) (b : Buffers) (before : Counts) where
+module _ (x : Setup) (s : State) (b : Buffers) (before : Counts) where
   -- The rest of a run after a step, and the list of tried bundles from it on, by what the step gives.
   abbrev going : (State → Buffers → Outcome) → Outcome → Outcome
   going rest o = counted before (ifDone (o .answer) (counted (o .counts) (rest (o .state) (o .buffers))) o)
@@ -52,10 +53,10 @@ module _ (code : List ℕ) (lo hi : ℕ) (s : State) (b : Buffers) (before : Cou
   listed rest r o = whenReady r (triedAt (s .fetch) before o ∷ ifDone (o .answer) (rest (o .state) (o .buffers) (plus before (o .counts))) [])
 
   by-answer : (rest : State → Buffers → Outcome) (list : State → Buffers → Counts → List Tried)
-      → ((s′ : State) (b′ : Buffers) (c : Counts) → counted c (rest s′ b′) ≡ endOf code lo hi s′ b′ c (list s′ b′ c))
+      → ((s′ : State) (b′ : Buffers) (c : Counts) → counted c (rest s′ b′) ≡ endOf x s′ b′ c (list s′ b′ c))
       → (o : Outcome) (a : Returned)
       → counted before (ifDone a (counted (o .counts) (rest (o .state) (o .buffers))) o)
-      ≡ ifDone a (endOf code lo hi (o .state) (o .buffers) (plus before (o .counts)) (ifDone a (list (o .state) (o .buffers) (plus before (o .counts))) [])) (counted before o)
+      ≡ ifDone a (endOf x (o .state) (o .buffers) (plus before (o .counts)) (ifDone a (list (o .state) (o .buffers) (plus before (o .counts))) [])) (counted before o)
   by-answer rest list h o done = sym (counted-counted before (o .counts) (rest (o .state) (o .buffers))) ∙ h (o .state) (o .buffers) (plus before (o .counts))
   by-answer rest list h o accepted = refl
   by-answer rest list h o ended = refl
@@ -63,15 +64,15 @@ module _ (code : List ℕ) (lo hi : ℕ) (s : State) (b : Buffers) (before : Cou
   by-answer rest list h o (refused n) = refl
 
   by-readiness : (rest : State → Buffers → Outcome) (list : State → Buffers → Counts → List Tried)
-      → ((s′ : State) (b′ : Buffers) (c : Counts) → counted c (rest s′ b′) ≡ endOf code lo hi s′ b′ c (list s′ b′ c))
-      → (r : Readiness) → readiness (lent code lo hi b) s ≡ r
-      → going rest (step code lo hi s b) ≡ endOf code lo hi s b before (listed list r (step code lo hi s b))
+      → ((s′ : State) (b′ : Buffers) (c : Counts) → counted c (rest s′ b′) ≡ endOf x s′ b′ c (list s′ b′ c))
+      → (r : Readiness) → readiness (lent x b) s ≡ r
+      → going rest (step x s b) ≡ endOf x s b before (listed list r (step x s b))
   unfolding endOf
-  by-readiness rest list h Ready e = by-answer rest list h (step code lo hi s b) (step code lo hi s b .answer)
+  by-readiness rest list h Ready e = by-answer rest list h (step x s b) (step x s b .answer)
   by-readiness rest list h Ended e =
-      ap (going rest) (step-readiness code lo hi s b Ended e) ∙ sym (ap (λ (r : Readiness). counted before (readyOr r s b (outcome spent s noCounts b))) e)
+      ap (going rest) (step-readiness x s b Ended e) ∙ sym (ap (λ (r : Readiness). counted before (readyOr r s b (outcome spent s noCounts b))) e)
   by-readiness rest list h (Refused n) e =
-      ap (going rest) (step-readiness code lo hi s b (Refused n) e) ∙ sym (ap (λ (r : Readiness). counted before (readyOr r s b (outcome spent s noCounts b))) e)
+      ap (going rest) (step-readiness x s b (Refused n) e) ∙ sym (ap (λ (r : Readiness). counted before (readyOr r s b (outcome spent s noCounts b))) e)
 
   -- The number of bundles done, by what the step gives.
   abbrev after : (State → Buffers → Outcome) → Outcome → Outcome
@@ -88,56 +89,56 @@ module _ (code : List ℕ) (lo hi : ℕ) (s : State) (b : Buffers) (before : Cou
 
   bundles-by-readiness : (rest : State → Buffers → Outcome) (list : State → Buffers → Counts → List Tried)
       → ((s′ : State) (b′ : Buffers) (c : Counts) → rest s′ b′ .counts .bundles ≡ doneIn (list s′ b′ c))
-      → (r : Readiness) → readiness (lent code lo hi b) s ≡ r → after rest (step code lo hi s b) .counts .bundles ≡ doneIn (listed list r (step code lo hi s b))
+      → (r : Readiness) → readiness (lent x b) s ≡ r → after rest (step x s b) .counts .bundles ≡ doneIn (listed list r (step x s b))
   unfolding doneIn
   bundles-by-readiness rest list h Ready e =
-      bundles-by-answer (step code lo hi s b) _ _ (step code lo hi s b .answer) (step-one code lo hi s b) (h (step code lo hi s b .state) (step code lo hi s b .buffers) _)
-  bundles-by-readiness rest list h Ended e = ap (λ (o : Outcome). after rest o .counts .bundles) (step-readiness code lo hi s b Ended e)
-  bundles-by-readiness rest list h (Refused n) e = ap (λ (o : Outcome). after rest o .counts .bundles) (step-readiness code lo hi s b (Refused n) e)
+      bundles-by-answer (step x s b) _ _ (step x s b .answer) (step-one x s b) (h (step x s b .state) (step x s b .buffers) _)
+  bundles-by-readiness rest list h Ended e = ap (λ (o : Outcome). after rest o .counts .bundles) (step-readiness x s b Ended e)
+  bundles-by-readiness rest list h (Refused n) e = ap (λ (o : Outcome). after rest o .counts .bundles) (step-readiness x s b (Refused n) e)
 
-module _ (code : List ℕ) (lo hi : ℕ) where
+module _ (x : Setup) where
   -- What is left to do from here, with the counts from before, is what the list of the bundles tried from here ends in.
-  pub from-here : (k : ℕ) (s : State) (b : Buffers) (before : Counts) → counted before (run code lo hi k s b) ≡ endOf code lo hi s b before (tries code lo hi k s b before)
+  pub from-here : (k : ℕ) (s : State) (b : Buffers) (before : Counts) → counted before (run x k s b) ≡ endOf x s b before (tries x k s b before)
   unfolding run tries endOf
   from-here zero s b before = refl
   from-here (suc k) s b before =
-      by-readiness code lo hi s b before (run code lo hi k) (tries code lo hi k) (λ s′ b′ c. from-here k s′ b′ c) (readiness (lent code lo hi b) s) refl
+      by-readiness x s b before (run x k) (tries x k) (λ s′ b′ c. from-here k s′ b′ c) (readiness (lent x b) s) refl
 
   -- A run's answer, state, buffers and counts are those that its list of tried bundles ends in.
-  pub run-tries : (k : ℕ) (s : State) (b : Buffers) → run code lo hi k s b ≡ endOf code lo hi s b noCounts (tries code lo hi k s b noCounts)
-  run-tries k s b = sym (counted-none (run code lo hi k s b)) ∙ from-here k s b noCounts
+  pub run-tries : (k : ℕ) (s : State) (b : Buffers) → run x k s b ≡ endOf x s b noCounts (tries x k s b noCounts)
+  run-tries k s b = sym (counted-none (run x k s b)) ∙ from-here k s b noCounts
 
   -- The bundles that a run counts are those of the list that were done.
-  pub run-bundles : (k : ℕ) (s : State) (b : Buffers) (before : Counts) → run code lo hi k s b .counts .bundles ≡ doneIn (tries code lo hi k s b before)
+  pub run-bundles : (k : ℕ) (s : State) (b : Buffers) (before : Counts) → run x k s b .counts .bundles ≡ doneIn (tries x k s b before)
   unfolding run tries doneIn
-  run-bundles zero s b before = go (readiness (lent code lo hi b) s)
+  run-bundles zero s b before = go (readiness (lent x b) s)
     where
       go : (r : Readiness) → readyOr r s b (outcome spent s noCounts b) .counts .bundles ≡ 0
       go Ready = refl
       go Ended = refl
       go (Refused n) = refl
   run-bundles (suc k) s b before =
-      bundles-by-readiness code lo hi s b before (run code lo hi k) (tries code lo hi k) (λ s′ b′ c. run-bundles k s′ b′ c) (readiness (lent code lo hi b) s) refl
+      bundles-by-readiness x s b before (run x k) (tries x k) (λ s′ b′ c. run-bundles k s′ b′ c) (readiness (lent x b) s) refl
 
   -- A run that answers spent has done as many bundles as its budget.
-  pub run-spent : (k : ℕ) (s : State) (b : Buffers) → run code lo hi k s b .answer ≡ spent → run code lo hi k s b .counts .bundles ≡ k
+  pub run-spent : (k : ℕ) (s : State) (b : Buffers) → run x k s b .answer ≡ spent → run x k s b .counts .bundles ≡ k
   unfolding run
-  run-spent zero s b = go (readiness (lent code lo hi b) s)
+  run-spent zero s b = go (readiness (lent x b) s)
     where
       go : (r : Readiness) → readyOr r s b (outcome spent s noCounts b) .answer ≡ spent → readyOr r s b (outcome spent s noCounts b) .counts .bundles ≡ 0
       go Ready e = refl
       go Ended e = refl
       go (Refused n) e = refl
-  run-spent (suc k) s b = go (step code lo hi s b .answer) refl (run-spent k (step code lo hi s b .state) (step code lo hi s b .buffers)) (step-one code lo hi s b)
+  run-spent (suc k) s b = go (step x s b .answer) refl (run-spent k (step x s b .state) (step x s b .buffers)) (step-one x s b)
     where
       rest : Outcome
-      rest = run code lo hi k (step code lo hi s b .state) (step code lo hi s b .buffers)
+      rest = run x k (step x s b .state) (step x s b .buffers)
 
-      go : (a : Returned) → step code lo hi s b .answer ≡ a → (rest .answer ≡ spent → rest .counts .bundles ≡ k) → step code lo hi s b .counts .bundles ≡ ifDone a 1 0
-          → ifDone a (counted (step code lo hi s b .counts) rest) (step code lo hi s b) .answer ≡ spent
-          → ifDone a (counted (step code lo hi s b .counts) rest) (step code lo hi s b) .counts .bundles ≡ suc k
+      go : (a : Returned) → step x s b .answer ≡ a → (rest .answer ≡ spent → rest .counts .bundles ≡ k) → step x s b .counts .bundles ≡ ifDone a 1 0
+          → ifDone a (counted (step x s b .counts) rest) (step x s b) .answer ≡ spent
+          → ifDone a (counted (step x s b .counts) rest) (step x s b) .counts .bundles ≡ suc k
       go done p h q e = omega (arith, q, h e)
       go accepted p h q e = cc
       go ended p h q e = cc
-      go spent p h q e = step-spent code lo hi s b p _ _
+      go spent p h q e = step-spent x s b p _ _
       go (refused n) p h q e = cc

@@ -1,3 +1,4 @@
-pub mod Answer
+pub mod Setup
 pub mod Settings
 pub mod SettingsLaws
+pub mod SetupLaws

@@ -1,15 +1,13 @@
 -- "What the core has": the limits of the settings.
 use Prim.Native.Nat.{ℕ}
 use mathlib.Core.Bool.{Bool, cond, _&&_}
-use mathlib.Core.List.{List}
 use lib.Dec.{leb}
-use lib.ListN.{length}
 use Rattle.word.specs.Word.{isMultipleOf4}
 use Rattle.stack_cache.specs.Stack.{isCacheSize}
 use Rattle.settings.specs.declared.Settings.{Settings}
 use Rattle.settings.specs.declared.Acceptance.{Acceptance}
 use Rattle.settings.specs.declared.Acceptance.the-variants.{Accepted, Refused}
-use Rattle.settings.specs.Answer.{Returned, accepted, refused}
+use Rattle.answers.specs.Answer.{Returned, accepted, refused}
 
 -- The greatest length of code and of each memory.
 abbrev pub greatestLength : ℕ
@@ -36,8 +34,3 @@ acceptance s = cond (admits s) accepted (refused 1)
 abbrev pub returned : Acceptance → Returned
 returned Accepted = accepted
 returned (Refused n) = refused n
-
--- The settings that lent buffers and a stack area make: lengths are those of what is lent, so nothing can disagree.
-abbrev pub settingsOf : List ℕ → List ℕ → List ℕ → List ℕ → ℕ → ℕ → Settings
-settingsOf code main local cache lo hi =
-    record { code = length code; main = length main; local = length local; words = length cache; lo = lo; hi = hi }

@@ -1,7 +1,7 @@
 -- What admitted settings tell.
 use Prim.Native.Nat.{ℕ, _≤_, _%_}
 use mathlib.Core.Bool.{Bool, true, false, cond, _&&_}
-use mathlib.Core.Path.{_≡_, refl}
+use mathlib.Core.Path.{_≡_, refl, sym, ap}
 use borrow.Author.Tests.{leb-true}
 use lib.Dec.{leb, eqb}
 use Rattle.stack_cache.specs.Stack.{isCacheSize, makeCache}
@@ -26,7 +26,7 @@ module _ (g : Settings) (ok : admits g ≡ true) where
   lengths-ok : lengths ≡ true
   lengths-ok = and-left lengths (isCacheSize (g .words) && area) admitted
 
-  size-ok : isCacheSize (g .words) ≡ true
+  pub size-ok : isCacheSize (g .words) ≡ true
   size-ok = and-left (isCacheSize (g .words)) area (and-right lengths (isCacheSize (g .words) && area) admitted)
 
   area-ok : area ≡ true
@@ -61,6 +61,14 @@ size-refused w {n} = go (isCacheSize w)
     go : (t : Bool) → cond t (made.Cache (record { words = w })) (made.Refused 1) ≡ made.Refused n → t ≡ false
     go true e = cc
     go false e = refl
+
+pub size-words : (w : ℕ) {k : StackCache} → makeCache w ≡ made.Cache k → k .words ≡ w
+unfolding makeCache
+size-words w {k} = go (isCacheSize w)
+  where
+    go : (t : Bool) → cond t (made.Cache (record { words = w })) (made.Refused 1) ≡ made.Cache k → k .words ≡ w
+    go true e = let h : record { words = w } ≡ k = cc in ap (λ (c : StackCache). c .words) (sym h)
+    go false e = cc
 
 pub size-made : (w : ℕ) {k : StackCache} → makeCache w ≡ made.Cache k → isCacheSize w ≡ true
 unfolding makeCache

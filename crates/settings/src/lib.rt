@@ -1,9 +1,16 @@
-// The settings: lengths of what is lent, and the stack area; and their limits.
+// What is handed to a run: the numbers beside what is lent, the settings that they make together, and their limits.
 ghost use mathlib.Core.Path.{_≡_};
 ghost use Rattle.stack_cache.specs.Stack.{isCacheSize};
 ghost use Rattle.settings.specs.Settings.{codeLengthOk, areaOk, admits, acceptance, returned};
+ghost use Rattle.settings.specs.Setup.{setup, settings};
 use stack_cache::Made;
 use stack_cache::StackCache;
+
+// The numbers that a run is given beside what is lent: where the stack area begins and ends.
+pub struct Config {
+    pub lo: u32,
+    pub hi: u32,
+}
 
 // The lengths of code, main memory and local memory in bytes, the number of stack cache words, and the stack area.
 pub struct Settings {
@@ -40,6 +47,22 @@ fn is_cache_size(words: usize) -> bool
     match StackCache::new(words) {
         Made::Refused(_) => false,
         Made::Cache(_) => true,
+    }
+}
+
+impl Config {
+    // The settings that it makes with the code and the lengths of what is lent beside it.
+    pub fn settings(self, code: &[u8], main: usize, local: usize, words: usize) -> Settings
+        ensures { λ r. ⌜ r ≡ settings (setup (now (code .entry)) self) main local words ⌝ }
+    {
+        Settings {
+            code: code.len(),
+            main,
+            local,
+            words,
+            lo: self.lo,
+            hi: self.hi,
+        }
     }
 }
 

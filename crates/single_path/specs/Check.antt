@@ -5,11 +5,12 @@ use mathlib.Core.List.{List}
 use mathlib.Core.Path.{_≡_}
 use lib.Dec.{leb, eqb}
 use lib.ListN.{length}
-use Rattle.settings.specs.declared.Settings.{Settings}
+use Rattle.answers.specs.declared.Verdict.{Verdict}
+use Rattle.answers.specs.declared.Verdict.the-variants as verdict
+use Rattle.answers.specs.Test.{verdict}
+use Rattle.settings.specs.Setup.{Setup, settings}
 use Rattle.settings.specs.Settings.{admits}
-use Rattle.effects.specs.Effect.{isUndecodable}
-use Rattle.bundle_rules.specs.Refusal.{outsideCode}
-use Rattle.bundle_rules.specs.Bundle.{bundleAt, followingAt}
+use Rattle.fetch.specs.Fetch.{bundleAt, followingAt, fetchTests}
 use Rattle.marking.specs.declared.Marking.{Marking}
 use Rattle.marking.specs.Marking.{markingOk}
 use Rattle.marking_rules.specs.Rules.{breaks, keeps}
@@ -37,24 +38,24 @@ letterBroken m code enum.Accepted = true
 letterBroken m code (enum.Refused n a) = not (eqb n 9)
 letterBroken m code (enum.Broken a r) = breaks m (bundleAt code a) r
 
+-- A bundle that cannot be read is refused at its address.
+abbrev pub refusedAt : Verdict → ℕ → CheckAnswer → CheckAnswer
+refusedAt verdict.Fine a other = other
+refusedAt (verdict.Refused n) a other = refused n a
+
 -- The bundles from address a on, `most` at most: the first that fails gives 2, 3 or 9, in that order.
 unfoldable pub walkFrom : Marking → List ℕ → ℕ → ℕ → CheckAnswer
 walkFrom m code zero a = accepted
 walkFrom m code (suc most) a =
     let rest = walkFrom m code most (followingAt code a) in
     cond (leb (length code) a) accepted
-    (cond (outsideCode code a) (refused 2 a)
-    (cond (isUndecodable (bundleAt code a)) (refused 3 a)
-    (cond (keeps m (bundleAt code a)) rest (refused 9 a))))
+    (refusedAt (verdict (fetchTests code a)) a
+    (cond (keeps m (bundleAt code a)) rest (refused 9 a)))
 
--- The settings of what is lent, and whether refusal 1 lets them and the marking pass.
-abbrev pub settings : List ℕ → ℕ → ℕ → ℕ → ℕ → ℕ → Settings
-settings code main local words lo hi = record { code = length code; main = main; local = local; words = words; lo = lo; hi = hi }
-
-abbrev pub passes : List ℕ → ℕ → ℕ → ℕ → ℕ → ℕ → Marking → Bool
-passes code main local words lo hi m = admits (settings code main local words lo hi) && markingOk m
+-- Whether refusal 1 lets the settings and the marking pass. The lengths of what the check does not read are numbers.
+abbrev pub passes : Setup → ℕ → ℕ → ℕ → Marking → Bool
+passes x main local words m = admits (settings x main local words) && markingOk m
 
 -- The check's answer: 1 first. Code of n words has at most n bundles.
-unfoldable pub checked : List ℕ → ℕ → ℕ → ℕ → ℕ → ℕ → Marking → CheckAnswer
-checked code main local words lo hi m =
-    cond (passes code main local words lo hi m) (walkFrom m code (length code / 4 + 1) 0) (refused 1 0)
+unfoldable pub checked : Setup → ℕ → ℕ → ℕ → Marking → CheckAnswer
+checked x main local words m = cond (passes x main local words m) (walkFrom m (x .code) (length (x .code) / 4 + 1) 0) (refused 1 0)

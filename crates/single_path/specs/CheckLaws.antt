@@ -10,13 +10,14 @@ use native.Mathlib.Decide.{decLt}
 use borrow.Author.Tests.{leb-false, lt-leb}
 use lib.Dec.{leb}
 use lib.ListN.{length}
-use Rattle.effects.specs.Effect.{isUndecodable}
-use Rattle.bundle_rules.specs.Refusal.{outsideCode}
-use Rattle.bundle_rules.specs.Bundle.{bundleAt, followingAt}
 use Rattle.marking.specs.declared.Marking.{Marking}
 use Rattle.marking_rules.specs.Rules.{keeps}
-use Rattle.single_path.specs.Check.{Walked, first, later, CheckAnswer, accepted, refused, walkFrom, passes, checked}
+use Rattle.single_path.specs.Check.{Walked, first, later, CheckAnswer, accepted, refused, refusedAt, walkFrom, passes, checked}
+use Rattle.answers.specs.declared.Verdict.the-variants as verdict
+use Rattle.answers.specs.Test.{verdict}
 use Rattle.single_path.specs.WalkLaws.{following-above, walked-inside, walked-gap}
+use Rattle.fetch.specs.Fetch.{isUndecodable, outsideCode, bundleAt, followingAt}
+use Rattle.settings.specs.Setup.{Setup}
 
 -- The bundle at an address can be read and keeps the rules.
 pub record Fine (m : Marking) (code : List ℕ) (a : ℕ) : Type 0 where
@@ -46,13 +47,13 @@ module _ (m : Marking) (code : List ℕ) where
   -- The answer from a walked address on, before which all is fine.
   walk-first : (most a : ℕ) → (a < length code → Walked code a) → ((b : ℕ) → Walked code b → b < a → Fine m code b)
       → (walkFrom m code most a ≡ accepted) ⊎ FirstFailure m code (walkFrom m code most a)
-  unfolding walkFrom
+  unfolding walkFrom verdict
   walk-first zero a w f = inl refl
   walk-first (suc most) a w f =
       go (leb (length code) a) (outsideCode code a) (isUndecodable (bundleAt code a)) (keeps m (bundleAt code a)) refl refl refl refl (walk-first most (followingAt code a))
     where
       answer : Bool → Bool → Bool → Bool → CheckAnswer
-      answer t u v x = cond t accepted (cond u (refused 2 a) (cond v (refused 3 a) (cond x (walkFrom m code most (followingAt code a)) (refused 9 a))))
+      answer t u v x = cond t accepted (refusedAt (cond u (verdict.Refused 2) (cond v (verdict.Refused 3) verdict.Fine)) a (cond x (walkFrom m code most (followingAt code a)) (refused 9 a)))
 
       go : (t u v x : Bool) → leb (length code) a ≡ t → outsideCode code a ≡ u → isUndecodable (bundleAt code a) ≡ v → keeps m (bundleAt code a) ≡ x
           → ((followingAt code a < length code → Walked code (followingAt code a)) → ((b : ℕ) → Walked code b → b < followingAt code a → Fine m code b)
@@ -77,12 +78,12 @@ module _ (m : Marking) (code : List ℕ) where
   -- An accepted walk from an address accepts the bundle there and, if enough addresses are left, the walk from the next one.
   walk-here : (most a : ℕ) → a < length code → length code < a + 4 * most → walkFrom m code most a ≡ accepted
       → Fine m code a × ((n : ℕ) × (length code < followingAt code a + 4 * n) × (walkFrom m code n (followingAt code a) ≡ accepted))
-  unfolding walkFrom
+  unfolding walkFrom verdict
   walk-here zero a p h e = absurd (omega arith)
   walk-here (suc most) a p h e = go (outsideCode code a) (isUndecodable (bundleAt code a)) (keeps m (bundleAt code a)) refl refl refl (rw (lt-leb _ _ p) at e)
     where
       go : (u v x : Bool) → outsideCode code a ≡ u → isUndecodable (bundleAt code a) ≡ v → keeps m (bundleAt code a) ≡ x
-          → cond u (refused 2 a) (cond v (refused 3 a) (cond x (walkFrom m code most (followingAt code a)) (refused 9 a))) ≡ accepted
+          → refusedAt (cond u (verdict.Refused 2) (cond v (verdict.Refused 3) verdict.Fine)) a (cond x (walkFrom m code most (followingAt code a)) (refused 9 a)) ≡ accepted
           → Fine m code a × ((n : ℕ) × (length code < followingAt code a + 4 * n) × (walkFrom m code n (followingAt code a) ≡ accepted))
       go true v x j k l f = absurd (false≢true (ap isAccepted f))
       go false true x j k l f = absurd (false≢true (ap isAccepted f))
@@ -108,48 +109,48 @@ module _ (m : Marking) (code : List ℕ) where
   fails-apart (breaking p q r) f = false≢true (sym r ∙ f .keeping)
 
 -- The check, under settings and a marking that refusal 1 lets pass, and under others.
-module _ (code : List ℕ) (main local words lo hi : ℕ) (m : Marking) where
-  pub checked-walk : passes code main local words lo hi m ≡ true → checked code main local words lo hi m ≡ walkFrom m code (length code / 4 + 1) 0
+module _ (x : Setup) (main local words : ℕ) (m : Marking) where
+  pub checked-walk : passes x main local words m ≡ true → checked x main local words m ≡ walkFrom m (x .code) (length (x .code) / 4 + 1) 0
   unfolding checked
   checked-walk p = rw p
 
-  pub checked-first : passes code main local words lo hi m ≡ false → checked code main local words lo hi m ≡ refused 1 0
+  pub checked-first : passes x main local words m ≡ false → checked x main local words m ≡ refused 1 0
   unfolding checked
   checked-first p = rw p
 
   -- What it accepts passes refusal 1.
-  pub accepted-passes : checked code main local words lo hi m ≡ accepted → passes code main local words lo hi m ≡ true
-  accepted-passes e = go (passes code main local words lo hi m) refl
+  pub accepted-passes : checked x main local words m ≡ accepted → passes x main local words m ≡ true
+  accepted-passes e = go (passes x main local words m) refl
     where
-      go : (t : Bool) → passes code main local words lo hi m ≡ t → t ≡ true
+      go : (t : Bool) → passes x main local words m ≡ t → t ≡ true
       go true p = refl
       go false p = absurd (false≢true (ap isAccepted (sym (checked-first p) ∙ e)))
 
   -- Every walked bundle of accepted code can be read and keeps the rules.
-  pub accepted-fine : checked code main local words lo hi m ≡ accepted → (a : ℕ) → Walked code a → Fine m code a
-  accepted-fine e a w = walk-fine m code (sym (checked-walk (accepted-passes e)) ∙ e) w
+  pub accepted-fine : checked x main local words m ≡ accepted → (a : ℕ) → Walked (x .code) a → Fine m (x .code) a
+  accepted-fine e a w = walk-fine m (x .code) (sym (checked-walk (accepted-passes e)) ∙ e) w
 
   -- Code all of whose walked bundles are so is accepted.
-  pub fine-accepted : passes code main local words lo hi m ≡ true → ((a : ℕ) → Walked code a → Fine m code a)
-      → checked code main local words lo hi m ≡ accepted
-  fine-accepted p f = checked-walk p ∙ go (walk-first m code (length code / 4 + 1) 0 (λ h. first h) (λ b w h. f b w))
+  pub fine-accepted : passes x main local words m ≡ true → ((a : ℕ) → Walked (x .code) a → Fine m (x .code) a)
+      → checked x main local words m ≡ accepted
+  fine-accepted p f = checked-walk p ∙ go (walk-first m (x .code) (length (x .code) / 4 + 1) 0 (λ h. first h) (λ b w h. f b w))
     where
-      go : (walkFrom m code (length code / 4 + 1) 0 ≡ accepted) ⊎ FirstFailure m code (walkFrom m code (length code / 4 + 1) 0)
-          → walkFrom m code (length code / 4 + 1) 0 ≡ accepted
+      go : (walkFrom m (x .code) (length (x .code) / 4 + 1) 0 ≡ accepted) ⊎ FirstFailure m (x .code) (walkFrom m (x .code) (length (x .code) / 4 + 1) 0)
+          → walkFrom m (x .code) (length (x .code) / 4 + 1) 0 ≡ accepted
       go (inl e) = e
-      go (inr r) = absurd (fails-apart m code (r .fails) (f (r .address) (r .walked)))
+      go (inr r) = absurd (fails-apart m (x .code) (r .fails) (f (r .address) (r .walked)))
 
   -- Both: accepted if and only if every walked bundle is so.
-  pub accepted-iff : passes code main local words lo hi m ≡ true
-      → (checked code main local words lo hi m ≡ accepted) ↔ ((a : ℕ) → Walked code a → Fine m code a)
+  pub accepted-iff : passes x main local words m ≡ true
+      → (checked x main local words m ≡ accepted) ↔ ((a : ℕ) → Walked (x .code) a → Fine m (x .code) a)
   accepted-iff p = (accepted-fine, fine-accepted p)
 
   -- Any other answer is the first failure's.
-  pub checked-failure : passes code main local words lo hi m ≡ true → isAccepted (checked code main local words lo hi m) ≡ false
-      → FirstFailure m code (checked code main local words lo hi m)
-  checked-failure p q = rw (checked-walk p) (go (walk-first m code (length code / 4 + 1) 0 (λ h. first h) (λ b w h. absurd (omega (arith, h)))))
+  pub checked-failure : passes x main local words m ≡ true → isAccepted (checked x main local words m) ≡ false
+      → FirstFailure m (x .code) (checked x main local words m)
+  checked-failure p q = rw (checked-walk p) (go (walk-first m (x .code) (length (x .code) / 4 + 1) 0 (λ h. first h) (λ b w h. absurd (omega (arith, h)))))
     where
-      go : (walkFrom m code (length code / 4 + 1) 0 ≡ accepted) ⊎ FirstFailure m code (walkFrom m code (length code / 4 + 1) 0)
-          → FirstFailure m code (walkFrom m code (length code / 4 + 1) 0)
+      go : (walkFrom m (x .code) (length (x .code) / 4 + 1) 0 ≡ accepted) ⊎ FirstFailure m (x .code) (walkFrom m (x .code) (length (x .code) / 4 + 1) 0)
+          → FirstFailure m (x .code) (walkFrom m (x .code) (length (x .code) / 4 + 1) 0)
       go (inl e) = absurd (false≢true (sym q ∙ ap isAccepted (checked-walk p ∙ e)))
       go (inr r) = r

@@ -1,26 +1,20 @@
 -- The walk one bundle at a time, as a loop takes it: what it gives with no bundle left, at the code's end, at a bundle that fails,
 -- and past one that is fine.
 use Prim.Native.Nat.{ℕ, zero, suc, _-_, _<_, _≤_}
-use mathlib.Core.Bool.{true, false, not}
+use mathlib.Core.Bool.{true, false}
 use mathlib.Core.List.{List}
-use mathlib.Core.Path.{_≡_, refl}
+use mathlib.Core.Path.{_≡_, refl, ap, _∙_}
 use native.Mathlib.Numerals.{sub-one}
 use native.Mathlib.Omega.{arith}
-use borrow.Author.Tests.{le-leb, lt-leb, ltb-false}
+use borrow.Author.Tests.{le-leb, lt-leb}
 use lib.ListN.{length}
-use Rattle.word.specs.Word.{isMultipleOf4}
-use Rattle.word.specs.BoolLaws.{or-right}
-use Rattle.effects.specs.Effect.{isUndecodable}
-use Rattle.bundle_rules.specs.Refusal.{outsideCode}
-use Rattle.bundle_rules.specs.Bundle.{bundleAt, followingAt}
+use Rattle.isa.specs.declared.Bundle.{Bundle}
+use Rattle.fetch.specs.declared.Fetched.the-variants as fetch
+use Rattle.fetch.specs.Fetch.{bundleAt, followingAt, fetched}
+use Rattle.fetch.specs.FetchLaws.{refused-verdict, found-verdict, found-bundle}
 use Rattle.marking.specs.declared.Marking.{Marking}
 use Rattle.marking_rules.specs.Rules.{keeps}
 use Rattle.single_path.specs.Check.{accepted, refused, walkFrom}
-
--- A bundle that lies in the code ends there.
-pub inside-end : (code : List ℕ) (a : ℕ) → outsideCode code a ≡ false → followingAt code a ≤ length code
-unfolding outsideCode
-inside-end code a e = ltb-false _ _ (or-right (not (isMultipleOf4 a)) _ e)
 
 module _ (m : Marking) (code : List ℕ) where
   pub walk-none : (most a : ℕ) → most ≤ 0 → walkFrom m code most a ≡ accepted
@@ -33,27 +27,24 @@ module _ (m : Marking) (code : List ℕ) where
   walk-end zero a p = refl
   walk-end (suc most) a p = rw (le-leb _ _ p)
 
-  pub walk-outside : (most a : ℕ) → 0 < most → a < length code → outsideCode code a ≡ true → walkFrom m code most a ≡ refused 2 a
+  pub walk-refused : (most a n : ℕ) → 0 < most → a < length code → fetched code a ≡ fetch.Refused n → walkFrom m code most a ≡ refused n a
   unfolding walkFrom
-  walk-outside zero a p q e = absurd (omega arith)
-  walk-outside (suc most) a p q e = rw (lt-leb _ _ q, e)
+  walk-refused zero a n p q e = absurd (omega arith)
+  walk-refused (suc most) a n p q e = rw (lt-leb _ _ q, refused-verdict code a n e)
 
-  pub walk-undecodable : (most a : ℕ) → 0 < most → a < length code → outsideCode code a ≡ false → isUndecodable (bundleAt code a) ≡ true
-      → walkFrom m code most a ≡ refused 3 a
-  unfolding walkFrom
-  walk-undecodable zero a p q e f = absurd (omega arith)
-  walk-undecodable (suc most) a p q e f = rw (lt-leb _ _ q, e, f)
+  module _ (most a : ℕ) (b : Bundle) (following : ℕ) (e : fetched code a ≡ fetch.Found b following) where
+    pub walk-broken : 0 < most → a < length code → keeps m b ≡ false → walkFrom m code most a ≡ refused 9 a
+    unfolding walkFrom
+    walk-broken p q h = go most p (ap (keeps m) (found-bundle code a b following e .0) ∙ h)
+      where
+        go : (n : ℕ) → 0 < n → keeps m (bundleAt code a) ≡ false → walkFrom m code n a ≡ refused 9 a
+        go zero r k = absurd (omega arith)
+        go (suc n) r k = rw (lt-leb _ _ q, found-verdict code a b following e, k)
 
-  pub walk-broken : (most a : ℕ) → 0 < most → a < length code → outsideCode code a ≡ false → isUndecodable (bundleAt code a) ≡ false
-      → keeps m (bundleAt code a) ≡ false
-      → walkFrom m code most a ≡ refused 9 a
-  unfolding walkFrom
-  walk-broken zero a p q e f h = absurd (omega arith)
-  walk-broken (suc most) a p q e f h = rw (lt-leb _ _ q, e, f, h)
-
-  pub walk-next : (most a : ℕ) → 0 < most → a < length code → outsideCode code a ≡ false → isUndecodable (bundleAt code a) ≡ false
-      → keeps m (bundleAt code a) ≡ true
-      → walkFrom m code most a ≡ walkFrom m code (most - 1) (followingAt code a)
-  unfolding walkFrom
-  walk-next zero a p q e f h = absurd (omega arith)
-  walk-next (suc most) a p q e f h = rw (lt-leb _ _ q, e, f, h, sub-one)
+    pub walk-next : 0 < most → a < length code → keeps m b ≡ true → walkFrom m code most a ≡ walkFrom m code (most - 1) following
+    unfolding walkFrom
+    walk-next p q h = go most p (ap (keeps m) (found-bundle code a b following e .0) ∙ h) ∙ ap (walkFrom m code (most - 1)) (found-bundle code a b following e .1)
+      where
+        go : (n : ℕ) → 0 < n → keeps m (bundleAt code a) ≡ true → walkFrom m code n a ≡ walkFrom m code (n - 1) (followingAt code a)
+        go zero r k = absurd (omega arith)
+        go (suc n) r k = rw (lt-leb _ _ q, found-verdict code a b following e, k, sub-one)

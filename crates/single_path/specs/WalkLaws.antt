@@ -10,8 +10,8 @@ use lib.Dec.{leb, eqb}
 use lib.ListN.{length}
 use Rattle.big_endian.specs.Bytes.{wordAt}
 use Rattle.decoder.specs.Decode.{isTwoWords, bundleWords}
-use Rattle.bundle_rules.specs.Bundle.{followingAt}
 use Rattle.single_path.specs.Check.{Walked, first, later}
+use Rattle.fetch.specs.Fetch.{followingAt}
 
 -- A bundle has one word or two.
 words-positive : (w : ℕ) → 1 ≤ bundleWords w

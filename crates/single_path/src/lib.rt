@@ -1,16 +1,17 @@
 // The check of code against a marking of what is private. Marking and Rule are passed on, for those who call it.
 ghost use mathlib.Core.Bool.{true};
 ghost use mathlib.Core.Path.{_≡_};
-ghost use Prim.Native.Nat.{_≤_, _+_, _*_, _/_};
+ghost use Prim.Native.Nat.{_≤_, _+_, _/_};
 ghost use lib.ListN.{length};
-ghost use Rattle.decoder.specs.Decode.{bundleWords};
+ghost use Rattle.settings.specs.Setup.{setup};
 ghost use Rattle.single_path.specs.Check.{returned, letterBroken, walkFrom, checked};
-use big_endian::read_word;
 use broken_rules::Found;
 use broken_rules::judge;
+use fetch::Fetched;
+use fetch::fetch;
 pub use marking::Marking;
 pub use marking_rules::Rule;
-use settings::Settings;
+use settings::Config;
 
 // What the check answers: Refused holds document 01's number and the address of the bundle (0 for number 1), Broken, which is
 // refusal 9, the address of the bundle and a rule that it breaks.
@@ -18,16 +19,6 @@ pub enum Checked {
     Accepted,
     Refused { number: u32, address: u32 },
     Broken { address: u32, rule: Rule },
-}
-
-// The bytes of a bundle.
-fn bundle_bytes(first: u32) -> u32
-    ensures { λ r. ⌜ (r ≡ 4 * bundleWords first) × (r ≤ 8) ⌝ }
-{
-    if decoder::bundle_words(first) == 1 {
-        return 4;
-    }
-    8
 }
 
 // The bundles one after the other, from 0 on, until one fails. At most one begins at each word, so `left` does not run out before
@@ -42,47 +33,32 @@ fn walk(code: &[u8], marking: Marking) -> Checked
         if code.len() <= address as usize {
             return Checked::Accepted;
         }
-        let first = read_word(code, address);
-        let following = address + bundle_bytes(first);
-        if (address % 4 != 0) | (code.len() < following as usize) {
-            return Checked::Refused { number: 2, address };
-        }
-        match judge(marking, first, read_word(code, address + 4)) {
-            Found::Nothing => {}
-            Found::Breaks(rule) => {
-                return Checked::Broken { address, rule };
-            }
-            Found::Undecodable => {
-                return Checked::Refused { number: 3, address };
+        match fetch(code, address) {
+            Fetched::Refused(number) => return Checked::Refused { number, address },
+            Fetched::Found { bundle, following } => {
+                if let Found::Breaks(rule) = judge(marking, bundle) {
+                    return Checked::Broken { address, rule };
+                }
+                address = following as u32;
+                left = left - 1;
             }
         }
-        address = following;
-        left = left - 1;
     }
     Checked::Accepted
 }
 
-// The check: settings and marking are judged first, then the bundles.
+// The check: settings and marking are judged first, then the bundles. The lengths of what it does not read are numbers.
 pub fn check(
     code: &[u8],
     main: usize,
     local: usize,
     words: usize,
-    lo: u32,
-    hi: u32,
+    config: Config,
     marking: Marking,
 ) -> Checked
-    ensures { λ r. ⌜ (returned r ≡ checked (now (code .entry)) main local words lo hi marking) × (letterBroken marking (now (code .entry)) r ≡ true) ⌝ }
+    ensures { λ r. ⌜ (returned r ≡ checked (setup (now (code .entry)) config) main local words marking) × (letterBroken marking (now (code .entry)) r ≡ true) ⌝ }
 {
-    let settings = Settings {
-        code: code.len(),
-        main,
-        local,
-        words,
-        lo,
-        hi,
-    };
-    if settings.admits() & marking.is_ok() {
+    if config.settings(code, main, local, words).admits() & marking.is_ok() {
         return walk(code, marking);
     }
     Checked::Refused {

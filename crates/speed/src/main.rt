@@ -9,6 +9,7 @@ use machine::Opening;
 use machine::State;
 use run::Ran;
 use run::RunAnswer;
+use settings::Config;
 use text::Number;
 use text::fields::same;
 use text::numbers::decimal;
@@ -95,7 +96,8 @@ fn run_workload(
     let lo = s.main / 8 * 4;
     let hi = s.main / 4 * 4;
     put_code(&mut *code, words);
-    let opened = State::fresh(&*code, &*main, &*local, &mut *cache, lo, hi, 0);
+    let config = Config { lo, hi };
+    let opened = State::fresh(&*code, &*main, &*local, &mut *cache, config, 0);
     let answer = opened.answer;
     let state = opened.state;
     match answer {
@@ -109,8 +111,7 @@ fn run_workload(
             &mut *main,
             &mut *local,
             &mut *cache,
-            lo,
-            hi,
+            config,
             s.budget,
         )),
     }

@@ -2,6 +2,8 @@
 use Prim.Native.Nat.{ℕ}
 use mathlib.Core.Bool.{Bool, cond}
 use mathlib.Core.List.{List}
+use denote.Ref.{RefT, now}
+use denote.Triple.Both.{Both}
 use lib.Dec.{eqb}
 use Rattle.effects.specs.declared.Transfer.{Transfer}
 use Rattle.effects.specs.declared.Transfer.the-variants.{Br, Call, Block}
@@ -27,3 +29,16 @@ waitingLoad l = cond (eqb (l .waits) 0) load.Nothing (load.Waits (l .register) (
 -- A state of its registers, its predicates and the rest.
 abbrev pub joined : List ℕ → List Bool → Core → State
 joined rs ps c = state rs ps (c .specials) (c .fetch) (c .base) (waitingTransfer (c .transfer)) (waitingLoad (c .load))
+
+-- In contracts, the state of the registers and predicates that a function is lent, when it is called and when it returns, and of the rest.
+abbrev pub Registers : Type 0
+Registers = Both (RefT (List ℕ)) (RefT (List ℕ))
+
+abbrev pub Predicates : Type 0
+Predicates = Both (RefT (List Bool)) (RefT (List Bool))
+
+abbrev pub foundState : Registers → Predicates → Core → State
+foundState registers predicates c = joined (now (registers .entry)) (now (predicates .entry)) c
+
+abbrev pub leftState : Registers → Predicates → Core → State
+leftState registers predicates c = joined (now (registers .exit)) (now (predicates .exit)) c

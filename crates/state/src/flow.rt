@@ -3,7 +3,7 @@ ghost use mathlib.Core.Path.{_≡_};
 ghost use mathlib.Core.Bool.{Bool};
 ghost use mathlib.Core.List.{List};
 ghost use Prim.Native.Nat.{ℕ};
-ghost use Rattle.state.specs.Core.{joined, waitingTransfer};
+ghost use Rattle.state.specs.Core.{joined, waitingTransfer, foundState, leftState};
 ghost use Rattle.state.specs.Writes.{writeAlu, delaySlots, nearer, begun};
 use crate::Core;
 use crate::TransferWords;
@@ -12,8 +12,6 @@ use crate::waiting::transfer_in;
 use crate::waiting::transfer_waits;
 use alu_effects::AluEffect;
 use effects::Transfer;
-use registers::write_predicate;
-use registers::write_register;
 
 // How many bundles a delayed transfer waits.
 fn delay_slots(t: Transfer) -> u32
@@ -26,18 +24,23 @@ fn delay_slots(t: Transfer) -> u32
     }
 }
 
-// What a slot's ALU effect writes.
-pub fn write_alu(registers: &mut [u32; 32], predicates: &mut [bool; 8], e: AluEffect)
-    ensures { λ _. ⌜ ((c : Core) → joined (now (registers .exit)) (now (predicates .exit)) c ≡ writeAlu e (joined (now (registers .entry)) (now (predicates .entry)) c)) ⌝ }
-{
-    match e {
-        AluEffect::Nothing => {}
-        AluEffect::Register { rd, value } => write_register(&mut *registers, rd, value),
-        AluEffect::Predicate { pd, value } => write_predicate(&mut *predicates, pd, value),
-    }
-}
-
 impl Core {
+    // What a slot's ALU effect writes.
+    pub fn write_alu(
+        self,
+        registers: &mut [u32; 32],
+        predicates: &mut [bool; 8],
+        e: AluEffect,
+    ) -> Core
+        ensures { λ r. ⌜ leftState registers predicates r ≡ writeAlu e (foundState registers predicates self) ⌝ }
+    {
+        match e {
+            AluEffect::Nothing => self,
+            AluEffect::Register { rd, value } => self.write_register(&mut *registers, rd, value),
+            AluEffect::Predicate { pd, value } => self.write_predicate(&mut *predicates, pd, value),
+        }
+    }
+
     // A transfer that waits comes one bundle nearer, and is carried out when it falls due.
     pub fn nearer(self, waiting: TransferWords, following: u32) -> Core
         ensures { λ r. ⌜ ((rs : List ℕ) (ps : List Bool) → joined rs ps r ≡ nearer (waitingTransfer waiting) following (joined rs ps self)) ⌝ }

@@ -3,7 +3,7 @@ ghost use mathlib.Core.Path.{_≡_};
 ghost use mathlib.Core.Bool.{Bool};
 ghost use mathlib.Core.List.{List};
 ghost use Prim.Native.Nat.{ℕ};
-ghost use Rattle.state.specs.State.{withLoad, landed, goingOn, transferred};
+ghost use Rattle.state.specs.State.{withRegister, withPredicate, withLoad, landed, goingOn, transferred};
 ghost use Rattle.state.specs.Core.{joined, waitingTransfer, waitingLoad};
 use crate::Core;
 use crate::LoadWords;
@@ -11,9 +11,24 @@ use crate::TransferWords;
 use crate::waiting::no_load;
 use crate::waiting::no_transfer;
 use effects::Transfer;
-use registers::write_register;
 
 impl Core {
+    // A register written; r0 stays zero.
+    pub fn write_register(self, registers: &mut [u32; 32], r: u32, v: u32) -> Core
+        ensures { λ x. ⌜ ((ps : List Bool) → joined (now (registers .exit)) ps x ≡ withRegister (joined (now (registers .entry)) ps self) r v) ⌝ }
+    {
+        registers::write_register(&mut *registers, r, v);
+        self
+    }
+
+    // A predicate written; p0 stays true.
+    pub(crate) fn write_predicate(self, predicates: &mut [bool; 8], p: u32, v: bool) -> Core
+        ensures { λ x. ⌜ ((rs : List ℕ) → joined rs (now (predicates .exit)) x ≡ withPredicate (joined rs (now (predicates .entry)) self) p v) ⌝ }
+    {
+        registers::write_predicate(&mut *predicates, p, v);
+        self
+    }
+
     // The waiting load replaced.
     pub fn with_load(self, load: LoadWords) -> Core
         ensures { λ x. ⌜ ((rs : List ℕ) (ps : List Bool) → joined rs ps x ≡ withLoad (joined rs ps self) (waitingLoad load)) ⌝ }
@@ -38,8 +53,8 @@ impl Core {
         if load.waits == 0 {
             return self.with_load(no_load());
         }
-        write_register(&mut *registers, load.register, load.value);
-        self.with_load(no_load())
+        self.write_register(&mut *registers, load.register, load.value)
+            .with_load(no_load())
     }
 
     // Going on at an address, with a transfer that waits or none.

@@ -8,18 +8,12 @@ enum-told c = c .match .keys1
 enum-known-one : tie.Need-enum-known-one
 enum-known-one c = c .match .keys2
 
-enum-told-2 : tie.Need-enum-told-2
-enum-told-2 c = c .match .keys3
-
 returns : tie.Need-returns
 returns c = search needs
 
 returns-2 : tie.Need-returns-2
 returns-2 c = rw (c .before .one .given .1)
 
-returns-3 : tie.Need-returns-3
-returns-3 c = search needs
-
 pub first-found-spec : {M : Type 1} → statement M
 first-found-spec =
-    tie.close (tie.spec enum-told enum-known-one enum-told-2 returns returns-2 returns-3)
+    tie.close (tie.spec enum-told enum-known-one returns returns-2)

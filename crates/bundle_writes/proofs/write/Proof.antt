@@ -21,7 +21,7 @@ onward-requires : tie.Need-onward-requires
 onward-requires c κs = tt
 
 returns : tie.Need-returns
-returns c = let a = c .before .before .before .before .before .before .before .before .before .before .args in c .onward .ensures _ _ ∙ ap (λ (s : State). onward (a .one) (waitingTransfer (a .core .transfer)) (a .following) s) (c .before .write-alu .ensures _ ∙ ap (writeAlu (a .two)) (c .before .before .before .before .write-one .ensures ∙ ap (writeDone (a .one) (a .loaded) (a .st) (a .ss)) (c .before .before .before .before .before .before .before .land-load .ensures _)))
+returns c = let a = c .before .before .before .before .before .before .before .before .before .before .args in c .onward .ensures _ _ ∙ ap (λ (s : State). onward (a .one) (waitingTransfer (a .core .transfer)) (a .following) s) (c .before .write-alu .ensures ∙ ap (writeAlu (a .two)) (c .before .before .before .before .write-one .ensures ∙ ap (writeDone (a .one) (a .loaded) (a .st) (a .ss)) (c .before .before .before .before .before .before .before .land-load .ensures _)))
 
 pub write-spec : {M : Type 1} → statement M
 write-spec =

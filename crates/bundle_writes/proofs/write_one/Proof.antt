@@ -60,7 +60,7 @@ write-stack-requires c κs = tt
 
 returns : tie.Need-returns
 unfolding writeDone
-returns c = rw (c .before .before .before .before .one .given .1) (c .write-alu .ensures _)
+returns c = rw (c .before .before .before .before .one .given .1) (c .write-alu .ensures)
 
 returns-2 : tie.Need-returns-2
 unfolding writeDone

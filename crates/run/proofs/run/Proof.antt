@@ -1,19 +1,28 @@
-use mathlib.Core.Path.{ap, _∙_}
-use Rattle.memory.specs.Access.{buffers}
+use mathlib.Core.Path.{sym, ap, _∙_}
+use Rattle.settings.specs.Setup.{setup, buffers}
 use Rattle.state.specs.State.{State}
-use Rattle.run_rules.specs.Run.{run}
+use Rattle.machine.specs.Whole.{stateOf}
+use Rattle.run_rules.specs.Loop.{advanced, ending}
+use Rattle.run_rules.specs.LoopLaws.{run-advanced}
+use Rattle.run.specs.Ran.{ends-as}
 use borrow.Author.Needs.{needs}
 use Rattle.run.proofs.run.Statement.{statement}
 use Rattle.run.proofs.run.Tie as tie
 
 core-requires : tie.Need-core-requires
-core-requires c κs = tt
+core-requires c κs = search needs
 
-bundles-requires : tie.Need-bundles-requires
-bundles-requires c κs = tt
+advance-requires : tie.Need-advance-requires
+advance-requires c κs = search needs
+
+has-ended-requires : tie.Need-has-ended-requires
+has-ended-requires c κs = search needs
 
 join-requires : tie.Need-join-requires
-join-requires c κs = tt
+join-requires c κs = search needs
+
+at-end-requires : tie.Need-at-end-requires
+at-end-requires c κs = search needs
 
 same-length : tie.Need-same-length
 same-length c = search needs
@@ -25,16 +34,23 @@ same-length-3 : tie.Need-same-length-3
 same-length-3 c = search needs
 
 returns : tie.Need-returns
-returns c = let a = c .before .before .before .before .before .before .before .before .before .before .before .before .before .before .before .before .before .before .before .before .before .args in
-    rw (c .join .ensures) (c .before .before .before .before .before .before .before .before .bundles .ensures ∙ ap (λ (s : State). run (a .code .now) (a .lo) (a .hi) (a .budget) s (buffers (a .main .now) (a .local .now) (a .cache .now))) (c .before .before .before .before .before .before .before .before .before .before .before .before .before .before .core .ensures))
+returns c =
+    let a = c .before .before .before .before .before .before .before .before .before .before .before .before .before .before .before .before .before .before .before .before .before .before .before .before .args in
+    let x = setup (a .code .now) (a .config) in
+    let b = buffers (a .main .now) (a .local .now) (a .cache .now) in
+    ends-as x (c .before .before .before .before .before .before .before .before .before .before .before .advance .result .answer) _ (c .at-end .result) _ _ _ _ (c .at-end .ensures) (c .before .before .has-ended .ensures _ _) (c .before .join .ensures)
+    ∙ ap (ending x) (c .before .before .before .before .before .before .before .before .before .before .before .advance .ensures ∙ ap (λ (s : State). advanced x (a .budget) s b) (c .before .before .before .before .before .before .before .before .before .before .before .before .before .before .before .before .before .core .ensures))
+    ∙ sym (run-advanced x (stateOf (a .start)) b (a .budget))
 
 pub run-spec : {M : Type 1} → statement M
 run-spec =
     tie.close
     (tie.spec
     core-requires
-    bundles-requires
+    advance-requires
+    has-ended-requires
     join-requires
+    at-end-requires
     same-length
     same-length-2
     same-length-3

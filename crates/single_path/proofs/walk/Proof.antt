@@ -1,14 +1,14 @@
-use Rattle.single_path.specs.LoopLaws.{inside-end, walk-none, walk-end, walk-outside, walk-undecodable, walk-broken, walk-next}
-use Rattle.single_path.specs.FoundLaws.{found-undecodable, found-keeps, found-breaks}
-use Prim.Native.Nat.{_≤_, _/_, _+_, _-_}
+use Prim.Native.Nat.{_≤_, _/_, _+_}
 use mathlib.Core.Bool.{true, false}
 use mathlib.Core.Path.{_≡_, refl, sym, _∙_}
 use native.Mathlib.Omega.{arith}
+use borrow.Author.Tests.{ne-eqb}
 use borrow.Author.Needs.{needs}
 use lib.ListN.{length}
-use Rattle.bundle_rules.specs.Refusal.{outsideCode}
-use Rattle.bundle_rules.specs.Bundle.{bundleAt}
+use Rattle.fetch.specs.FetchLaws.{found-bundle, found-inside, refused-small}
 use Rattle.single_path.specs.Check.{walkFrom}
+use Rattle.single_path.specs.LoopLaws.{walk-none, walk-end, walk-refused, walk-broken, walk-next}
+use Rattle.single_path.specs.FoundLaws.{found-keeps, found-breaks, breaks-keeps}
 use Rattle.single_path.proofs.walk.Statement.{statement}
 use Rattle.single_path.proofs.walk.Tie as tie
 
@@ -29,66 +29,57 @@ cast-if1 : tie.Need-cast-if1 Inv-loop μ-loop
 cast-if1 c = search needs
 
 returns : tie.Need-returns Inv-loop μ-loop
-returns c = let l = c .before .before .loop in
+returns c =
+    let l = c .before .before .loop in
     let k = c .before .before .before .before .args .code .now in
     let m = c .before .before .before .before .args .marking in
     (sym (walk-end m k (l .left) (l .address) (c .if1 .taken)) ∙ l .inv .2, refl)
 
-read-word-requires : tie.Need-read-word-requires Inv-loop μ-loop
-read-word-requires c κs = tt
+fetch-requires : tie.Need-fetch-requires Inv-loop μ-loop
+fetch-requires c κs = tt
 
-bundle-bytes-requires : tie.Need-bundle-bytes-requires Inv-loop μ-loop
-bundle-bytes-requires c κs = tt
-
-add-following : tie.Need-add-following Inv-loop μ-loop
-add-following c = omega (arith, c .before .before .before .before .loop .inv .1, c .before .before .before .before .before .before .pre, c .bundle-bytes .ensures .1)
-
-cast-if2 : tie.Need-cast-if2 Inv-loop μ-loop
-cast-if2 c = search needs
+enum-known-number : tie.Need-enum-known-number Inv-loop μ-loop
+enum-known-number c = c .match .keys1
 
 returns-2 : tie.Need-returns-2 Inv-loop μ-loop
-unfolding outsideCode
-returns-2 c = let l = c .before .before .before .before .before .loop in
-    let k = c .before .before .before .before .before .before .before .args .code .now in
-    let m = c .before .before .before .before .before .before .before .args .marking in
-    let o : outsideCode k (l .address) ≡ true = rw (← c .before .before .read-word .ensures, ← c .before .bundle-bytes .ensures .0) (c .if2 .taken) in
-    (sym (walk-outside m k (l .left) (l .address) (c .before .before .before .before .loop-test .taken) (c .before .before .before .if1 .left) o) ∙ l .inv .2, refl)
+returns-2 c =
+    let l = c .before .before .before .before .before .before .loop in
+    let k = c .before .before .before .before .before .before .before .before .args .code .now in
+    let m = c .before .before .before .before .before .before .before .before .args .marking in
+    let n = c .before .number .given .0 .0 in
+    let e = sym (c .before .before .before .fetch .ensures) ∙ c .before .number .given .1 in
+    (sym (walk-refused m k (l .left) (l .address) n (c .before .before .before .before .before .loop-test .taken) (c .before .before .before .before .if1 .left) e) ∙ l .inv .2, rw (ne-eqb n 9 (λ (z : n ≡ 9). omega (arith, refused-small k (l .address) n e, z))))
 
-add-read-word : tie.Need-add-read-word Inv-loop μ-loop
-add-read-word c = omega (arith, c .before .before .before .before .before .loop .inv .1, c .before .before .before .before .before .before .before .pre)
-
-read-word-requires-2 : tie.Need-read-word-requires-2 Inv-loop μ-loop
-read-word-requires-2 c κs = tt
+enum-known-bundle : tie.Need-enum-known-bundle Inv-loop μ-loop
+enum-known-bundle c = c .match .keys2
 
 judge-requires : tie.Need-judge-requires Inv-loop μ-loop
 judge-requires c κs = tt
 
-enum-told : tie.Need-enum-told Inv-loop μ-loop
-enum-told c = c .match .keys1
-
 enum-known-rule : tie.Need-enum-known-rule Inv-loop μ-loop
-enum-known-rule c = c .match .keys2
+enum-known-rule c = c .match2 .keys1
 
 returns-3 : tie.Need-returns-3 Inv-loop μ-loop
-unfolding outsideCode
-returns-3 c = let l = c .before .before .before .before .before .before .before .before .before .before .loop in
+returns-3 c =
+    let l = c .before .before .before .before .before .before .before .before .before .before .loop in
     let k = c .before .before .before .before .before .before .before .before .before .before .before .before .args .code .now in
     let m = c .before .before .before .before .before .before .before .before .before .before .before .before .args .marking in
-    let o : outsideCode k (l .address) ≡ false = rw (← c .before .before .before .before .before .before .before .read-word .ensures, ← c .before .before .before .before .before .before .bundle-bytes .ensures .0) (c .before .before .before .before .before .if2 .left) in
-    let f = found-breaks m (bundleAt k (l .address)) _ (rw (c .before .rule .given .1, c .before .before .before .before .read-word2 .ensures, c .before .before .before .before .before .before .before .read-word .ensures) at (c .before .before .before .judge .ensures)) in
-    (sym (walk-broken m k (l .left) (l .address) (c .before .before .before .before .before .before .before .before .before .loop-test .taken) (c .before .before .before .before .before .before .before .before .if1 .left) o (f .0) (f .1)) ∙ l .inv .2, f .2)
+    let e = sym (c .before .before .before .before .before .before .before .fetch .ensures) ∙ c .before .before .before .before .before .bundle .given .1 in
+    let g = c .before .before .before .before .before .bundle .given .0 in
+    let h = found-breaks m (g .0) _ (rw (c .before .rule .given .1) at (c .before .before .before .judge .ensures)) in
+    let t = breaks-keeps m (g .0) _ h in
+    (sym (walk-broken m k (l .left) (l .address) _ _ e (c .before .before .before .before .before .before .before .before .before .loop-test .taken) (c .before .before .before .before .before .before .before .before .if1 .left) t) ∙ l .inv .2, rw (found-bundle k (l .address) _ _ e .0) h)
 
-enum-told-2 : tie.Need-enum-told-2 Inv-loop μ-loop
-enum-told-2 c = c .match .keys3
+enum-told : tie.Need-enum-told Inv-loop μ-loop
+enum-told c = c .match2 .keys2
 
-returns-4 : tie.Need-returns-4 Inv-loop μ-loop
-unfolding outsideCode
-returns-4 c = let l = c .before .before .before .before .before .before .before .before .before .loop in
+cast-address : tie.Need-cast-address Inv-loop μ-loop
+cast-address c =
+    let l = c .before .before .before .before .before .before .before .before .before .loop in
     let k = c .before .before .before .before .before .before .before .before .before .before .before .args .code .now in
     let m = c .before .before .before .before .before .before .before .before .before .before .before .args .marking in
-    let o : outsideCode k (l .address) ≡ false = rw (← c .before .before .before .before .before .before .read-word .ensures, ← c .before .before .before .before .before .bundle-bytes .ensures .0) (c .before .before .before .before .if2 .left) in
-    let f = found-undecodable m (bundleAt k (l .address)) (rw (c .enum-told2 .given .1, c .before .before .before .read-word2 .ensures, c .before .before .before .before .before .before .read-word .ensures) at (c .before .before .judge .ensures)) in
-    (sym (walk-undecodable m k (l .left) (l .address) (c .before .before .before .before .before .before .before .before .loop-test .taken) (c .before .before .before .before .before .before .before .if1 .left) o f) ∙ l .inv .2, refl)
+    let e = sym (c .before .before .before .before .before .before .fetch .ensures) ∙ c .before .before .before .before .bundle .given .1 in
+    omega (arith, found-inside k (l .address) _ _ e, c .before .before .before .before .before .before .before .before .before .before .before .pre)
 
 sub-left : tie.Need-sub-left Inv-loop μ-loop
 sub-left c = omega (arith, c .before .before .before .before .before .before .before .before .loop-test .taken)
@@ -97,17 +88,19 @@ loop-less : tie.Need-loop-less Inv-loop μ-loop
 loop-less c = omega (arith, c .before .before .before .before .before .before .before .before .loop-test .taken)
 
 loop-again : tie.Need-loop-again Inv-loop μ-loop
-unfolding outsideCode
-loop-again c = let l = c .before .before .before .before .before .before .before .before .before .loop in
+loop-again c =
+    let l = c .before .before .before .before .before .before .before .before .before .loop in
     let k = c .before .before .before .before .before .before .before .before .before .before .before .args .code .now in
     let m = c .before .before .before .before .before .before .before .before .before .before .before .args .marking in
-    let o : outsideCode k (l .address) ≡ false = rw (← c .before .before .before .before .before .before .read-word .ensures, ← c .before .before .before .before .before .bundle-bytes .ensures .0) (c .before .before .before .before .if2 .left) in
-    let f = found-keeps m (bundleAt k (l .address)) (rw (c .enum-told .given .1, c .before .before .before .read-word2 .ensures, c .before .before .before .before .before .before .read-word .ensures) at (c .before .before .judge .ensures)) in
-    let n = walk-next m k (l .left) (l .address) (c .before .before .before .before .before .before .before .before .loop-test .taken) (c .before .before .before .before .before .before .before .if1 .left) o (f .0) (f .1) in
-    (omega (arith, l .inv .0), rw (c .before .before .before .before .before .bundle-bytes .ensures .0, c .before .before .before .before .before .before .read-word .ensures) (inside-end k (l .address) o), rw (c .before .before .before .before .before .bundle-bytes .ensures .0, c .before .before .before .before .before .before .read-word .ensures) (sym n) ∙ l .inv .2)
+    let e = sym (c .before .before .before .before .before .before .fetch .ensures) ∙ c .before .before .before .before .bundle .given .1 in
+    let g = c .before .before .before .before .bundle .given .0 in
+    let t = found-keeps m (g .0) (rw (c .enum-told .given .1) at (c .before .before .judge .ensures)) in
+    let n = walk-next m k (l .left) (l .address) _ _ e (c .before .before .before .before .before .before .before .before .loop-test .taken) (c .before .before .before .before .before .before .before .if1 .left) t in
+    (omega (arith, l .inv .0), found-inside k (l .address) _ _ e, sym n ∙ l .inv .2)
 
-returns-5 : tie.Need-returns-5 Inv-loop μ-loop
-returns-5 c = let l = c .before .loop in
+returns-4 : tie.Need-returns-4 Inv-loop μ-loop
+returns-4 c =
+    let l = c .before .loop in
     let k = c .before .before .before .args .code .now in
     let m = c .before .before .before .args .marking in
     (sym (walk-none m k (l .left) (l .address) (c .loop-test .left)) ∙ l .inv .2, refl)
@@ -122,20 +115,16 @@ walk-spec =
     loop-holds
     cast-if1
     returns
-    read-word-requires
-    bundle-bytes-requires
-    add-following
-    cast-if2
+    fetch-requires
+    enum-known-number
     returns-2
-    add-read-word
-    read-word-requires-2
+    enum-known-bundle
     judge-requires
-    enum-told
     enum-known-rule
     returns-3
-    enum-told-2
-    returns-4
+    enum-told
+    cast-address
     sub-left
     loop-less
     loop-again
-    returns-5)
+    returns-4)

@@ -34,7 +34,7 @@ enum-told-9 c = c .match .keys9
 
 returns : tie.Need-returns
 unfolding special
-returns c = rw (c .before .enum-told .given .1, ← c .predicates-word .ensures)
+returns c = rw (c .before .before .enum-told .given .1, ← c .predicates-word .ensures)
 
 returns-2 : tie.Need-returns-2
 unfolding special

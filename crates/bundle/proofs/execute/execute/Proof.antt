@@ -1,3 +1,4 @@
+use Rattle.settings.specs.Setup.{setupOf}
 use Rattle.state.specs.Core.{joined}
 use Rattle.bundle_rules.specs.ExecuteLaws.{executed-refused, executed-done}
 use borrow.Author.Needs.{needs}
@@ -35,7 +36,7 @@ same-length-3 : tie.Need-same-length-3
 same-length-3 c = c .before .before .before .before .before .before .before .before .before .before .carry-out .kept .1 .1 .1 .1 .1 .0
 
 returns : tie.Need-returns
-returns c = let a = c .before .before .before .before .before .before .before .before .before .before .before .before .before .before .before .before .before .args in executed-refused (a .g) (joined (a .registers .now) (a .predicates .now) (a .core)) (a .one) (a .two) (a .following) _ _ _ _ _ (c .before .before .n .given .1) (c .before .before .before .before .before .before .before .before .before .before .carry-out .ensures _ _) (c .refused .ensures _ _)
+returns c = λ code. let a = c .before .before .before .before .before .before .before .before .before .before .before .before .before .before .before .before .before .args in executed-refused (a .g) (setupOf code (a .g)) (joined (a .registers .now) (a .predicates .now) (a .core)) (a .one) (a .two) (a .following) _ _ _ _ _ (c .before .before .n .given .1) (c .before .before .before .before .before .before .before .before .before .before .carry-out .ensures code _ _) (c .refused .ensures _ _)
 
 same-length-4 : tie.Need-same-length-4
 same-length-4 c = c .before .before .before .before .before .before .before .before .before .before .before .before .before .before .carry-out .kept .1 .1 .1 .0
@@ -47,7 +48,7 @@ same-length-6 : tie.Need-same-length-6
 same-length-6 c = c .before .before .before .before .before .before .before .before .before .before .before .before .before .before .carry-out .kept .1 .1 .1 .1 .1 .0
 
 returns-2 : tie.Need-returns-2
-returns-2 c = let a = c .before .before .before .before .before .before .before .before .before .before .before .before .before .before .before .before .before .before .before .before .before .args in executed-done (a .g) (joined (a .registers .now) (a .predicates .now) (a .core)) (a .one) (a .two) (a .following) _ _ _ _ _ _ _ _ _ _ _ (c .before .before .before .before .before .before .value .given .1) (c .before .before .before .before .before .before .before .before .before .before .before .before .before .before .carry-out .ensures _ _) (c .before .before .write .ensures) (c .before .cycles .ensures) (c .done .ensures _ _)
+returns-2 c = λ code. let a = c .before .before .before .before .before .before .before .before .before .before .before .before .before .before .before .before .before .before .before .before .before .args in executed-done (a .g) (setupOf code (a .g)) (joined (a .registers .now) (a .predicates .now) (a .core)) (a .one) (a .two) (a .following) _ _ _ _ _ _ _ _ _ _ _ (c .before .before .before .before .before .before .value .given .1) (c .before .before .before .before .before .before .before .before .before .before .before .before .before .before .carry-out .ensures code _ _) (c .before .before .write .ensures) (c .before .cycles .ensures) (c .done .ensures _ _)
 
 pub execute-spec : {M : Type 1} → statement M
 execute-spec =

@@ -9,7 +9,8 @@ use Rattle.effects.specs.declared.Effect.{Effect}
 use Rattle.effects.specs.declared.Effect.the-variants.{Alu, Special, Product, Load, Store, Stack, Transfer, Exception}
 use Rattle.effects.proofs.Effect.{the-type}
 use Rattle.settings.specs.declared.Settings.{Settings}
-use Rattle.memory.specs.Access.{Buffers, verdict, accessVerdict}
+use Rattle.answers.specs.Test.{verdict}
+use Rattle.settings.specs.Setup.{Setup, Buffers}
 use Rattle.state.specs.State.{State, noneWaits}
 use Rattle.bundle_rules.specs.declared.Carried.the-variants.{Done}
 use Rattle.bundle_rules.specs.Bundle.{buffersAfter}
@@ -23,16 +24,16 @@ use Rattle.bundle.proofs.slot_one.carry_out.Tie as tie
 abbrev others : List ℕ
 others = 0 ∷ 1 ∷ 2 ∷ []
 
-plain : (g : Settings) (s : State) (b : Buffers) (e : Effect) → OneOf others (tagOf the-type e) → carriedAs (Done 0 0 0 0 0) b ≡ carriedOut g s e b
+plain : (g : Settings) (x : Setup) (s : State) (b : Buffers) (e : Effect) → OneOf others (tagOf the-type e) → carriedAs (Done 0 0 0 0 0) b ≡ carriedOut g x s e b
 unfolding carriedOut buffersAfter verdict
-plain g s b (Alu a) h = refl
-plain g s b (Special d v) h = refl
-plain g s b (Product l k) h = refl
-plain g s b (Load k w r a) h = absurd (miss others 3 tt h)
-plain g s b (Store k w a v) h = absurd (miss others 4 tt h)
-plain g s b (Stack c n m) h = absurd (miss others 5 tt h)
-plain g s b (Transfer d t) h = absurd (miss others 6 tt h)
-plain g s b Exception h = absurd (miss others 7 tt h)
+plain g x s b (Alu a) h = refl
+plain g x s b (Special d v) h = refl
+plain g x s b (Product l k) h = refl
+plain g x s b (Load k w r a) h = absurd (miss others 3 tt h)
+plain g x s b (Store k w a v) h = absurd (miss others 4 tt h)
+plain g x s b (Stack c n m) h = absurd (miss others 5 tt h)
+plain g x s b (Transfer d t) h = absurd (miss others 6 tt h)
+plain g x s b Exception h = absurd (miss others 7 tt h)
 
 enum-known-one : tie.Need-enum-known-one
 enum-known-one c = search needs
@@ -74,8 +75,8 @@ same-length-3 : tie.Need-same-length-3
 same-length-3 c = search needs
 
 returns : tie.Need-returns
-unfolding carriedOut buffersAfter verdict accessVerdict
-returns c = λ rs ps. rw (c .before .before .before .before .before .one .given .1) (c .do-load .ensures)
+unfolding carriedOut buffersAfter verdict
+returns c = λ code rs ps. rw (c .before .before .before .before .before .one .given .1) (c .do-load .ensures code)
 
 same-length-4 : tie.Need-same-length-4
 same-length-4 c = search needs
@@ -87,8 +88,8 @@ same-length-6 : tie.Need-same-length-6
 same-length-6 c = search needs
 
 returns-2 : tie.Need-returns-2
-unfolding carriedOut buffersAfter verdict accessVerdict
-returns-2 c = λ rs ps. rw (c .before .before .before .before .before .before .before .before .before .before .before .one2 .given .1) (c .before .before .before .before .before .before .do-store .ensures)
+unfolding carriedOut buffersAfter verdict
+returns-2 c = λ code rs ps. rw (c .before .before .before .before .before .before .before .before .before .before .before .one2 .given .1) (c .before .before .before .before .before .before .do-store .ensures code)
 
 same-length-7 : tie.Need-same-length-7
 same-length-7 c = search needs
@@ -97,18 +98,18 @@ same-length-8 : tie.Need-same-length-8
 same-length-8 c = search needs
 
 returns-3 : tie.Need-returns-3
-returns-3 c = λ rs ps. rw (c .before .before .before .before .before .before .before .before .one3 .given .1) (c .before .before .before .before .do-stack .ensures rs ps (c .before .before .before .before .before .before .before .before .before .before .before .before .before .args .local .now))
+returns-3 c = λ code rs ps. rw (c .before .before .before .before .before .before .before .before .one3 .given .1) (c .before .before .before .before .do-stack .ensures code rs (c .before .before .before .before .before .before .before .before .before .before .before .before .before .args .local .now) ps)
 
 returns-4 : tie.Need-returns-4
-unfolding carriedOut buffersAfter verdict accessVerdict
-returns-4 c = λ rs ps. rw (c .before .enum-told .given .1, c .judge-transfer .ensures) (transfer-carried (not (noneWaits (waitingTransfer (c .before .before .before .before .before .before .args .core .transfer)))) _)
+unfolding carriedOut buffersAfter verdict
+returns-4 c = λ code rs ps. rw (c .before .enum-told .given .1, c .judge-transfer .ensures) (transfer-carried (not (noneWaits (waitingTransfer (c .before .before .before .before .before .before .args .core .transfer)))) _)
 
 returns-5 : tie.Need-returns-5
-unfolding carriedOut buffersAfter verdict accessVerdict
-returns-5 c = λ rs ps. rw (c .enum-told2 .given .1)
+unfolding carriedOut buffersAfter verdict
+returns-5 c = λ code rs ps. rw (c .enum-told2 .given .1)
 
 returns-6 : tie.Need-returns-6
-returns-6 c = λ rs ps. rw (c .nothing .ensures) (plain _ _ _ (c .before .before .before .before .before .args .one) (c .before .match .keys6))
+returns-6 c = λ code rs ps. rw (c .nothing .ensures) (plain _ _ _ _ (c .before .before .before .before .before .args .one) (c .before .match .keys6))
 
 pub carry-out-spec : {M : Type 1} → statement M
 carry-out-spec =

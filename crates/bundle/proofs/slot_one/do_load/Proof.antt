@@ -9,7 +9,7 @@ enum-known-number : tie.Need-enum-known-number
 enum-known-number c = c .match .keys1
 
 returns : tie.Need-returns
-returns c = rw (← c .before .before .before .judge-load .ensures, c .before .number .given .1)
+returns c = λ code. rw (← c .before .before .before .judge-load .ensures code, c .before .number .given .1)
 
 enum-told : tie.Need-enum-told
 enum-told c = c .match .keys2
@@ -18,7 +18,7 @@ load-requires : tie.Need-load-requires
 load-requires c κs = tt
 
 returns-2 : tie.Need-returns-2
-returns-2 c = rw (← c .before .before .before .judge-load .ensures, c .before .enum-told .given .1, c .load .ensures)
+returns-2 c = λ code. rw (← c .before .before .before .judge-load .ensures code, c .before .enum-told .given .1, c .load .ensures)
 
 pub do-load-spec : {M : Type 1} → statement M
 do-load-spec =

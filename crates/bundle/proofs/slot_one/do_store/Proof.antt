@@ -9,7 +9,7 @@ enum-known-number : tie.Need-enum-known-number
 enum-known-number c = c .match .keys1
 
 returns : tie.Need-returns
-returns c = rw (← c .before .before .before .judge-store .ensures, c .before .number .given .1)
+returns c = λ code. rw (← c .before .before .before .judge-store .ensures code, c .before .number .given .1)
 
 enum-told : tie.Need-enum-told
 enum-told c = c .match .keys2
@@ -30,7 +30,7 @@ same-length-3 : tie.Need-same-length-3
 same-length-3 c = c .before .before .before .before .before .before .before .store .kept .1 .1 .0
 
 returns-2 : tie.Need-returns-2
-returns-2 c = rw (← c .before .before .before .before .before .before .before .before .before .before .before .before .before .judge-store .ensures, c .before .before .before .before .before .before .before .before .before .before .before .enum-told .given .1, ← c .before .before .before .before .before .before .before .store .ensures, c .nothing .ensures)
+returns-2 c = λ code. rw (← c .before .before .before .before .before .before .before .before .before .before .before .before .before .judge-store .ensures code, c .before .before .before .before .before .before .before .before .before .before .before .enum-told .given .1, ← c .before .before .before .before .before .before .before .store .ensures, c .nothing .ensures)
 
 pub do-store-spec : {M : Type 1} → statement M
 do-store-spec =

@@ -6,9 +6,6 @@ use Rattle.effects.proofs.slot.effect.Tie as tie
 enum-known-o : tie.Need-enum-known-o
 enum-known-o c = c .match .keys1
 
-slice-aggregate-alu-effect : tie.Need-slice-aggregate-alu-effect
-slice-aggregate-alu-effect c = search needs
-
 alu-effect-requires : tie.Need-alu-effect-requires
 alu-effect-requires c κs = tt
 
@@ -24,11 +21,11 @@ register-requires-2 c κs = tt
 multiply-requires : tie.Need-multiply-requires
 multiply-requires c κs = tt
 
+cast-t32 : tie.Need-cast-t32
+cast-t32 c = search needs
+
 cast-t33 : tie.Need-cast-t33
 cast-t33 c = search needs
-
-cast-t34 : tie.Need-cast-t34
-cast-t34 c = search needs
 
 enum-known-o-3 : tie.Need-enum-known-o-3
 enum-known-o-3 c = c .match .keys3
@@ -83,7 +80,7 @@ enum-told-2 c = c .match .keys10
 
 returns : tie.Need-returns
 unfolding effectOf
-returns c = rw (c .before .before .before .o .given .1, c .before .predicates .given .1, ← c .alu-effect .ensures)
+returns c = rw (c .before .before .before .o .given .1, ← c .alu-effect .ensures)
 
 returns-2 : tie.Need-returns-2
 unfolding effectOf
@@ -126,14 +123,13 @@ effect-spec =
     tie.close
     (tie.spec
     enum-known-o
-    slice-aggregate-alu-effect
     alu-effect-requires
     enum-known-o-2
     register-requires
     register-requires-2
     multiply-requires
+    cast-t32
     cast-t33
-    cast-t34
     enum-known-o-3
     register-requires-3
     enum-known-o-4

@@ -1,37 +1,44 @@
-use mathlib.Core.Path.{ap, _∙_}
+use mathlib.Core.Path.{sym, ap, _∙_}
+use Rattle.settings.specs.Setup.{setup, buffers}
 use Rattle.state.specs.State.{State}
-use Rattle.bundle_rules.specs.Bundle.{step}
-use Rattle.memory.specs.Access.{buffers}
+use Rattle.run_rules.specs.Loop.{advanced}
+use Rattle.run_rules.specs.LoopLaws.{step-advanced}
+use Rattle.machine.specs.Whole.{stateOf}
+use borrow.Author.Needs.{needs}
 use Rattle.machine.proofs.State.step.Statement.{statement}
 use Rattle.machine.proofs.State.step.Tie as tie
 
 core-requires : tie.Need-core-requires
-core-requires c κs = tt
+core-requires c κs = search needs
 
-step-requires : tie.Need-step-requires
-step-requires c κs = tt
+advance-requires : tie.Need-advance-requires
+advance-requires c κs = search needs
 
 join-requires : tie.Need-join-requires
-join-requires c κs = tt
+join-requires c κs = search needs
 
 same-length : tie.Need-same-length
-same-length c = c .before .before .before .before .before .before .before .before .before .step .kept .1 .1 .1 .1 .0
+same-length c = search needs
 
 same-length-2 : tie.Need-same-length-2
-same-length-2 c = c .before .before .before .before .before .before .before .before .before .step .kept .1 .1 .1 .1 .1 .0
+same-length-2 c = search needs
 
 same-length-3 : tie.Need-same-length-3
-same-length-3 c = c .before .before .before .before .before .before .before .before .before .step .kept .1 .1 .1 .1 .1 .1 .0
+same-length-3 c = search needs
 
 returns : tie.Need-returns
-returns c = let a = c .before .before .before .before .before .before .before .before .before .before .before .before .before .before .before .before .before .before .before .before .before .before .args in rw (c .join .ensures) (c .before .before .before .before .before .before .before .before .before .step .ensures ∙ ap (λ (s : State). step (a .code .now) (a .lo) (a .hi) s (buffers (a .main .now) (a .local .now) (a .cache .now))) (c .before .before .before .before .before .before .before .before .before .before .before .before .before .before .before .core .ensures))
+returns c =
+    let a = c .before .before .before .before .before .before .before .before .before .before .before .before .before .before .before .before .before .before .before .before .before .before .args in
+    let x = setup (a .code .now) (a .config) in
+    let b = buffers (a .main .now) (a .local .now) (a .cache .now) in
+    rw (c .join .ensures) (c .before .before .before .before .before .before .before .before .before .advance .ensures ∙ ap (λ (s : State). advanced x 1 s b) (c .before .before .before .before .before .before .before .before .before .before .before .before .before .before .before .core .ensures) ∙ sym (step-advanced x (stateOf (a .self)) b))
 
 pub step-spec : {M : Type 1} → statement M
 step-spec =
     tie.close
     (tie.spec
     core-requires
-    step-requires
+    advance-requires
     join-requires
     same-length
     same-length-2

@@ -15,14 +15,8 @@ enum-told-2 c = c .match .keys2
 enum-told-3 : tie.Need-enum-told-3
 enum-told-3 c = c .match .keys3
 
-main-open-requires : tie.Need-main-open-requires
-main-open-requires c κs = tt
-
 enum-told-4 : tie.Need-enum-told-4
 enum-told-4 c = c .match .keys4
-
-main-open-requires-2 : tie.Need-main-open-requires-2
-main-open-requires-2 c κs = tt
 
 returns : tie.Need-returns
 unfolding accessOpen
@@ -34,11 +28,11 @@ returns-2 c = rw (c .before .enum-told2 .given .1)
 
 returns-3 : tie.Need-returns-3
 unfolding accessOpen
-returns-3 c = rw (c .before .enum-told3 .given .1, ← c .main-open .ensures)
+returns-3 c = rw (c .enum-told3 .given .1)
 
 returns-4 : tie.Need-returns-4
 unfolding accessOpen
-returns-4 c = rw (c .before .enum-told4 .given .1, ← c .main-open2 .ensures)
+returns-4 c = rw (c .enum-told4 .given .1)
 
 pub access-open-spec : {M : Type 1} → statement M
 access-open-spec =
@@ -48,9 +42,7 @@ access-open-spec =
     enum-told
     enum-told-2
     enum-told-3
-    main-open-requires
     enum-told-4
-    main-open-requires-2
     returns
     returns-2
     returns-3

@@ -1,3 +1,4 @@
+use Rattle.settings.specs.Setup.{touches}
 use Rattle.memory.specs.Access.{mainOpen}
 use mathlib.Core.Path.{refl}
 use borrow.Author.Needs.{needs}
@@ -11,8 +12,8 @@ cast-result : tie.Need-cast-result
 cast-result c = search needs
 
 returns : tie.Need-returns
-unfolding mainOpen
-returns c = refl
+unfolding mainOpen touches
+returns c code = refl
 
 pub main-open-spec : {M : Type 1} → statement M
 main-open-spec = tie.close (tie.spec add-end cast-result returns)

@@ -1,5 +1,6 @@
-use mathlib.Core.Path.{_∙_}
-use Rattle.state.specs.State.{landed, withRegister}
+use mathlib.Core.Path.{ap, _∙_}
+use Rattle.state.specs.State.{State, landed, withRegister, withLoad}
+use Rattle.state.specs.Core.{waitingLoad}
 use Rattle.state.specs.CoreLaws.{no-load, some-load}
 use Rattle.state.proofs.Core.land_load.Statement.{statement}
 use Rattle.state.proofs.Core.land_load.Tie as tie
@@ -25,7 +26,7 @@ with-load-requires-2 c κs = tt
 
 returns-2 : tie.Need-returns-2
 unfolding landed withRegister
-returns-2 c = λ ps. c .with-load2 .ensures _ ps ∙ rw (c .before .no-load2 .ensures, some-load (c .before .before .before .before .before .before .before .args .self .load) (c .before .before .before .before .if1 .left), c .before .before .write-register .ensures)
+returns-2 c ps = c .with-load2 .ensures _ ps ∙ ap (λ (s : State). withLoad s (waitingLoad (c .before .no-load2 .result))) (c .before .before .write-register .ensures ps) ∙ rw (c .before .no-load2 .ensures, some-load (c .before .before .before .before .before .before .before .args .self .load) (c .before .before .before .before .if1 .left))
 
 pub land-load-spec : {M : Type 1} → statement M
 land-load-spec =

@@ -1,0 +1,166 @@
+use Prim.Native.Nat.{ℕ, _-_, _≤_, _<_}
+use mathlib.Core.Bool.{false}
+use mathlib.Core.List.{List, [], _∷_}
+use mathlib.Core.Path.{_≡_, refl, sym, ap, _∙_}
+use native.Mathlib.Omega.{arith}
+use denote.Enum.Declared.{tagOf}
+use types.Run.{OneOf, miss}
+use borrow.Author.Needs.{needs}
+use lib.ListN.{length}
+use Rattle.settings.specs.declared.Settings.{Settings}
+use Rattle.settings.specs.Setup.{Buffers, buffers, lent, setupOf}
+use Rattle.answers.specs.Answer.{Returned}
+use Rattle.state.specs.State.{State}
+use Rattle.state.specs.Core.{joined}
+use Rattle.bundle_rules.specs.declared.Counts.{Counts}
+use Rattle.bundle_rules.specs.declared.Answer.{Answer}
+use Rattle.bundle_rules.specs.declared.Answer.the-variants.{Done, Ended, Refused}
+use Rattle.bundle_rules.proofs.Answer.{the-type}
+use Rattle.bundle_rules.specs.Counts.{noCounts, plus-none, Few, few-none, few-more}
+use Rattle.bundle_rules.specs.Bundle.{returned, outcome}
+use Rattle.machine_laws.specs.StepCases.{isDone}
+use Rattle.machine_laws.specs.StackKept.{lent-same}
+use Rattle.run_rules.specs.Run.{counted}
+use Rattle.run_rules.specs.RunLaws.{counted-none}
+use Rattle.run_rules.specs.Loop.{goesOn}
+use Rattle.run_rules.specs.LoopLaws.{goes-none, goes-ended, turn-stops, turn-goes-on, turn-few}
+use Rattle.bundle.proofs.advance.bundles.Statement.{statement}
+use Rattle.bundle.proofs.advance.bundles.Tie as tie
+
+-- An answer that is not Done.
+not-done : (a : Answer) → OneOf (1 ∷ 2 ∷ []) (tagOf the-type a) → isDone (returned a) ≡ false
+not-done Done h = absurd (miss (1 ∷ 2 ∷ []) 0 tt h)
+not-done Ended h = refl
+not-done (Refused n) h = refl
+
+-- Nothing more is counted.
+stopped-here : (c : Counts) (a : Returned) (s : State) (b : Buffers) → outcome a s c b ≡ counted c (outcome a s noCounts b)
+stopped-here c a s b = ap (λ (d : Counts). outcome a s d b) (sym (plus-none c))
+
+abbrev Inv-loop : tie.InvT-loop
+Inv-loop registers₀ predicates₀ g code main₀ local₀ cache₀ budget core₀ counts₀ left₀ registers predicates main local cache core counts left =
+    (left ≤ budget) × Few (budget - left) counts × (length main ≡ length main₀) × (length local ≡ length local₀) × (length cache ≡ length cache₀)
+    × (counted counts (goesOn (setupOf code g) left (joined registers predicates core) (buffers main local cache))
+    ≡ goesOn (setupOf code g) budget (joined registers₀ predicates₀ core₀) (buffers main₀ local₀ cache₀))
+
+abbrev μ-loop : tie.MeasureT-loop
+μ-loop registers₀ predicates₀ g code main₀ local₀ cache₀ budget core₀ counts₀ left₀ registers predicates main local cache core counts left =
+    left
+
+no-counts-requires : tie.Need-no-counts-requires Inv-loop μ-loop
+no-counts-requires c κs = tt
+
+loop-holds : tie.Need-loop-holds Inv-loop μ-loop
+loop-holds c = (search needs, rw (c .no-counts .ensures) (few-none _), refl, refl, refl, rw (c .no-counts .ensures) (counted-none _))
+
+has-ended-requires : tie.Need-has-ended-requires Inv-loop μ-loop
+has-ended-requires c κs = tt
+
+same-length : tie.Need-same-length Inv-loop μ-loop
+same-length c = c .before .before .before .loop .inv .2
+
+same-length-2 : tie.Need-same-length-2 Inv-loop μ-loop
+same-length-2 c = c .before .before .before .loop .inv .3
+
+same-length-3 : tie.Need-same-length-3 Inv-loop μ-loop
+same-length-3 c = c .before .before .before .loop .inv .4
+
+returns : tie.Need-returns Inv-loop μ-loop
+returns c =
+    let a = c .before .before .before .before .before .before .before .before .before in
+    let l = c .before .before .before .loop in
+    let e = rw (ap (λ (y : Settings). y .code) (a .pre .1)) at (sym (c .before .has-ended .ensures (l .registers) (l .predicates)) ∙ c .if1 .taken) in
+    stopped-here (l .counts) _ _ _ ∙ sym (ap (counted (l .counts)) (goes-ended (setupOf (a .args .code .now) (a .args .g)) (l .left) (joined (l .registers) (l .predicates) (l .core)) _ (omega (arith, c .before .before .loop-test .taken)) e)) ∙ l .inv .5
+
+step-requires : tie.Need-step-requires Inv-loop μ-loop
+step-requires c κs =
+    let a = c .before .before .before .before .before .before .before .before .before .before .before .before .before .before in
+    let l = c .before .before .before .before .before .before .before .before .loop in
+    (a .pre .0, ap (λ (y : Settings). y .main) (a .pre .1) ∙ sym (l .inv .2), ap (λ (y : Settings). y .code) (a .pre .1), few-more _ 4294967294 _ (omega (arith, a .fits .budget .fits, c .before .before .before .before .before .before .before .loop-test .taken, l .inv .0)) (l .inv .1))
+
+enum-told : tie.Need-enum-told Inv-loop μ-loop
+enum-told c = c .match .keys1
+
+same-length-4 : tie.Need-same-length-4 Inv-loop μ-loop
+same-length-4 c = c .before .before .before .before .before .before .before .step .kept .1 .1 .1 .1 .1 .0 ∙ c .before .before .before .before .before .before .before .before .before .before .before .before .before .before .before .before .loop .inv .2
+
+same-length-5 : tie.Need-same-length-5 Inv-loop μ-loop
+same-length-5 c = c .before .before .before .before .before .before .before .step .kept .1 .1 .1 .1 .1 .1 .0 ∙ c .before .before .before .before .before .before .before .before .before .before .before .before .before .before .before .before .loop .inv .3
+
+same-length-6 : tie.Need-same-length-6 Inv-loop μ-loop
+same-length-6 c = c .before .before .before .before .before .before .before .step .kept .1 .1 .1 .1 .1 .1 .1 .0 ∙ c .before .before .before .before .before .before .before .before .before .before .before .before .before .before .before .before .loop .inv .4
+
+returns-2 : tie.Need-returns-2 Inv-loop μ-loop
+returns-2 c =
+    let a = c .before .before .before .before .before .before .before .before .before .before .before .before .before .before .before .before .before .before .before .before .before .before in
+    let l = c .before .before .before .before .before .before .before .before .before .before .before .before .before .before .before .before .loop in
+    let r = c .before .before .before .before .before .before .before .step in
+    let same : a .args .g ≡ lent (setupOf (a .args .code .now) (a .args .g)) (buffers (l .main) (l .local) (l .cache))
+    = a .pre .1 ∙ sym (lent-same (setupOf (a .args .code .now) (a .args .g)) (buffers (a .args .main .now) (a .args .local .now) (a .args .cache .now)) (buffers (l .main) (l .local) (l .cache)) (record { main = l .inv .2; local = l .inv .3; cache = l .inv .4 })) in
+    let going = rw (ap (λ (y : Settings). y .code) (a .pre .1)) at (sym (c .before .before .before .before .before .before .before .before .before .before .before .before .before .before .has-ended .ensures (l .registers) (l .predicates)) ∙ c .before .before .before .before .before .before .before .before .before .before .before .before .before .if1 .left) in
+    let more : 0 < l .left = omega (arith, c .before .before .before .before .before .before .before .before .before .before .before .before .before .before .before .loop-test .taken) in
+    turn-stops _ _ _ _ _ _ (r .ensures) same (l .left) more going (not-done (r .result .answer) (c .match .keys2)) ∙ l .inv .5
+
+sub-left : tie.Need-sub-left Inv-loop μ-loop
+sub-left c = omega (arith, c .before .before .before .before .before .before .before .before .before .before .before .before .before .before .before .before .before .before .loop-test .taken)
+
+loop-less : tie.Need-loop-less Inv-loop μ-loop
+loop-less c = omega (arith, c .before .before .before .before .before .before .before .before .before .before .before .before .before .before .before .before .before .before .loop-test .taken)
+
+loop-again : tie.Need-loop-again Inv-loop μ-loop
+loop-again c =
+    let a = c .before .before .before .before .before .before .before .before .before .before .before .before .before .before .before .before .before .before .before .before .before .before .before .before .before in
+    let l = c .before .before .before .before .before .before .before .before .before .before .before .before .before .before .before .before .before .before .before .loop in
+    let r = c .before .before .before .before .before .before .before .before .before .before .step in
+    let same : a .args .g ≡ lent (setupOf (a .args .code .now) (a .args .g)) (buffers (l .main) (l .local) (l .cache))
+    = a .pre .1 ∙ sym (lent-same (setupOf (a .args .code .now) (a .args .g)) (buffers (a .args .main .now) (a .args .local .now) (a .args .cache .now)) (buffers (l .main) (l .local) (l .cache)) (record { main = l .inv .2; local = l .inv .3; cache = l .inv .4 })) in
+    let going = rw (ap (λ (y : Settings). y .code) (a .pre .1)) at (sym (c .before .before .before .before .before .before .before .before .before .before .before .before .before .before .before .before .before .has-ended .ensures (l .registers) (l .predicates)) ∙ c .before .before .before .before .before .before .before .before .before .before .before .before .before .before .before .before .if1 .left) in
+    let more : 0 < l .left = omega (arith, c .before .before .before .before .before .before .before .before .before .before .before .before .before .before .before .before .before .before .loop-test .taken) in (
+      omega (arith, l .inv .0, more),
+      turn-few _ _ _ _ _ _ (r .ensures) same (l .left) more going _ (l .inv .0) (a .pre .0) (l .inv .1),
+      r .kept .1 .1 .1 .1 .1 .0 ∙ l .inv .2,
+      r .kept .1 .1 .1 .1 .1 .1 .0 ∙ l .inv .3,
+      r .kept .1 .1 .1 .1 .1 .1 .1 .0 ∙ l .inv .4,
+      turn-goes-on _ _ _ _ _ _ (r .ensures) same (l .left) more going (ap returned (c .before .before .enum-told .given .1)) ∙ l .inv .5,
+    )
+
+same-length-7 : tie.Need-same-length-7 Inv-loop μ-loop
+same-length-7 c = c .before .loop .inv .2
+
+same-length-8 : tie.Need-same-length-8 Inv-loop μ-loop
+same-length-8 c = c .before .loop .inv .3
+
+same-length-9 : tie.Need-same-length-9 Inv-loop μ-loop
+same-length-9 c = c .before .loop .inv .4
+
+returns-3 : tie.Need-returns-3 Inv-loop μ-loop
+returns-3 c =
+    let l = c .before .loop in
+    stopped-here (l .counts) _ _ _ ∙ sym (ap (counted (l .counts)) (goes-none (setupOf (c .before .before .before .before .before .before .before .args .code .now) (c .before .before .before .before .before .before .before .args .g)) (l .left) (joined (l .registers) (l .predicates) (l .core)) _ (omega (arith, c .loop-test .left)))) ∙ l .inv .5
+
+pub bundles-spec : {M : Type 1} → statement M
+bundles-spec =
+    tie.close
+    (tie.spec
+    Inv-loop
+    μ-loop
+    no-counts-requires
+    loop-holds
+    has-ended-requires
+    same-length
+    same-length-2
+    same-length-3
+    returns
+    step-requires
+    enum-told
+    same-length-4
+    same-length-5
+    same-length-6
+    returns-2
+    sub-left
+    loop-less
+    loop-again
+    same-length-7
+    same-length-8
+    same-length-9
+    returns-3)

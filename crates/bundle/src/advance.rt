@@ -1,0 +1,102 @@
+// Bundles one after the other. Settings and state are judged once before the first.
+ghost use mathlib.Core.Path.{_≡_};
+ghost use mathlib.Core.Bool.{true};
+ghost use Rattle.settings.specs.Settings.{admits};
+ghost use Rattle.settings.specs.Setup.{buffers, found, left, lent, setup, setupOf};
+ghost use Rattle.state.specs.Core.{foundState};
+ghost use Rattle.bundle_rules.specs.Execute.{handedBack};
+ghost use Rattle.run_rules.specs.Loop.{goesOn, advanced};
+use crate::outcome::ended;
+use crate::outcome::no_counts;
+use crate::outcome::refused;
+use crate::ready::has_ended;
+use crate::ready::readiness;
+use crate::underway::Underway;
+use bundle_rules::Advanced;
+use bundle_rules::Answer;
+use bundle_rules::Readiness;
+use settings::Config;
+use settings::Settings;
+use state::Core;
+
+// Bundles from a state on, until one is refused, the state has ended, or the budget is used up. The one place that steps.
+fn bundles(
+    start: Core,
+    registers: &mut [u32; 32],
+    predicates: &mut [bool; 8],
+    g: Settings,
+    code: &[u8],
+    main: &mut [u8],
+    local: &mut [u8],
+    cache: &mut [u32],
+    budget: u32,
+) -> Advanced
+    requires { ⌜ (admits g ≡ true) × (g ≡ lent (setupOf (now code) g) (buffers (now main) (now local) (now cache))) ⌝ }
+    ensures { λ r. ⌜ handedBack registers predicates r (left main local cache) ≡ goesOn (setupOf (now (code .entry)) g) budget (foundState registers predicates start) (found main local cache) ⌝ }
+{
+    let mut core = start;
+    let mut counts = no_counts();
+    let mut left = budget;
+    while 0 < left {
+        if has_ended(core, g.code) {
+            return Advanced {
+                answer: Answer::Ended,
+                core,
+                counts,
+            };
+        }
+        let r = Underway { core, counts }.step(
+            &mut *registers,
+            &mut *predicates,
+            g,
+            code,
+            &mut *main,
+            &mut *local,
+            &mut *cache,
+        );
+        let answer = r.answer;
+        let Answer::Done = answer else {
+            return r;
+        };
+        core = r.core;
+        counts = r.counts;
+        left = left - 1;
+    }
+    Advanced {
+        answer: Answer::Done,
+        core,
+        counts,
+    }
+}
+
+// The same from any state, under any settings: where these are refused, all is left as found.
+pub fn advance(
+    core: Core,
+    registers: &mut [u32; 32],
+    predicates: &mut [bool; 8],
+    config: Config,
+    code: &[u8],
+    main: &mut [u8],
+    local: &mut [u8],
+    cache: &mut [u32],
+    budget: u32,
+) -> Advanced
+    ensures { λ r. ⌜ handedBack registers predicates r (left main local cache) ≡ advanced (setup (now (code .entry)) config) budget (foundState registers predicates core) (found main local cache) ⌝ }
+{
+    let g = config.settings(code, main.len(), local.len(), cache.len());
+    match readiness(core, &*registers, &*predicates, g) {
+        Readiness::Refused(n) => refused(core, n),
+        Readiness::Ended => ended(core),
+        Readiness::Ready => bundles(
+            core,
+            &mut *registers,
+            &mut *predicates,
+            g,
+            code,
+            &mut *main,
+            &mut *local,
+            &mut *cache,
+            budget,
+        ),
+    }
+}

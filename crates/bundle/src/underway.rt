@@ -1,0 +1,103 @@
+// A run under way, and one bundle more of it.
+ghost use mathlib.Core.Path.{_≡_};
+ghost use mathlib.Core.Bool.{true};
+ghost use lib.ListN.{length};
+ghost use Rattle.settings.specs.Settings.{admits};
+ghost use Rattle.settings.specs.Setup.{found, left, setupOf};
+ghost use Rattle.state.specs.Core.{foundState};
+ghost use Rattle.bundle_rules.specs.Counts.{Few};
+ghost use Rattle.bundle_rules.specs.Bundle.{bundle};
+ghost use Rattle.bundle_rules.specs.Execute.{handedBack};
+ghost use Rattle.run_rules.specs.Run.{counted};
+use crate::execute::execute;
+use crate::outcome::refused;
+use crate::outcome::sum;
+use bundle_rules::Advanced;
+use bundle_rules::Counts;
+use effects::slot::slot_one;
+use effects::slot::slot_two;
+use fetch::Fetched;
+use fetch::fetch;
+use settings::Settings;
+use state::Core;
+
+// The state, whose registers and predicates are lent, and what was counted so far.
+pub(crate) struct Underway {
+    pub(crate) core: Core,
+    pub(crate) counts: Counts,
+}
+
+impl Underway {
+    // The bundle at the fetch address, done or refused.
+    pub(crate) fn step(
+        self,
+        registers: &mut [u32; 32],
+        predicates: &mut [bool; 8],
+        g: Settings,
+        code: &[u8],
+        main: &mut [u8],
+        local: &mut [u8],
+        cache: &mut [u32],
+    ) -> Advanced
+        requires { ⌜ (admits g ≡ true) × (g .main ≡ length (now main)) × (g .code ≡ length (now code)) × Few 4294967294 (self .counts) ⌝ }
+        ensures { λ r. ⌜ handedBack registers predicates r (left main local cache) ≡ counted (self .counts) (bundle g (setupOf (now (code .entry)) g) (foundState registers predicates (self .core)) (found main local cache)) ⌝ }
+    {
+        let core = self.core;
+        let before = self.counts;
+        let r = bundle(
+            core,
+            &mut *registers,
+            &mut *predicates,
+            g,
+            code,
+            &mut *main,
+            &mut *local,
+            &mut *cache,
+        );
+        let answer = r.answer;
+        let next = r.core;
+        let more = r.counts;
+        Advanced {
+            answer,
+            core: next,
+            counts: sum(before, more),
+        }
+    }
+}
+
+// The bundle at the fetch address of a state, done or refused.
+fn bundle(
+    core: Core,
+    registers: &mut [u32; 32],
+    predicates: &mut [bool; 8],
+    g: Settings,
+    code: &[u8],
+    main: &mut [u8],
+    local: &mut [u8],
+    cache: &mut [u32],
+) -> Advanced
+    requires { ⌜ (admits g ≡ true) × (g .main ≡ length (now main)) × (g .code ≡ length (now code)) ⌝ }
+    ensures { λ r. ⌜ handedBack registers predicates r (left main local cache) ≡ bundle g (setupOf (now (code .entry)) g) (foundState registers predicates core) (found main local cache) ⌝ }
+{
+    let at = core.fetch;
+    match fetch(code, at) {
+        Fetched::Refused(n) => refused(core, n),
+        Fetched::Found { bundle, following } => {
+            let specials = core.specials;
+            let one = slot_one(&*registers, &*predicates, specials, at, bundle);
+            let two = slot_two(&*registers, &*predicates, bundle);
+            execute(
+                core,
+                &mut *registers,
+                &mut *predicates,
+                g,
+                one,
+                two,
+                following as u32,
+                &mut *main,
+                &mut *local,
+                &mut *cache,
+            )
+        }
+    }
+}
