@@ -9,7 +9,6 @@ ghost use Rattle.run_rules.specs.Loop.{goesOn, advanced};
 use crate::outcome::ended;
 use crate::outcome::no_counts;
 use crate::outcome::refused;
-use crate::ready::has_ended;
 use crate::ready::readiness;
 use crate::underway::Underway;
 use bundle_rules::Advanced;
@@ -18,6 +17,7 @@ use bundle_rules::Readiness;
 use settings::Config;
 use settings::Settings;
 use state::Core;
+use state::judged::has_ended;
 
 // Bundles from a state on, until one is refused, the state has ended, or the budget is used up. The one place that steps.
 fn bundles(

@@ -2,7 +2,7 @@
 pub mod advance;
 mod execute;
 pub mod outcome;
-pub mod ready;
+mod ready;
 mod slot_one;
 mod stack_moves;
 mod underway;

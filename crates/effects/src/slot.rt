@@ -108,10 +108,8 @@ fn transfer_of(registers: &[u32], specials: Specials, fetch: u32, t: Target) -> 
         Target::BrcfRegister(b, o) => {
             let base = register(registers, b);
             let offset = register(registers, o);
-            Transfer::Block {
-                target: add(base, offset),
-                base,
-            }
+            let target = add(base, offset);
+            Transfer::Block { target, base }
         }
         Target::Ret => {
             let base = specials.srb;

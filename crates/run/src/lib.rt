@@ -5,11 +5,11 @@ ghost use Rattle.machine.specs.Whole.{stateOf};
 ghost use Rattle.run_rules.specs.Run.{run};
 ghost use Rattle.run.specs.Ran.{returned, endsWith, whole};
 use bundle::advance::advance;
-use bundle::ready::has_ended;
 use bundle_rules::Answer;
 use bundle_rules::Counts;
 use machine::State;
 use settings::Config;
+use state::judged::has_ended;
 
 // What a run answers; Refused holds document 01's number.
 pub enum RunAnswer {

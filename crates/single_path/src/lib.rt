@@ -36,10 +36,11 @@ fn walk(code: &[u8], marking: Marking) -> Checked
         match fetch(code, address) {
             Fetched::Refused(number) => return Checked::Refused { number, address },
             Fetched::Found { bundle, following } => {
+                let next = following as u32;
                 if let Found::Breaks(rule) = judge(marking, bundle) {
                     return Checked::Broken { address, rule };
                 }
-                address = following as u32;
+                address = next;
                 left = left - 1;
             }
         }

@@ -1,5 +1,6 @@
 // The state beside registers and predicates, and what a bundle writes to it. The registers and predicates are lent.
 pub mod flow;
+pub mod judged;
 mod special;
 pub mod waiting;
 mod writes;

@@ -127,7 +127,7 @@ pub fn waiting_load(l: LoadWords) -> WaitingLoad
     WaitingLoad::Waits { register, value }
 }
 
-pub fn load_ok(l: LoadWords) -> bool
+pub(crate) fn load_ok(l: LoadWords) -> bool
     ensures { λ r. ⌜ r ≡ loadOk (waitingLoad l) ⌝ }
 {
     (l.waits == 0) | (l.register <= 31)
@@ -139,7 +139,7 @@ pub fn none_waits(w: TransferWords) -> bool
     w.kind == 0
 }
 
-pub fn wait_ok(w: TransferWords) -> bool
+pub(crate) fn wait_ok(w: TransferWords) -> bool
     ensures { λ r. ⌜ r ≡ waitOk (waitingTransfer w) ⌝ }
 {
     (w.kind == 0) | ((1 <= w.wait) & (w.wait <= 3))

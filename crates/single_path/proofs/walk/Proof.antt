@@ -53,6 +53,12 @@ returns-2 c =
 enum-known-bundle : tie.Need-enum-known-bundle Inv-loop μ-loop
 enum-known-bundle c = c .match .keys2
 
+cast-next : tie.Need-cast-next Inv-loop μ-loop
+cast-next c =
+    let k = c .before .before .before .before .before .before .before .before .args .code .now in
+    let l = c .before .before .before .before .before .before .loop in
+    omega (arith, found-inside k (l .address) _ _ (sym (c .before .before .before .fetch .ensures) ∙ c .before .bundle .given .1), c .before .before .before .before .before .before .before .before .pre)
+
 judge-requires : tie.Need-judge-requires Inv-loop μ-loop
 judge-requires c κs = tt
 
@@ -72,14 +78,6 @@ returns-3 c =
 
 enum-told : tie.Need-enum-told Inv-loop μ-loop
 enum-told c = c .match2 .keys2
-
-cast-address : tie.Need-cast-address Inv-loop μ-loop
-cast-address c =
-    let l = c .before .before .before .before .before .before .before .before .before .loop in
-    let k = c .before .before .before .before .before .before .before .before .before .before .before .args .code .now in
-    let m = c .before .before .before .before .before .before .before .before .before .before .before .args .marking in
-    let e = sym (c .before .before .before .before .before .before .fetch .ensures) ∙ c .before .before .before .before .bundle .given .1 in
-    omega (arith, found-inside k (l .address) _ _ e, c .before .before .before .before .before .before .before .before .before .before .before .pre)
 
 sub-left : tie.Need-sub-left Inv-loop μ-loop
 sub-left c = omega (arith, c .before .before .before .before .before .before .before .before .loop-test .taken)
@@ -119,11 +117,11 @@ walk-spec =
     enum-known-number
     returns-2
     enum-known-bundle
+    cast-next
     judge-requires
     enum-known-rule
     returns-3
     enum-told
-    cast-address
     sub-left
     loop-less
     loop-again

@@ -1,7 +1,7 @@
 use Rattle.state.specs.State.{wellFormed}
 use borrow.Author.Needs.{needs}
-use Rattle.bundle.proofs.ready.is_well_formed.Statement.{statement}
-use Rattle.bundle.proofs.ready.is_well_formed.Tie as tie
+use Rattle.state.proofs.judged.is_well_formed.Statement.{statement}
+use Rattle.state.proofs.judged.is_well_formed.Tie as tie
 
 element-copy-out-result : tie.Need-element-copy-out-result
 element-copy-out-result c = search needs

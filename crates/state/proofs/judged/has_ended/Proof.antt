@@ -1,7 +1,7 @@
 use Rattle.state.specs.State.{ended}
 use borrow.Author.Needs.{needs}
-use Rattle.bundle.proofs.ready.has_ended.Statement.{statement}
-use Rattle.bundle.proofs.ready.has_ended.Tie as tie
+use Rattle.state.proofs.judged.has_ended.Statement.{statement}
+use Rattle.state.proofs.judged.has_ended.Tie as tie
 
 cast-result : tie.Need-cast-result
 cast-result c = search needs
