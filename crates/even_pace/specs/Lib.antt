@@ -17,3 +17,4 @@ pub mod Pace
 pub mod Theorem
 pub mod Examples
 pub mod Evidence
+pub mod Frame
