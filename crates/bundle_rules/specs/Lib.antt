@@ -1,3 +1,4 @@
+-- Open first: Bundle.antt, then Refusal.antt and Execute.antt.
 pub mod Refusal
 pub mod Bundle
 pub mod Execute

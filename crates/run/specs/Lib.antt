@@ -1,2 +1,3 @@
+-- Open first: lib.rt, then Ran.antt.
 pub mod Ran
 pub mod LoopLaws
