@@ -1,3 +1,4 @@
+-- Open first: Bundle.antt, then Refusal.antt and Execute.antt.
 pub mod Refusal
 pub mod Counts
 pub mod Bundle

@@ -1,4 +1,4 @@
-// One bundle: the types of what it gives. What it does is in specs/.
+// What a bundle does: its refusals, its writes and counts, and the step, in specs/. Here are the types of what it gives.
 use state::Core;
 
 // What a step answers; Refused holds document 01's number.

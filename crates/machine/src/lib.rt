@@ -1,4 +1,4 @@
-// The machine: its state by value.
+// The state by value with its methods, and the fresh state.
 pub mod open;
 pub mod whole_state;
 
