@@ -1,1 +1,2 @@
+-- Open first: lib.rt, then Readings.antt.
 pub mod Readings

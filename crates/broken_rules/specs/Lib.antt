@@ -1,1 +1,2 @@
+-- Open first: lib.rt, then Found.antt.
 pub mod Found

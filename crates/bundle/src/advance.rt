@@ -3,21 +3,21 @@ ghost use mathlib.Core.Path.{_≡_};
 ghost use mathlib.Core.Bool.{true};
 ghost use Rattle.settings.specs.Settings.{admits};
 ghost use Rattle.settings.specs.Setup.{buffers, found, left, lent, setup, setupOf};
-ghost use Rattle.state.specs.Core.{foundState};
-ghost use Rattle.bundle_rules.specs.Execute.{handedBack};
-ghost use Rattle.run_rules.specs.Loop.{goesOn, advanced};
+ghost use Rattle.core_state.specs.Core.{foundState};
+ghost use Rattle.bundle_model.specs.Execute.{handedBack};
+ghost use Rattle.run_model.specs.Loop.{goesOn, advanced};
 use crate::outcome::ended;
 use crate::outcome::no_counts;
 use crate::outcome::refused;
 use crate::ready::readiness;
 use crate::underway::Underway;
-use bundle_rules::Advanced;
-use bundle_rules::Answer;
-use bundle_rules::Readiness;
+use bundle_model::Advanced;
+use bundle_model::Answer;
+use bundle_model::Readiness;
+use core_state::Core;
+use core_state::judged::has_ended;
 use settings::Config;
 use settings::Settings;
-use state::Core;
-use state::judged::has_ended;
 
 // Bundles from a state on, until one is refused, the state has ended, or the budget is used up. The one place that steps.
 fn bundles(

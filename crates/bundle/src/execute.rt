@@ -6,19 +6,19 @@ ghost use Rattle.settings.specs.Settings.{admits};
 ghost use mathlib.Core.List.{List};
 ghost use Prim.Native.Nat.{ℕ};
 ghost use Rattle.settings.specs.Setup.{found, left, setupOf};
-ghost use Rattle.state.specs.Core.{foundState};
-ghost use Rattle.bundle_rules.specs.Execute.{handedBack, executed};
+ghost use Rattle.core_state.specs.Core.{foundState};
+ghost use Rattle.bundle_model.specs.Execute.{handedBack, executed};
 use crate::outcome::done;
 use crate::outcome::refused;
 use crate::slot_one::carry_out;
 use alu_effects::AluEffect;
-use bundle_rules::Advanced;
-use bundle_rules::Carried;
+use bundle_model::Advanced;
+use bundle_model::Carried;
 use bundle_writes::cycles;
 use bundle_writes::write;
+use core_state::Core;
 use effects::Effect;
 use settings::Settings;
-use state::Core;
 
 // A decoded bundle, whose slots have these effects, done or refused.
 pub(crate) fn execute(

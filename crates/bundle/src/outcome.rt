@@ -3,13 +3,13 @@ ghost use mathlib.Core.Path.{_≡_};
 ghost use mathlib.Core.Bool.{Bool};
 ghost use mathlib.Core.List.{List};
 ghost use Prim.Native.Nat.{ℕ};
-ghost use Rattle.state.specs.Core.{joined};
-ghost use Rattle.bundle_rules.specs.Counts.{noCounts, plus, Fit};
-ghost use Rattle.bundle_rules.specs.Execute.{steppedAs, refusedWith, endedWith, doneWith};
-use bundle_rules::Advanced;
-use bundle_rules::Answer;
-use bundle_rules::Counts;
-use state::Core;
+ghost use Rattle.core_state.specs.Core.{joined};
+ghost use Rattle.bundle_model.specs.Counts.{noCounts, plus, Fit};
+ghost use Rattle.bundle_model.specs.Execute.{steppedAs, refusedWith, endedWith, doneWith};
+use bundle_model::Advanced;
+use bundle_model::Answer;
+use bundle_model::Counts;
+use core_state::Core;
 
 pub fn no_counts() -> Counts
     ensures { λ r. ⌜ r ≡ noCounts ⌝ }

@@ -1,12 +1,12 @@
 // What is judged before bundles are done: the settings, the state, and whether it has ended.
 ghost use mathlib.Core.Path.{_≡_};
-ghost use Rattle.state.specs.Core.{foundState};
-ghost use Rattle.bundle_rules.specs.Bundle.{readiness};
-use bundle_rules::Readiness;
+ghost use Rattle.core_state.specs.Core.{foundState};
+ghost use Rattle.bundle_model.specs.Bundle.{readiness};
+use bundle_model::Readiness;
+use core_state::Core;
+use core_state::judged::has_ended;
+use core_state::judged::is_well_formed;
 use settings::Settings;
-use state::Core;
-use state::judged::has_ended;
-use state::judged::is_well_formed;
 
 // What is judged before a bundle is tried: the settings, the state, and whether it has ended.
 pub(crate) fn readiness(

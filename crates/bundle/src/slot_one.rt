@@ -8,12 +8,14 @@ ghost use Rattle.answers.specs.Test.{verdict};
 ghost use Rattle.settings.specs.Settings.{admits};
 ghost use Rattle.settings.specs.Setup.{found, left, setupOf};
 ghost use Rattle.memory.specs.Access.{storeScale, loadedValue, loadTests, stored, storeTests};
-ghost use Rattle.state.specs.State.{noneWaits};
-ghost use Rattle.state.specs.Core.{joined, waitingTransfer};
-ghost use Rattle.bundle_rules.specs.Execute.{carriedAs, unlessRefused, carriedOut};
+ghost use Rattle.core_state.specs.State.{noneWaits};
+ghost use Rattle.core_state.specs.Core.{joined, waitingTransfer};
+ghost use Rattle.bundle_model.specs.Execute.{carriedAs, unlessRefused, carriedOut};
 use crate::stack_moves::do_stack;
 use answers::Verdict;
-use bundle_rules::Carried;
+use bundle_model::Carried;
+use core_state::Core;
+use core_state::waiting::none_waits;
 use effects::Effect;
 use isa::AccessKind;
 use isa::LoadWidth;
@@ -23,8 +25,6 @@ use memory::access::store;
 use memory::judge::judge_load;
 use memory::judge::judge_store;
 use settings::Settings;
-use state::Core;
-use state::waiting::none_waits;
 
 // An effect that reads and writes no store.
 fn nothing() -> Carried

@@ -6,9 +6,10 @@ ghost use Prim.Native.Nat.{ℕ, _≤_};
 ghost use lib.ListN.{length};
 ghost use Rattle.settings.specs.Settings.{admits};
 ghost use Rattle.settings.specs.Setup.{buffers, setupOf};
-ghost use Rattle.state.specs.Core.{joined};
-ghost use Rattle.bundle_rules.specs.Execute.{carriedAs, carriedOut, Moved};
-use bundle_rules::Carried;
+ghost use Rattle.core_state.specs.Core.{joined};
+ghost use Rattle.bundle_model.specs.Execute.{carriedAs, carriedOut, Moved};
+use bundle_model::Carried;
+use core_state::Core;
 use effects::Effect;
 use settings::Settings;
 use stack_cache::Made;
@@ -18,7 +19,6 @@ use stack_cache::StackControl;
 use stack_cache::moves::fill;
 use stack_cache::moves::spill;
 use stack_control::plan;
-use state::Core;
 
 // A stack instruction: the words that it moves are judged whole, and then moved.
 pub(crate) fn do_stack(

@@ -4,22 +4,22 @@ ghost use mathlib.Core.Bool.{true};
 ghost use lib.ListN.{length};
 ghost use Rattle.settings.specs.Settings.{admits};
 ghost use Rattle.settings.specs.Setup.{found, left, setupOf};
-ghost use Rattle.state.specs.Core.{foundState};
-ghost use Rattle.bundle_rules.specs.Counts.{Few};
-ghost use Rattle.bundle_rules.specs.Bundle.{bundle};
-ghost use Rattle.bundle_rules.specs.Execute.{handedBack};
-ghost use Rattle.run_rules.specs.Run.{counted};
+ghost use Rattle.core_state.specs.Core.{foundState};
+ghost use Rattle.bundle_model.specs.Counts.{Few};
+ghost use Rattle.bundle_model.specs.Bundle.{bundle};
+ghost use Rattle.bundle_model.specs.Execute.{handedBack};
+ghost use Rattle.run_model.specs.Run.{counted};
 use crate::execute::execute;
 use crate::outcome::refused;
 use crate::outcome::sum;
-use bundle_rules::Advanced;
-use bundle_rules::Counts;
+use bundle_model::Advanced;
+use bundle_model::Counts;
+use core_state::Core;
 use effects::slot::slot_one;
 use effects::slot::slot_two;
 use fetch::Fetched;
 use fetch::fetch;
 use settings::Settings;
-use state::Core;
 
 // The state, whose registers and predicates are lent, and what was counted so far.
 pub(crate) struct Underway {

@@ -3,17 +3,17 @@ ghost use mathlib.Core.Path.{_≡_};
 ghost use mathlib.Core.Bool.{Bool, cond};
 ghost use mathlib.Core.List.{List};
 ghost use Prim.Native.Nat.{ℕ};
-ghost use Rattle.state.specs.State.{landed};
-ghost use Rattle.state.specs.Writes.{writeAlu};
-ghost use Rattle.state.specs.Core.{joined, waitingTransfer, foundState, leftState};
-ghost use Rattle.bundle_rules.specs.Bundle.{onward, cyclesOf, undelayedCycles};
-ghost use Rattle.bundle_rules.specs.Execute.{writeDone};
+ghost use Rattle.core_state.specs.State.{landed};
+ghost use Rattle.core_state.specs.Writes.{writeAlu};
+ghost use Rattle.core_state.specs.Core.{joined, waitingTransfer, foundState, leftState};
+ghost use Rattle.bundle_model.specs.Bundle.{onward, cyclesOf, undelayedCycles};
+ghost use Rattle.bundle_model.specs.Execute.{writeDone};
 use alu_effects::AluEffect;
+use core_state::Core;
+use core_state::LoadWords;
+use core_state::TransferWords;
 use effects::Effect;
 use effects::Transfer;
-use state::Core;
-use state::LoadWords;
-use state::TransferWords;
 
 // What slot one writes, where carrying it out gave a loaded value, or st and ss.
 fn write_one(

@@ -1,3 +1,4 @@
+-- Open first: Kept.antt, then PlaceNumbers.antt and Places.antt.
 pub mod PlaceNumbers
 pub mod Kept
 pub mod KeptLaws

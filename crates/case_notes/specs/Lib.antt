@@ -1,3 +1,4 @@
+-- Open first: Description.antt, then DescriptionLine.antt and Marking.antt.
 pub mod KeptParts
 pub mod Mistake
 pub mod Description

@@ -23,10 +23,10 @@ use case_notes::kept_parts::keep_words;
 use case_notes::kept_parts::listed;
 use case_notes::kept_parts::registers_of;
 use case_notes::kept_parts::specials_of;
+use core_state::WaitingLoad;
+use core_state::WaitingTransfer;
 use effects::Transfer;
-use machine::State;
-use state::WaitingLoad;
-use state::WaitingTransfer;
+use state::State;
 
 // A transfer of a kind with the numbers of its line.
 fn transfer_with(kind: u64, a: u32, b: u32, c: u32) -> WaitingTransfer {

@@ -1,5 +1,5 @@
 // The lines on a state, and the counts of an operation.
-use bundle_rules::Counts;
+use bundle_model::Counts;
 use case_kept::kept::FETCH;
 use case_kept::kept::Kept;
 use case_kept::kept::LOAD;

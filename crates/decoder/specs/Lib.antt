@@ -1,2 +1,3 @@
+-- Open first: Decode.antt, then DecodeLaws.antt.
 pub mod Decode
 pub mod DecodeLaws

@@ -16,12 +16,12 @@ use Rattle.alu_effects.specs.declared.AluEffect.{AluEffect}
 use Rattle.alu_effects.specs.declared.AluEffect.the-variants as alu
 use Rattle.effects.specs.declared.Effect.{Effect}
 use Rattle.effects.specs.declared.Effect.the-variants as effect
-use Rattle.state.specs.State.{State}
-use Rattle.state.specs.declared.WaitingTransfer.{WaitingTransfer}
-use Rattle.state.specs.declared.WaitingLoad.the-variants.{Nothing}
-use Rattle.state.specs.Writes.{writeAlu, nearer}
-use Rattle.bundle_rules.specs.Bundle.{writeOne, onward}
-use Rattle.machine_laws.specs.StackKept.{Passed, passed-open}
+use Rattle.core_state.specs.State.{State}
+use Rattle.core_state.specs.declared.WaitingTransfer.{WaitingTransfer}
+use Rattle.core_state.specs.declared.WaitingLoad.the-variants.{Nothing}
+use Rattle.core_state.specs.Writes.{writeAlu, nearer}
+use Rattle.bundle_model.specs.Bundle.{writeOne, onward}
+use Rattle.step_laws.specs.StackKept.{Passed, passed-open}
 use Rattle.marking.specs.declared.Marking.{Marking}
 use Rattle.marking.specs.Marking.{privateStore, publicRegister, publicPredicate, publicSpecial}
 use Rattle.even_pace.specs.Terms.{SameState, SameBuffers}

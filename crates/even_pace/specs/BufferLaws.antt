@@ -19,9 +19,9 @@ use Rattle.word.specs.BoolLaws.{and-right}
 use Rattle.settings.specs.declared.Settings.{Settings}
 use Rattle.settings.specs.SetupLaws.{stack-byte, stack-byte-from, stack-byte-below, untouched}
 use Rattle.memory.specs.Access.{mainOpen, accessOpen, readNumber, stored}
-use Rattle.state.specs.State.{State}
-use Rattle.bundle_rules.specs.Bundle.{area, stackMoved}
-use Rattle.machine_laws.specs.StackKept.{stackMoved-lengths, area-same, stackMoved-area, stackMoved-outside}
+use Rattle.core_state.specs.State.{State}
+use Rattle.bundle_model.specs.Bundle.{area, stackMoved}
+use Rattle.step_laws.specs.StackKept.{stackMoved-lengths, area-same, stackMoved-area, stackMoved-outside}
 use Rattle.marking.specs.declared.Marking.{Marking}
 use Rattle.marking.specs.Marking.{privateStore}
 use Rattle.even_pace.specs.Terms.{Same, privateByte, SameBuffers}

@@ -11,9 +11,9 @@ use Rattle.answers.specs.declared.Verdict.{Verdict}
 use Rattle.answers.specs.declared.Verdict.the-variants.{Fine as Passing, Refused}
 use Rattle.answers.specs.Answer.{Returned, done, refused}
 use Rattle.effects.specs.Effect.{slotOne, slotTwo}
-use Rattle.state.specs.State.{State, startOf}
-use Rattle.bundle_rules.specs.Refusal.{effectTests}
-use Rattle.bundle_rules.specs.Bundle.{written, countsOf, buffersAfter, Outcome, outcome, refusedOr, bundle}
+use Rattle.core_state.specs.State.{State, startOf}
+use Rattle.bundle_model.specs.Refusal.{effectTests}
+use Rattle.bundle_model.specs.Bundle.{written, countsOf, buffersAfter, Outcome, outcome, refusedOr, bundle}
 use Rattle.marking.specs.declared.Marking.{Marking}
 use Rattle.marking_rules.specs.declared.Rule.{Rule}
 use Rattle.marking_rules.specs.Rules.{breaks}

@@ -10,13 +10,13 @@ use Rattle.memory.specs.Access.{storeScale}
 use Rattle.alu_effects.specs.declared.AluEffect.{AluEffect}
 use Rattle.effects.specs.declared.Effect.{Effect}
 use Rattle.effects.specs.declared.Effect.the-variants as effect
-use Rattle.state.specs.State.{State, state, specials, landed}
-use Rattle.state.specs.declared.WaitingTransfer.{WaitingTransfer}
-use Rattle.state.specs.declared.WaitingLoad.the-variants.{Nothing}
-use Rattle.bundle_rules.specs.Refusal.{effectTests}
-use Rattle.state.specs.Writes.{writeAlu}
-use Rattle.bundle_rules.specs.Bundle.{writeOne, onward, written, buffersAfter, stackMoved, countsOf}
-use Rattle.machine_laws.specs.StackKept.{Passed, passed-open}
+use Rattle.core_state.specs.State.{State, state, specials, landed}
+use Rattle.core_state.specs.declared.WaitingTransfer.{WaitingTransfer}
+use Rattle.core_state.specs.declared.WaitingLoad.the-variants.{Nothing}
+use Rattle.bundle_model.specs.Refusal.{effectTests}
+use Rattle.core_state.specs.Writes.{writeAlu}
+use Rattle.bundle_model.specs.Bundle.{writeOne, onward, written, buffersAfter, stackMoved, countsOf}
+use Rattle.step_laws.specs.StackKept.{Passed, passed-open}
 use Rattle.marking.specs.declared.Marking.{Marking}
 use Rattle.even_pace.specs.Terms.{SameState, SameBuffers, Agree}
 use Rattle.even_pace.specs.FlowLaws.{landed-both, landed-predicates, landed-none}

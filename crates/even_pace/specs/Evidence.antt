@@ -9,11 +9,11 @@ use mathlib.Core.Path.{_≡_, refl, sym, ap, subst, _∙_}
 use native.Mathlib.Omega.{arith}
 use lib.ListN.{getElem?}
 use Rattle.answers.specs.Answer.{Returned, ended, refused}
-use Rattle.state.specs.State.{State}
-use Rattle.state.specs.declared.WaitingLoad.the-variants as load
-use Rattle.bundle_rules.specs.declared.Counts.{Counts}
-use Rattle.bundle_rules.specs.Bundle.{step}
-use Rattle.run_rules.specs.Run.{run, Tried, triedAt, tries}
+use Rattle.core_state.specs.State.{State}
+use Rattle.core_state.specs.declared.WaitingLoad.the-variants as load
+use Rattle.bundle_model.specs.declared.Counts.{Counts}
+use Rattle.bundle_model.specs.Bundle.{step}
+use Rattle.run_model.specs.Run.{run, Tried, triedAt, tries}
 use Rattle.marking.specs.Marking.{publicRegister}
 use Rattle.single_path.specs.Check.{Walked, first, accepted}
 use Rattle.single_path.specs.WalkLaws.{walked-inside}
@@ -24,7 +24,7 @@ use Rattle.even_pace.specs.StopLaws.{isRefused}
 use Rattle.even_pace.specs.ListLaws.{orElse, isSome, stops-here, StopTried}
 use Rattle.even_pace.specs.Theorem.{even-pace}
 use Rattle.even_pace.specs.Examples.{bytesOf, within, lent, marking, begin, check, broken, hasAccess, tried, answered, begin-shaped, begin-well, begin-agree}
-use Rattle.bundle_rules.specs.Counts.{noCounts}
+use Rattle.bundle_model.specs.Counts.{noCounts}
 use Rattle.fetch.specs.Fetch.{bundleAt}
 
 -- Even pace of two runs of a program from states that differ in r1 and p1.

@@ -16,13 +16,13 @@ use Rattle.settings.specs.Settings.{admits}
 use Rattle.memory.specs.Access.{loadScale, storeScale, readNumber, extended, loadedValue, stored, mainOpen, accessOpen}
 use Rattle.alu_effects.specs.AluEffects.{predicatesWord, special, op2Value, aluEffect, slotTwoEffect}
 use Rattle.effects.specs.Effect.{accessAddress, amountWords, amountAligned, stackEffect, transferOf, effectOf, slotOneEffect}
-use Rattle.state.specs.State.{State, Shaped, state, specials, withRegister, withPredicate, predicatesOf, withSpecial, landed, transferred, wellFormed, ended as hasEnded}
-use Rattle.state.specs.declared.WaitingTransfer.the-variants as transfer
-use Rattle.state.specs.declared.WaitingLoad.{WaitingLoad}
-use Rattle.state.specs.declared.WaitingLoad.the-variants as load
-use Rattle.bundle_rules.specs.Bundle.{stackMoved, buffersAfter, writeOne, written, bundle, readiness, step}
-use Rattle.state.specs.Writes.{writeAlu, delaySlots}
-use Rattle.run_rules.specs.Run.{run, Tried, tries}
+use Rattle.core_state.specs.State.{State, Shaped, state, specials, withRegister, withPredicate, predicatesOf, withSpecial, landed, transferred, wellFormed, ended as hasEnded}
+use Rattle.core_state.specs.declared.WaitingTransfer.the-variants as transfer
+use Rattle.core_state.specs.declared.WaitingLoad.{WaitingLoad}
+use Rattle.core_state.specs.declared.WaitingLoad.the-variants as load
+use Rattle.bundle_model.specs.Bundle.{stackMoved, buffersAfter, writeOne, written, bundle, readiness, step}
+use Rattle.core_state.specs.Writes.{writeAlu, delaySlots}
+use Rattle.run_model.specs.Run.{run, Tried, tries}
 use Rattle.marking.specs.declared.Marking.{Marking}
 use Rattle.marking_rules.specs.declared.Rule.the-variants.{A, B, C, D, E}
 use Rattle.marking.specs.Marking.{privateStore, some as someOf, markingOk}
@@ -34,7 +34,7 @@ use Rattle.even_pace.specs.BufferLaws.{buffers-refl}
 use Rattle.settings.specs.Setup.{Setup, Buffers, buffers, touches}
 use Rattle.answers.specs.Test.{verdict}
 use Rattle.fetch.specs.Fetch.{outsideCode, bundleAt}
-use Rattle.bundle_rules.specs.Counts.{noCounts}
+use Rattle.bundle_model.specs.Counts.{noCounts}
 
 -- The bytes of code words.
 abbrev pub bytesOf : List ℕ → List ℕ

@@ -6,12 +6,12 @@ use lib.Dec.{leb}
 use Rattle.word.specs.Word.{sub}
 use Rattle.effects.specs.declared.Transfer.{Transfer}
 use Rattle.effects.specs.declared.Transfer.the-variants.{Br, Call, Block}
-use Rattle.state.specs.State.{State, withRegister, withFlow, goingOn, landing, landed, transferred}
-use Rattle.state.specs.declared.WaitingTransfer.{WaitingTransfer}
-use Rattle.state.specs.declared.WaitingTransfer.the-variants as transfer
-use Rattle.state.specs.declared.WaitingLoad.{WaitingLoad}
-use Rattle.state.specs.declared.WaitingLoad.the-variants.{Nothing, Waits}
-use Rattle.state.specs.Writes.{delaySlots, nearer, begun}
+use Rattle.core_state.specs.State.{State, withRegister, withFlow, goingOn, landing, landed, transferred}
+use Rattle.core_state.specs.declared.WaitingTransfer.{WaitingTransfer}
+use Rattle.core_state.specs.declared.WaitingTransfer.the-variants as transfer
+use Rattle.core_state.specs.declared.WaitingLoad.{WaitingLoad}
+use Rattle.core_state.specs.declared.WaitingLoad.the-variants.{Nothing, Waits}
+use Rattle.core_state.specs.Writes.{delaySlots, nearer, begun}
 use Rattle.marking.specs.declared.Marking.{Marking}
 use Rattle.marking.specs.Marking.{publicRegister}
 use Rattle.even_pace.specs.Terms.{SameState}

@@ -1,3 +1,4 @@
+-- Open first: Terms.antt, then Statement.antt, Theorem.antt and Evidence.antt.
 pub mod Terms
 pub mod Statement
 pub mod SameLaws

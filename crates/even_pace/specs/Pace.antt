@@ -10,14 +10,14 @@ use Rattle.settings.specs.declared.Settings.{Settings}
 use Rattle.answers.specs.Answer.{Returned, accepted, done, ended, spent, refused}
 use Rattle.settings.specs.Settings.{admits}
 use Rattle.settings.specs.SettingsLaws.{area-ordered, area-inside}
-use Rattle.state.specs.State.{State, Shaped, noneWaits, wellFormed, ended as hasEnded}
-use Rattle.bundle_rules.specs.declared.Counts.{Counts}
-use Rattle.bundle_rules.specs.Bundle.{Outcome, outcome, bundle}
-use Rattle.machine_laws.specs.StepCases.{isDone}
-use Rattle.machine_laws.specs.KeptLaws.{bundle-shaped}
-use Rattle.machine_laws.specs.WellFormedLaws.{well-formed-parts}
-use Rattle.machine_laws.specs.StackKept.{bundle-lengths}
-use Rattle.run_rules.specs.Run.{counted, run, Tried, triedAt, tries}
+use Rattle.core_state.specs.State.{State, Shaped, noneWaits, wellFormed, ended as hasEnded}
+use Rattle.bundle_model.specs.declared.Counts.{Counts}
+use Rattle.bundle_model.specs.Bundle.{Outcome, outcome, bundle}
+use Rattle.step_laws.specs.StepCases.{isDone}
+use Rattle.step_laws.specs.KeptLaws.{bundle-shaped}
+use Rattle.step_laws.specs.WellFormedLaws.{well-formed-parts}
+use Rattle.step_laws.specs.StackKept.{bundle-lengths}
+use Rattle.run_model.specs.Run.{counted, run, Tried, triedAt, tries}
 use Rattle.marking.specs.declared.Marking.{Marking}
 use Rattle.single_path.specs.Check.{Walked}
 use Rattle.single_path.specs.WalkLaws.{walked-decided}
@@ -25,11 +25,11 @@ use Rattle.single_path.specs.CheckLaws.{Fine}
 use Rattle.even_pace.specs.Terms.{Agree, hasPrivateAccess, SameTried, Stops, not-walked, refused-access}
 use Rattle.even_pace.specs.BundleLaws.{SameOutcome, Grounded, bundle-alike}
 use Rattle.even_pace.specs.StopLaws.{isRefused}
-use Rattle.machine_laws.specs.WellLaws.{bundle-well-formed}
+use Rattle.step_laws.specs.WellLaws.{bundle-well-formed}
 use Rattle.even_pace.specs.ListLaws.{even-none, stops-here, Result, before}
 use Rattle.even_pace.specs.TriesLaws.{run-none, run-last-ended, run-spent, tries-ended, run-ended, tries-going, run-going}
 use Rattle.settings.specs.Setup.{Buffers, lent, settings, Setup}
-use Rattle.bundle_rules.specs.Counts.{noCounts, plus}
+use Rattle.bundle_model.specs.Counts.{noCounts, plus}
 use Rattle.fetch.specs.Fetch.{bundleAt}
 
 -- At a walked address being a stopping event is decided.

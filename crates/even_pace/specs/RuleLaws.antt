@@ -39,7 +39,7 @@ use Rattle.effects.specs.declared.Transfer as declared
 use Rattle.effects.specs.declared.Transfer.the-variants as transfer
 use Rattle.alu_effects.specs.AluEffects.{holds, op2Value, predicatesWord, special as specialValue, aluEffect}
 use Rattle.effects.specs.Effect.{address, accessAddress, amountWords, amountAligned, stackEffect, transferOf, effectOf, bytesOf}
-use Rattle.state.specs.State.{State, startOf}
+use Rattle.core_state.specs.State.{State, startOf}
 use Rattle.marking.specs.declared.Marking.{Marking}
 use Rattle.marking.specs.Marking.{privateRegister, privatePredicate, privateOperand, privateSpecial}
 use Rattle.marking_rules.specs.Rules.{asked, breaksA, breaksB, breaksC, breaksD, breaksE, privateOp2, privateAmount}

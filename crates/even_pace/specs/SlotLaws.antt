@@ -16,8 +16,8 @@ use Rattle.effects.specs.declared.Effect.{Effect}
 use Rattle.effects.specs.declared.Effect.the-variants as effect
 use Rattle.alu_effects.specs.AluEffects.{holds, aluEffect, slotTwoEffect}
 use Rattle.effects.specs.Effect.{effectOf, slotOneEffect, slotOne, slotTwo}
-use Rattle.state.specs.State.{State, startOf}
-use Rattle.bundle_rules.specs.Refusal.{effectTests}
+use Rattle.core_state.specs.State.{State, startOf}
+use Rattle.bundle_model.specs.Refusal.{effectTests}
 use Rattle.marking.specs.declared.Marking.{Marking}
 use Rattle.marking_rules.specs.declared.Rule.{Rule}
 use Rattle.marking_rules.specs.declared.Rule.the-variants as rule

@@ -8,9 +8,9 @@ use native.Mathlib.Omega.{arith}
 use native.Mathlib.Decide.{ℕ-discrete}
 use Rattle.word.specs.BoolLaws.{or-left, or-right}
 use Rattle.alu_effects.specs.declared.Specials.{Specials}
-use Rattle.state.specs.State.{State, state, withRegister, withPredicate, withLoad, withPredicates, withSpecials}
-use Rattle.state.specs.declared.WaitingLoad.{WaitingLoad}
-use Rattle.state.specs.declared.WaitingLoad.the-variants.{Nothing, Waits}
+use Rattle.core_state.specs.State.{State, state, withRegister, withPredicate, withLoad, withPredicates, withSpecials}
+use Rattle.core_state.specs.declared.WaitingLoad.{WaitingLoad}
+use Rattle.core_state.specs.declared.WaitingLoad.the-variants.{Nothing, Waits}
 use Rattle.marking.specs.declared.Marking.{Marking}
 use Rattle.marking.specs.Marking.{privateRegister, privatePredicate, publicRegister, publicPredicate, some}
 use Rattle.even_pace.specs.Terms.{Same, SameSpecials, SameState}

@@ -3,12 +3,12 @@ use Prim.Native.Nat.{ℕ}
 use mathlib.Core.Bool.{true}
 use mathlib.Core.List.{List}
 use mathlib.Core.Path.{_≡_}
-use Rattle.state.specs.State.{State, Shaped, wellFormed}
-use Rattle.run_rules.specs.Run.{run, tries}
+use Rattle.core_state.specs.State.{State, Shaped, wellFormed}
+use Rattle.run_model.specs.Run.{run, tries}
 use Rattle.marking.specs.declared.Marking.{Marking}
 use Rattle.even_pace.specs.Terms.{Accepted, Agree, EvenPace}
 use Rattle.settings.specs.Setup.{Buffers, Setup}
-use Rattle.bundle_rules.specs.Counts.{noCounts}
+use Rattle.bundle_model.specs.Counts.{noCounts}
 
 -- Take accepted code, and two runs of it whose settings, marking and budget are the same. If both first states are well formed and all
 -- that is public is the same in both, the runs keep even pace. A state's lists of registers and predicates have the lengths that its

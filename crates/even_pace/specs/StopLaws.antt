@@ -21,9 +21,9 @@ use Rattle.alu_effects.specs.declared.AluEffect.the-variants as alu
 use Rattle.effects.specs.declared.Effect.the-variants as effect
 use Rattle.alu_effects.specs.AluEffects.{holds}
 use Rattle.effects.specs.Effect.{address, effectOf, slotOneEffect, slotOne}
-use Rattle.state.specs.State.{State, startOf}
-use Rattle.bundle_rules.specs.Refusal.{effectTests}
-use Rattle.bundle_rules.specs.Bundle.{Outcome, refusedOr, bundle}
+use Rattle.core_state.specs.State.{State, startOf}
+use Rattle.bundle_model.specs.Refusal.{effectTests}
+use Rattle.bundle_model.specs.Bundle.{Outcome, refusedOr, bundle}
 use Rattle.marking.specs.declared.Marking.{Marking}
 use Rattle.marking_rules.specs.declared.Asked.{Asked}
 use Rattle.marking.specs.Marking.{privateGuard}

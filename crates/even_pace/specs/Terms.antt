@@ -11,9 +11,9 @@ use Rattle.isa.specs.declared.Bundle.{Bundle}
 use Rattle.isa.specs.declared.Bundle.the-variants.{Undecodable, One, Two, Long}
 use Rattle.answers.specs.Answer.{Returned, refused}
 use Rattle.alu_effects.specs.declared.Specials.{Specials}
-use Rattle.state.specs.State.{State}
-use Rattle.state.specs.declared.WaitingLoad.the-variants.{Waits}
-use Rattle.run_rules.specs.Run.{Tried}
+use Rattle.core_state.specs.State.{State}
+use Rattle.core_state.specs.declared.WaitingLoad.the-variants.{Waits}
+use Rattle.run_model.specs.Run.{Tried}
 use Rattle.marking.specs.declared.Marking.{Marking}
 use Rattle.marking.specs.Marking.{privateRegister, privatePredicate, privateGuard, publicRegister}
 use Rattle.marking_rules.specs.Rules.{asked}
@@ -22,7 +22,7 @@ use Rattle.settings.specs.Setup.{Setup, Buffers, isStackByte}
 use Rattle.fetch.specs.Fetch.{bundleAt}
 
 -- Terms that stand elsewhere: `settings` (settings, Setup), `Walked` (single_path, Check), `privateGuard` (marking, Marking), well
--- formed as `wellFormed` (state, State), and the bundles that a run tries as `tries` (run_rules, Run).
+-- formed as `wellFormed` (core_state, State), and the bundles that a run tries as `tries` (run_model, Run).
 
 -- Accepted code: the check of it answers so under the settings and the marking. The lengths are those of what is lent.
 abbrev pub Accepted : Setup → Marking → Buffers → Type 0

@@ -8,9 +8,9 @@ use mathlib.Core.Path.{_≡_, refl}
 use lib.ListN.{length, getElem?}
 use Rattle.word.specs.BoolLaws.{and-left}
 use Rattle.settings.specs.Settings.{admits}
-use Rattle.state.specs.State.{State, Shaped, wellFormed}
-use Rattle.bundle_rules.specs.Bundle.{Outcome}
-use Rattle.run_rules.specs.Run.{run, Tried, tries}
+use Rattle.core_state.specs.State.{State, Shaped, wellFormed}
+use Rattle.bundle_model.specs.Bundle.{Outcome}
+use Rattle.run_model.specs.Run.{run, Tried, tries}
 use Rattle.marking.specs.declared.Marking.{Marking}
 use Rattle.marking.specs.Marking.{markingOk}
 use Rattle.single_path.specs.CheckLaws.{accepted-passes, accepted-fine}
@@ -20,7 +20,7 @@ use Rattle.even_pace.specs.BundleLaws.{SameOutcome}
 use Rattle.even_pace.specs.ListLaws.{Result}
 use Rattle.even_pace.specs.Pace.{pace}
 use Rattle.settings.specs.Setup.{Buffers, settings, Setup}
-use Rattle.bundle_rules.specs.Counts.{noCounts}
+use Rattle.bundle_model.specs.Counts.{noCounts}
 
 module _ (x : Setup) (budget : ℕ) (m : Marking) (s₁ s₂ : State) (b₁ b₂ : Buffers) where
   abbrev T₁ : List Tried

@@ -6,13 +6,13 @@ use mathlib.Core.Path.{_≡_, refl, ap}
 use lib.ListN.{length}
 use Rattle.answers.specs.Answer.{Returned, accepted, done, ended, spent, refused}
 use Rattle.settings.specs.Settings.{admits}
-use Rattle.state.specs.State.{State, wellFormed, ended as hasEnded}
-use Rattle.bundle_rules.specs.declared.Counts.{Counts}
-use Rattle.bundle_rules.specs.Bundle.{Outcome, outcome, readiness, bundle}
-use Rattle.machine_laws.specs.StepCases.{isDone, Going, step-bundle, step-ended}
-use Rattle.run_rules.specs.Run.{ifDone, counted, run, Tried, triedAt, tries}
+use Rattle.core_state.specs.State.{State, wellFormed, ended as hasEnded}
+use Rattle.bundle_model.specs.declared.Counts.{Counts}
+use Rattle.bundle_model.specs.Bundle.{Outcome, outcome, readiness, bundle}
+use Rattle.step_laws.specs.StepCases.{isDone, Going, step-bundle, step-ended}
+use Rattle.run_model.specs.Run.{ifDone, counted, run, Tried, triedAt, tries}
 use Rattle.settings.specs.Setup.{Buffers, lent, Setup}
-use Rattle.bundle_rules.specs.Counts.{noCounts, plus}
+use Rattle.bundle_model.specs.Counts.{noCounts, plus}
 
 -- By cases on done is by cases on a truth value.
 if-done : {A : Type 0} (a : Returned) (z y : A) → ifDone a z y ≡ cond (isDone a) z y

@@ -10,9 +10,9 @@ use lib.Dec.{eqb·suc-zero}
 use lib.ListN.{length, getD, List·getD-eq-default}
 use Rattle.isa.specs.declared.Special.{Special}
 use Rattle.isa.specs.declared.Special.the-variants.{S0, Sl, Sh, Ss, St, Srb, Sro, Sxb, Sxo}
-use Rattle.state.specs.State.{State, withRegister, withPredicate, withSpecial, withProduct, withStack, withLoad, predicatesOf}
-use Rattle.state.specs.declared.WaitingLoad.{WaitingLoad}
-use Rattle.state.specs.declared.WaitingLoad.the-variants.{Nothing, Waits}
+use Rattle.core_state.specs.State.{State, withRegister, withPredicate, withSpecial, withProduct, withStack, withLoad, predicatesOf}
+use Rattle.core_state.specs.declared.WaitingLoad.{WaitingLoad}
+use Rattle.core_state.specs.declared.WaitingLoad.the-variants.{Nothing, Waits}
 use Rattle.marking.specs.declared.Marking.{Marking}
 use Rattle.marking.specs.Marking.{privatePredicate, publicRegister, publicPredicate, publicSpecial}
 use Rattle.even_pace.specs.Terms.{Same, SameState}

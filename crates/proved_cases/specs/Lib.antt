@@ -1,3 +1,4 @@
+-- Open first: Cases.antt, then Words.antt, Machine.antt and Handbook.antt.
 pub mod Case
 pub mod Words
 pub mod Handbook

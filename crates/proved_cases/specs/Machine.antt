@@ -4,12 +4,12 @@ use Prim.Native.Nat.{ℕ, _+_}
 use mathlib.Core.List.{List, [], _∷_, map}
 use mathlib.Core.Path.{refl}
 use Rattle.effects.specs.declared.Transfer.the-variants.{Br}
-use Rattle.state.specs.declared.WaitingTransfer.the-variants.{Nothing, Waits}
+use Rattle.core_state.specs.declared.WaitingTransfer.the-variants.{Nothing, Waits}
 use Rattle.answers.specs.Answer.{done, refused}
-use Rattle.bundle_rules.specs.declared.Counts.{Counts}
+use Rattle.bundle_model.specs.declared.Counts.{Counts}
 use Rattle.proved_cases.specs.Case.{Case, AllHold}
 use Rattle.proved_cases.specs.Run.{Given, opened, seen, Trace, traced, Tried, Run, case, runs-hold}
-use Rattle.bundle_rules.specs.Counts.{noCounts}
+use Rattle.bundle_model.specs.Counts.{noCounts}
 
 -- A cache of 16 words: twelve, and the four at the places of the addresses 1008 to 1020. The bytes of `full` are 0 to 63, in order.
 abbrev pub cacheWith : ℕ → ℕ → ℕ → ℕ → List ℕ

@@ -10,17 +10,17 @@ use Rattle.isa.specs.Format.{reading, row}
 use Rattle.decoder.specs.Decode as decoder
 use Rattle.decoder.specs.Decode.{bundleWords, guardOf, slotTwo, decode}
 use Rattle.stack_cache.specs.Stack.{isCacheSize, cacheWord, putCacheWord, partOf, putPart, cacheNumber, putCacheNumber, below, spillWhile, fillWhile, topAfter, spills, fills, spillAfter, badWindow, badAmount, every, movedOutside, spilled, filled}
-use Rattle.state.specs.State.{State, startOf, withRegister, withPredicate, predicatesOf, withSpecial, withStack, landed, goingOn, transferred, wellFormed, ended as hasEnded, fresh}
-use Rattle.state.specs.declared.WaitingTransfer.{WaitingTransfer}
+use Rattle.core_state.specs.State.{State, startOf, withRegister, withPredicate, predicatesOf, withSpecial, withStack, landed, goingOn, transferred, wellFormed, ended as hasEnded, fresh}
+use Rattle.core_state.specs.declared.WaitingTransfer.{WaitingTransfer}
 use Rattle.answers.specs.Answer.{Returned, accepted, done, ended, spent, refused}
-use Rattle.bundle_rules.specs.declared.Counts.{Counts}
+use Rattle.bundle_model.specs.declared.Counts.{Counts}
 use Rattle.settings.specs.Settings.{admits}
 use Rattle.memory.specs.Access.{loadScale, storeScale, readNumber, extended, loadedValue, stored, mainOpen, accessOpen}
 use Rattle.alu_effects.specs.AluEffects.{predicatesWord, special, op2Value, aluEffect, slotTwoEffect}
 use Rattle.effects.specs.Effect.{accessAddress, amountWords, amountAligned, stackEffect, transferOf, effectOf, slotOneEffect, slotOne, onEffect}
-use Rattle.bundle_rules.specs.Bundle.{stackMoved, buffersAfter, writeOne, written, Outcome, outcome, bundle, readiness, step}
-use Rattle.state.specs.Writes.{writeAlu, delaySlots}
-use Rattle.machine.specs.Open.{Open, opening}
+use Rattle.bundle_model.specs.Bundle.{stackMoved, buffersAfter, writeOne, written, Outcome, outcome, bundle, readiness, step}
+use Rattle.core_state.specs.Writes.{writeAlu, delaySlots}
+use Rattle.state.specs.Open.{Open, opening}
 use Rattle.proved_cases.specs.Case.{Case, AllHold}
 use Rattle.settings.specs.Setup.{Setup, Buffers, buffers, touches}
 use Rattle.answers.specs.Test.{verdict}

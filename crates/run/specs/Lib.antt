@@ -1,1 +1,2 @@
+-- Open first: lib.rt, then Ran.antt.
 pub mod Ran

@@ -4,13 +4,13 @@ use mathlib.Core.Path.{_≡_, refl, ap, _∙_}
 use lib.ListN.{length}
 use Rattle.answers.specs.Answer.{Returned, ended, spent, refused}
 use Rattle.settings.specs.Setup.{Setup, Buffers}
-use Rattle.state.specs.State.{State, ended as hasEnded}
-use Rattle.machine.specs.Whole.{stateOf}
-use Rattle.bundle_rules.specs.declared.Answer.{Answer}
-use Rattle.bundle_rules.specs.declared.Answer.the-variants.{Done, Ended, Refused}
-use Rattle.bundle_rules.specs.Bundle.{Outcome, outcome, returned as answered}
-use Rattle.bundle_rules.specs.declared.Counts.{Counts}
-use Rattle.run_rules.specs.Loop.{ending}
+use Rattle.core_state.specs.State.{State, ended as hasEnded}
+use Rattle.state.specs.Whole.{stateOf}
+use Rattle.bundle_model.specs.declared.Answer.{Answer}
+use Rattle.bundle_model.specs.declared.Answer.the-variants.{Done, Ended, Refused}
+use Rattle.bundle_model.specs.Bundle.{Outcome, outcome, returned as answered}
+use Rattle.bundle_model.specs.declared.Counts.{Counts}
+use Rattle.run_model.specs.Loop.{ending}
 use Rattle.run.specs.declared.RunAnswer.{RunAnswer}
 use Rattle.run.specs.declared.RunAnswer.the-variants as answer
 use Rattle.run.specs.declared.Ran.{Ran}

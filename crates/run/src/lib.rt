@@ -1,15 +1,15 @@
 // A run with a budget.
 ghost use mathlib.Core.Path.{_≡_};
 ghost use Rattle.settings.specs.Setup.{setup, found, left};
-ghost use Rattle.machine.specs.Whole.{stateOf};
-ghost use Rattle.run_rules.specs.Run.{run};
+ghost use Rattle.state.specs.Whole.{stateOf};
+ghost use Rattle.run_model.specs.Run.{run};
 ghost use Rattle.run.specs.Ran.{returned, endsWith, whole};
 use bundle::advance::advance;
-use bundle_rules::Answer;
-use bundle_rules::Counts;
-use machine::State;
+use bundle_model::Answer;
+use bundle_model::Counts;
+use core_state::judged::has_ended;
 use settings::Config;
-use state::judged::has_ended;
+use state::State;
 
 // What a run answers; Refused holds document 01's number.
 pub enum RunAnswer {

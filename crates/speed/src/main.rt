@@ -5,11 +5,11 @@ mod workload;
 
 use libc::STDERR_FILENO;
 use libc::STDOUT_FILENO;
-use machine::Opening;
-use machine::State;
 use run::Ran;
 use run::RunAnswer;
 use settings::Config;
+use state::Opening;
+use state::State;
 use text::Number;
 use text::fields::same;
 use text::numbers::decimal;

@@ -1,1 +1,2 @@
+-- Open first: lib.rt, then PlanLaws.antt.
 pub mod PlanLaws

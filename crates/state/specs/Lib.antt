@@ -1,4 +1,2 @@
-pub mod State
-pub mod Writes
-pub mod Core
-pub mod CoreLaws
+pub mod Whole
+pub mod Open

@@ -1,45 +1,38 @@
-// The state beside registers and predicates, and what a bundle writes to it. The registers and predicates are lent.
-pub mod flow;
-pub mod judged;
-mod special;
-pub mod waiting;
-mod writes;
+// The state by value with its methods, and the fresh state.
+pub mod open;
+pub mod whole_state;
 
 use alu_effects::Specials;
-use effects::Transfer;
+use bundle_model::Answer;
+use bundle_model::Counts;
+use core_state::WaitingLoad;
+use core_state::WaitingTransfer;
 
-// The transfer that waits, and how many bundles are to be done before it has happened.
-pub enum WaitingTransfer {
-    Nothing,
-    Waits { transfer: Transfer, wait: u32 },
-}
-
-// The load whose value lands at the end of the next bundle.
-pub enum WaitingLoad {
-    Nothing,
-    Waits { register: u32, value: u32 },
-}
-
-// A waiting transfer as words. kind: 0 none, 1 br, 2 call, and any other block.
-pub struct TransferWords {
-    pub kind: u32,
-    pub target: u32,
-    pub base: u32,
-    pub wait: u32,
-}
-
-// A waiting load as words. None waits if waits is 0.
-pub struct LoadWords {
-    pub waits: u32,
-    pub register: u32,
-    pub value: u32,
-}
-
-// The state beside registers and predicates, inside a bundle. It holds words alone: an enum in it would be copied byte by byte.
-pub struct Core {
+pub struct State {
+    pub registers: [u32; 32],
+    pub predicates: [bool; 8],
     pub specials: Specials,
     pub fetch: u32,
     pub base: u32,
-    pub transfer: TransferWords,
-    pub load: LoadWords,
+    pub transfer: WaitingTransfer,
+    pub load: WaitingLoad,
+}
+
+// A step's answer, with the state handed back and the counts of that one bundle.
+pub struct Stepped {
+    pub answer: Answer,
+    pub state: State,
+    pub counts: Counts,
+}
+
+// A state was built, or the number that the building is refused with.
+pub enum Opening {
+    Opened,
+    Refused(u32),
+}
+
+// The answer beside the state; of a refused opening the state is that of entry 0 to no code.
+pub struct Opened {
+    pub answer: Opening,
+    pub state: State,
 }

@@ -1,3 +1,4 @@
+-- Open first: Field.antt, then Number.antt.
 pub mod Number
 pub mod NumberLaws
 pub mod Field

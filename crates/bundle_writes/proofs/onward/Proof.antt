@@ -1,4 +1,4 @@
-use Rattle.state.specs.Core.{joined, waitingTransfer}
+use Rattle.core_state.specs.Core.{joined, waitingTransfer}
 use Prim.Native.Nat.{ℕ}
 use mathlib.Core.List.{List, [], _∷_}
 use mathlib.Core.Path.{_≡_, refl, sym, ap, _∙_}
@@ -7,10 +7,10 @@ use types.Run.{OneOf, miss}
 use Rattle.effects.specs.declared.Effect.{Effect}
 use Rattle.effects.specs.declared.Effect.the-variants.{Alu, Special, Product, Load, Store, Stack, Transfer, Exception}
 use Rattle.effects.proofs.Effect.{the-type}
-use Rattle.state.specs.declared.WaitingTransfer.{WaitingTransfer}
-use Rattle.state.specs.State.{State}
-use Rattle.state.specs.Writes.{nearer}
-use Rattle.bundle_rules.specs.Bundle.{onward}
+use Rattle.core_state.specs.declared.WaitingTransfer.{WaitingTransfer}
+use Rattle.core_state.specs.State.{State}
+use Rattle.core_state.specs.Writes.{nearer}
+use Rattle.bundle_model.specs.Bundle.{onward}
 use borrow.Author.Needs.{needs}
 use Rattle.bundle_writes.proofs.onward.Statement.{statement}
 use Rattle.bundle_writes.proofs.onward.Tie as tie

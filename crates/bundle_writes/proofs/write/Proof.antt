@@ -1,9 +1,9 @@
 use mathlib.Core.Path.{_≡_, refl, sym, ap, _∙_}
-use Rattle.state.specs.State.{State}
-use Rattle.state.specs.Writes.{writeAlu}
-use Rattle.state.specs.Core.{waitingTransfer}
-use Rattle.bundle_rules.specs.Bundle.{onward}
-use Rattle.bundle_rules.specs.Execute.{writeDone}
+use Rattle.core_state.specs.State.{State}
+use Rattle.core_state.specs.Writes.{writeAlu}
+use Rattle.core_state.specs.Core.{waitingTransfer}
+use Rattle.bundle_model.specs.Bundle.{onward}
+use Rattle.bundle_model.specs.Execute.{writeDone}
 use borrow.Author.Needs.{needs}
 use Rattle.bundle_writes.proofs.write.Statement.{statement}
 use Rattle.bundle_writes.proofs.write.Tie as tie

@@ -6,9 +6,9 @@ use types.Run.{OneOf, miss}
 use Rattle.effects.specs.declared.Effect.{Effect}
 use Rattle.effects.specs.declared.Effect.the-variants.{Alu, Special, Product, Load, Store, Stack, Transfer, Exception}
 use Rattle.effects.proofs.Effect.{the-type}
-use Rattle.state.specs.State.{State}
-use Rattle.state.specs.Core.{waitingLoad}
-use Rattle.bundle_rules.specs.Execute.{writeDone}
+use Rattle.core_state.specs.State.{State}
+use Rattle.core_state.specs.Core.{waitingLoad}
+use Rattle.bundle_model.specs.Execute.{writeDone}
 use borrow.Author.Needs.{needs}
 use Rattle.bundle_writes.proofs.write_one.Statement.{statement}
 use Rattle.bundle_writes.proofs.write_one.Tie as tie

@@ -1,9 +1,9 @@
 use mathlib.Core.Path.{sym, ap, _∙_}
 use Rattle.settings.specs.Setup.{setup, buffers}
-use Rattle.state.specs.State.{State}
-use Rattle.machine.specs.Whole.{stateOf}
-use Rattle.run_rules.specs.Loop.{advanced, ending}
-use Rattle.run_rules.specs.LoopLaws.{run-advanced}
+use Rattle.core_state.specs.State.{State}
+use Rattle.state.specs.Whole.{stateOf}
+use Rattle.run_model.specs.Loop.{advanced, ending}
+use Rattle.run_model.specs.LoopLaws.{run-advanced}
 use Rattle.run.specs.Ran.{ends-as}
 use borrow.Author.Needs.{needs}
 use Rattle.run.proofs.run.Statement.{statement}

@@ -1,12 +1,12 @@
 use mathlib.Core.Path.{sym, ap, _∙_}
 use Rattle.settings.specs.declared.Settings.{Settings}
 use Rattle.settings.specs.Setup.{buffers, lent, setup, setupOf}
-use Rattle.state.specs.Core.{joined}
-use Rattle.bundle_rules.specs.declared.Readiness.{Readiness}
-use Rattle.bundle_rules.specs.Bundle.{readiness, readyOr}
-use Rattle.bundle_rules.specs.BundleLaws.{ready-admits}
-use Rattle.bundle_rules.specs.ExecuteLaws.{full-same}
-use Rattle.run_rules.specs.Loop.{goesOn}
+use Rattle.core_state.specs.Core.{joined}
+use Rattle.bundle_model.specs.declared.Readiness.{Readiness}
+use Rattle.bundle_model.specs.Bundle.{readiness, readyOr}
+use Rattle.bundle_model.specs.BundleLaws.{ready-admits}
+use Rattle.bundle_model.specs.ExecuteLaws.{full-same}
+use Rattle.run_model.specs.Loop.{goesOn}
 use borrow.Author.Needs.{needs}
 use Rattle.bundle.proofs.advance.advance.Statement.{statement}
 use Rattle.bundle.proofs.advance.advance.Tie as tie

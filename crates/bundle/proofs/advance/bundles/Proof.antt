@@ -10,20 +10,20 @@ use lib.ListN.{length}
 use Rattle.settings.specs.declared.Settings.{Settings}
 use Rattle.settings.specs.Setup.{Buffers, buffers, lent, setupOf}
 use Rattle.answers.specs.Answer.{Returned}
-use Rattle.state.specs.State.{State}
-use Rattle.state.specs.Core.{joined}
-use Rattle.bundle_rules.specs.declared.Counts.{Counts}
-use Rattle.bundle_rules.specs.declared.Answer.{Answer}
-use Rattle.bundle_rules.specs.declared.Answer.the-variants.{Done, Ended, Refused}
-use Rattle.bundle_rules.proofs.Answer.{the-type}
-use Rattle.bundle_rules.specs.Counts.{noCounts, plus-none, Few, few-none, few-more}
-use Rattle.bundle_rules.specs.Bundle.{returned, outcome}
-use Rattle.machine_laws.specs.StepCases.{isDone}
-use Rattle.machine_laws.specs.StackKept.{lent-same}
-use Rattle.run_rules.specs.Run.{counted}
-use Rattle.run_rules.specs.RunLaws.{counted-none}
-use Rattle.run_rules.specs.Loop.{goesOn}
-use Rattle.run_rules.specs.LoopLaws.{goes-none, goes-ended, turn-stops, turn-goes-on, turn-few}
+use Rattle.core_state.specs.State.{State}
+use Rattle.core_state.specs.Core.{joined}
+use Rattle.bundle_model.specs.declared.Counts.{Counts}
+use Rattle.bundle_model.specs.declared.Answer.{Answer}
+use Rattle.bundle_model.specs.declared.Answer.the-variants.{Done, Ended, Refused}
+use Rattle.bundle_model.proofs.Answer.{the-type}
+use Rattle.bundle_model.specs.Counts.{noCounts, plus-none, Few, few-none, few-more}
+use Rattle.bundle_model.specs.Bundle.{returned, outcome}
+use Rattle.step_laws.specs.StepCases.{isDone}
+use Rattle.step_laws.specs.StackKept.{lent-same}
+use Rattle.run_model.specs.Run.{counted}
+use Rattle.run_model.specs.RunLaws.{counted-none}
+use Rattle.run_model.specs.Loop.{goesOn}
+use Rattle.run_model.specs.LoopLaws.{goes-none, goes-ended, turn-stops, turn-goes-on, turn-few}
 use Rattle.bundle.proofs.advance.bundles.Statement.{statement}
 use Rattle.bundle.proofs.advance.bundles.Tie as tie
 

@@ -1,6 +1,6 @@
 use Rattle.settings.specs.Setup.{setupOf}
-use Rattle.state.specs.Core.{joined}
-use Rattle.bundle_rules.specs.ExecuteLaws.{executed-refused, executed-done}
+use Rattle.core_state.specs.Core.{joined}
+use Rattle.bundle_model.specs.ExecuteLaws.{executed-refused, executed-done}
 use borrow.Author.Needs.{needs}
 use Rattle.bundle.proofs.execute.execute.Statement.{statement}
 use Rattle.bundle.proofs.execute.execute.Tie as tie

@@ -1,4 +1,4 @@
-use Rattle.bundle_rules.specs.Bundle.{readiness}
+use Rattle.bundle_model.specs.Bundle.{readiness}
 use Rattle.bundle.proofs.ready.readiness.Statement.{statement}
 use Rattle.bundle.proofs.ready.readiness.Tie as tie
 

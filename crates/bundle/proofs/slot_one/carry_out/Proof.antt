@@ -1,5 +1,5 @@
 use mathlib.Core.Bool.{not}
-use Rattle.state.specs.Core.{waitingTransfer}
+use Rattle.core_state.specs.Core.{waitingTransfer}
 use Prim.Native.Nat.{ℕ}
 use mathlib.Core.List.{List, [], _∷_}
 use mathlib.Core.Path.{_≡_, refl, sym, ap, _∙_}
@@ -11,11 +11,11 @@ use Rattle.effects.proofs.Effect.{the-type}
 use Rattle.settings.specs.declared.Settings.{Settings}
 use Rattle.answers.specs.Test.{verdict}
 use Rattle.settings.specs.Setup.{Setup, Buffers}
-use Rattle.state.specs.State.{State, noneWaits}
-use Rattle.bundle_rules.specs.declared.Carried.the-variants.{Done}
-use Rattle.bundle_rules.specs.Bundle.{buffersAfter}
-use Rattle.bundle_rules.specs.Execute.{carriedAs, carriedOut}
-use Rattle.bundle_rules.specs.ExecuteLaws.{transfer-carried}
+use Rattle.core_state.specs.State.{State, noneWaits}
+use Rattle.bundle_model.specs.declared.Carried.the-variants.{Done}
+use Rattle.bundle_model.specs.Bundle.{buffersAfter}
+use Rattle.bundle_model.specs.Execute.{carriedAs, carriedOut}
+use Rattle.bundle_model.specs.ExecuteLaws.{transfer-carried}
 use borrow.Author.Needs.{needs}
 use Rattle.bundle.proofs.slot_one.carry_out.Statement.{statement}
 use Rattle.bundle.proofs.slot_one.carry_out.Tie as tie

@@ -5,9 +5,9 @@ use Rattle.settings.specs.SettingsLaws.{size-ok, size-refused, size-words, area
 use Rattle.settings.specs.Setup.{setupOf}
 use Rattle.stack_cache.specs.Stack.{planned}
 use Rattle.stack_control.specs.PlanLaws.{planned-told}
-use Rattle.state.specs.Core.{joined}
-use Rattle.bundle_rules.specs.Execute.{carriedOut}
-use Rattle.bundle_rules.specs.ExecuteLaws.{stack-tests, one-way, stack-carried}
+use Rattle.core_state.specs.Core.{joined}
+use Rattle.bundle_model.specs.Execute.{carriedOut}
+use Rattle.bundle_model.specs.ExecuteLaws.{stack-tests, one-way, stack-carried}
 use borrow.Author.Needs.{needs}
 use Rattle.bundle.proofs.stack_moves.do_stack.Statement.{statement}
 use Rattle.bundle.proofs.stack_moves.do_stack.Tie as tie

@@ -3,9 +3,9 @@ use native.Mathlib.Omega.{arith}
 use Rattle.settings.specs.Setup.{setupOf}
 use Rattle.settings.specs.SettingsLaws.{code-small}
 use Rattle.fetch.specs.FetchLaws.{found-inside}
-use Rattle.state.specs.Core.{joined}
-use Rattle.bundle_rules.specs.BundleLaws.{bundle-refused, bundle-found}
-use Rattle.bundle_rules.specs.ExecuteLaws.{full-same}
+use Rattle.core_state.specs.Core.{joined}
+use Rattle.bundle_model.specs.BundleLaws.{bundle-refused, bundle-found}
+use Rattle.bundle_model.specs.ExecuteLaws.{full-same}
 use borrow.Author.Needs.{needs}
 use Rattle.bundle.proofs.underway.bundle.Statement.{statement}
 use Rattle.bundle.proofs.underway.bundle.Tie as tie

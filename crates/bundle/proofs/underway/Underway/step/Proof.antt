@@ -1,9 +1,9 @@
 use mathlib.Core.Path.{sym, ap, subst}
 use native.Mathlib.Omega.{arith}
-use Rattle.bundle_rules.specs.Counts.{Few, few-plus, few-fit}
-use Rattle.bundle_rules.specs.Bundle.{Outcome}
-use Rattle.machine_laws.specs.CountLaws.{bundle-few}
-use Rattle.run_rules.specs.Run.{counted}
+use Rattle.bundle_model.specs.Counts.{Few, few-plus, few-fit}
+use Rattle.bundle_model.specs.Bundle.{Outcome}
+use Rattle.step_laws.specs.CountLaws.{bundle-few}
+use Rattle.run_model.specs.Run.{counted}
 use borrow.Author.Needs.{needs}
 use Rattle.bundle.proofs.underway.Underway.step.Statement.{statement}
 use Rattle.bundle.proofs.underway.Underway.step.Tie as tie

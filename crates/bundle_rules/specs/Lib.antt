@@ -1,6 +1,0 @@
-pub mod Refusal
-pub mod Counts
-pub mod Bundle
-pub mod Execute
-pub mod ExecuteLaws
-pub mod BundleLaws

@@ -1,0 +1,44 @@
+use Rattle.core_state.specs.Writes.{writeAlu}
+use borrow.Author.Needs.{needs}
+use Rattle.core_state.proofs.Core.write_alu.Statement.{statement}
+use Rattle.core_state.proofs.Core.write_alu.Tie as tie
+
+enum-told : tie.Need-enum-told
+enum-told c = search needs
+
+enum-known-e : tie.Need-enum-known-e
+enum-known-e c = search needs
+
+write-register-requires : tie.Need-write-register-requires
+write-register-requires c κs = search needs
+
+enum-known-e-2 : tie.Need-enum-known-e-2
+enum-known-e-2 c = search needs
+
+write-predicate-requires : tie.Need-write-predicate-requires
+write-predicate-requires c κs = search needs
+
+returns : tie.Need-returns
+unfolding writeAlu
+returns c = rw (c .enum-told .given .1)
+
+returns-2 : tie.Need-returns-2
+unfolding writeAlu
+returns-2 c = rw (c .before .before .before .e .given .1) (c .write-register .ensures _)
+
+returns-3 : tie.Need-returns-3
+unfolding writeAlu
+returns-3 c = rw (c .before .before .before .e2 .given .1) (c .write-predicate .ensures _)
+
+pub write-alu-spec : {M : Type 1} → statement M
+write-alu-spec =
+    tie.close
+    (tie.spec
+    enum-told
+    enum-known-e
+    write-register-requires
+    enum-known-e-2
+    write-predicate-requires
+    returns
+    returns-2
+    returns-3)

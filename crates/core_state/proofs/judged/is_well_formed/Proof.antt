@@ -1,0 +1,30 @@
+use Rattle.core_state.specs.State.{wellFormed}
+use borrow.Author.Needs.{needs}
+use Rattle.core_state.proofs.judged.is_well_formed.Statement.{statement}
+use Rattle.core_state.proofs.judged.is_well_formed.Tie as tie
+
+element-copy-out-result : tie.Need-element-copy-out-result
+element-copy-out-result c = search needs
+
+element-copy-out-result-2 : tie.Need-element-copy-out-result-2
+element-copy-out-result-2 c = search needs
+
+load-ok-requires : tie.Need-load-ok-requires
+load-ok-requires c κs = tt
+
+wait-ok-requires : tie.Need-wait-ok-requires
+wait-ok-requires c κs = tt
+
+returns : tie.Need-returns
+unfolding wellFormed
+returns c = rw (← c .before .load-ok .ensures, ← c .wait-ok .ensures)
+
+pub is-well-formed-spec : {M : Type 1} → statement M
+is-well-formed-spec =
+    tie.close
+    (tie.spec
+    element-copy-out-result
+    element-copy-out-result-2
+    load-ok-requires
+    wait-ok-requires
+    returns)

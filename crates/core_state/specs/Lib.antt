@@ -1,0 +1,4 @@
+pub mod State
+pub mod Writes
+pub mod Core
+pub mod CoreLaws

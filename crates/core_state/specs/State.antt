@@ -1,0 +1,146 @@
+-- The state: changing its parts, what is well formed, and the fresh state.
+use Prim.Native.Nat.{ℕ, zero, suc, _/_, _%_}
+use mathlib.Core.Bool.{Bool, true, false, _&&_}
+use mathlib.Core.List.{List, [], _∷_}
+use mathlib.Core.Path.{_≡_}
+use lib.Dec.{eqb, leb}
+use lib.ListN.{length, getD, replicate}
+use Rattle.word.specs.Word.{sub}
+use Rattle.registers.specs.Registers.{putLater}
+use Rattle.isa.specs.declared.Special.{Special}
+use Rattle.isa.specs.declared.Special.the-variants.{S0, Sl, Sh, Ss, St, Srb, Sro, Sxb, Sxo}
+use Rattle.alu_effects.specs.declared.Specials.{Specials}
+use Rattle.effects.specs.declared.Transfer.{Transfer}
+use Rattle.effects.specs.declared.Transfer.the-variants.{Br, Call, Block}
+use Rattle.effects.specs.Effect.{Start, start}
+use Rattle.core_state.specs.declared.WaitingTransfer.{WaitingTransfer}
+use Rattle.core_state.specs.declared.WaitingTransfer.the-variants as transfer
+use Rattle.core_state.specs.declared.WaitingLoad.{WaitingLoad}
+use Rattle.core_state.specs.declared.WaitingLoad.the-variants as load
+
+-- The state: registers, predicates, special registers, the fetch address, the base, and what waits.
+pub record State : Type 0 where
+  pub registers : List ℕ
+  pub predicates : List Bool
+  pub specials : Specials
+  pub fetch : ℕ
+  pub base : ℕ
+  pub transfer : WaitingTransfer
+  pub load : WaitingLoad
+
+-- A state of its parts, in this order.
+abbrev pub state : List ℕ → List Bool → Specials → ℕ → ℕ → WaitingTransfer → WaitingLoad → State
+state registers predicates specials fetch base transfer load =
+    record { registers = registers; predicates = predicates; specials = specials; fetch = fetch; base = base; transfer = transfer; load = load }
+
+-- There are 32 registers and 8 predicates.
+pub record Shaped (s : State) : Type 0 where
+  pub registers : length (s .registers) ≡ 32
+  pub predicates : length (s .predicates) ≡ 8
+
+abbrev pub specials : ℕ → ℕ → ℕ → ℕ → ℕ → ℕ → ℕ → ℕ → Specials
+specials sl sh ss st srb sro sxb sxo = record { sl = sl; sh = sh; ss = ss; st = st; srb = srb; sro = sro; sxb = sxb; sxo = sxo }
+
+-- What slots read of it.
+abbrev pub startOf : State → Start
+startOf s = start (s .registers) (s .predicates) (s .specials) (s .fetch)
+
+-- Registers and predicates. r0 and p0 are never written.
+unfoldable pub withRegister : State → ℕ → ℕ → State
+withRegister s r v =
+    state (putLater (s .registers) r v) (s .predicates) (s .specials) (s .fetch) (s .base) (s .transfer) (s .load)
+
+abbrev pub withPredicates : State → List Bool → State
+withPredicates s ps =
+    state (s .registers) ps (s .specials) (s .fetch) (s .base) (s .transfer) (s .load)
+
+unfoldable pub withPredicate : State → ℕ → Bool → State
+withPredicate s p b = withPredicates s (putLater (s .predicates) p b)
+
+-- The k lowest bits of a word as predicates.
+unfoldable pub predicatesOf : ℕ → ℕ → List Bool
+predicatesOf zero v = []
+predicatesOf (suc k) v = eqb (v % 2) 1 ∷ predicatesOf k (v / 2)
+
+abbrev pub withSpecials : State → Specials → State
+withSpecials s specials = state (s .registers) (s .predicates) specials (s .fetch) (s .base) (s .transfer) (s .load)
+
+-- A special register written. Of s0 bits 1 to 7 are p1 to p7; p0 stays true and the other bits have no effect.
+unfoldable pub withSpecial : State → Special → ℕ → State
+withSpecial s S0 v = withPredicates s (true ∷ predicatesOf 7 (v / 2))
+withSpecial s Sl v = let x = s .specials in withSpecials s (specials v (x .sh) (x .ss) (x .st) (x .srb) (x .sro) (x .sxb) (x .sxo))
+withSpecial s Sh v = let x = s .specials in withSpecials s (specials (x .sl) v (x .ss) (x .st) (x .srb) (x .sro) (x .sxb) (x .sxo))
+withSpecial s Ss v = let x = s .specials in withSpecials s (specials (x .sl) (x .sh) v (x .st) (x .srb) (x .sro) (x .sxb) (x .sxo))
+withSpecial s St v = let x = s .specials in withSpecials s (specials (x .sl) (x .sh) (x .ss) v (x .srb) (x .sro) (x .sxb) (x .sxo))
+withSpecial s Srb v = let x = s .specials in withSpecials s (specials (x .sl) (x .sh) (x .ss) (x .st) v (x .sro) (x .sxb) (x .sxo))
+withSpecial s Sro v = let x = s .specials in withSpecials s (specials (x .sl) (x .sh) (x .ss) (x .st) (x .srb) v (x .sxb) (x .sxo))
+withSpecial s Sxb v = let x = s .specials in withSpecials s (specials (x .sl) (x .sh) (x .ss) (x .st) (x .srb) (x .sro) v (x .sxo))
+withSpecial s Sxo v = let x = s .specials in withSpecials s (specials (x .sl) (x .sh) (x .ss) (x .st) (x .srb) (x .sro) (x .sxb) v)
+
+-- The product in sl and sh, the stack's two pointers, and the return registers.
+abbrev pub withProduct : State → ℕ → ℕ → State
+withProduct s low high =
+    let x = s .specials in withSpecials s (specials low high (x .ss) (x .st) (x .srb) (x .sro) (x .sxb) (x .sxo))
+
+abbrev pub withStack : State → ℕ → ℕ → State
+withStack s st ss =
+    let x = s .specials in withSpecials s (specials (x .sl) (x .sh) ss st (x .srb) (x .sro) (x .sxb) (x .sxo))
+
+abbrev pub returningTo : Specials → ℕ → ℕ → Specials
+returningTo x srb sro = specials (x .sl) (x .sh) (x .ss) (x .st) srb sro (x .sxb) (x .sxo)
+
+-- The waiting load.
+abbrev pub withLoad : State → WaitingLoad → State
+withLoad s l =
+    state (s .registers) (s .predicates) (s .specials) (s .fetch) (s .base) (s .transfer) l
+
+-- The load that waits since the bundle before is written, and waits no more.
+abbrev pub landing : WaitingLoad → State → State
+landing load.Nothing s = s
+landing (load.Waits r v) s = withLoad (withRegister s r v) load.Nothing
+
+unfoldable pub landed : State → State
+landed s = landing (s .load) s
+
+-- Where the core goes on: fetch address, base, the return registers, and what waits.
+abbrev pub withFlow : State → ℕ → ℕ → ℕ → ℕ → WaitingTransfer → State
+withFlow s srb sro fetch base waiting =
+    state (s .registers) (s .predicates) (returningTo (s .specials) srb sro) fetch base waiting (s .load)
+
+-- Going on at an address, with a transfer that waits or none.
+abbrev pub goingOn : State → ℕ → WaitingTransfer → State
+goingOn s fetch waiting = withFlow s (s .specials .srb) (s .specials .sro) fetch (s .base) waiting
+
+-- A transfer carried out, at the end of the bundle before the following address. A call keeps where to return: in srb the base that
+-- it leaves, in sro the following address counted from there; its target is the new base. A block transfer brings its own base: brcf the
+-- base operand, ret the srb that it read.
+unfoldable pub transferred : State → Transfer → ℕ → State
+transferred s (Br target) following = withFlow s (s .specials .srb) (s .specials .sro) target (s .base) transfer.Nothing
+transferred s (Call target) following = withFlow s (s .base) (sub following (s .base)) target target transfer.Nothing
+transferred s (Block target base) following = withFlow s (s .specials .srb) (s .specials .sro) target base transfer.Nothing
+
+-- Refusal 11 is for a state that is not well formed: r0 is not 0, p0 is not true, a load waits for a register that there is not, or a
+-- transfer waits 0 or more than 3 bundles.
+abbrev pub loadOk : WaitingLoad → Bool
+loadOk load.Nothing = true
+loadOk (load.Waits r v) = leb r 31
+
+abbrev pub waitOk : WaitingTransfer → Bool
+waitOk transfer.Nothing = true
+waitOk (transfer.Waits t n) = leb 1 n && leb n 3
+
+unfoldable pub wellFormed : State → Bool
+wellFormed s = (eqb (getD (s .registers) 0 0) 0 && getD (s .predicates) 0 false) && (loadOk (s .load) && waitOk (s .transfer))
+
+-- A state has ended if it would fetch at the end of the code and no transfer waits.
+abbrev pub noneWaits : WaitingTransfer → Bool
+noneWaits transfer.Nothing = true
+noneWaits (transfer.Waits t n) = false
+
+unfoldable pub ended : State → ℕ → Bool
+ended s codeLength = eqb (s .fetch) codeLength && noneWaits (s .transfer)
+
+-- The fresh state at an entry.
+unfoldable pub fresh : ℕ → ℕ → ℕ → State
+fresh codeLength hi entry =
+    state (replicate 32 0) (true ∷ predicatesOf 7 0) (specials 0 0 hi hi 0 codeLength 0 0) entry entry transfer.Nothing load.Nothing

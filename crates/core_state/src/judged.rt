@@ -1,0 +1,27 @@
+// What is judged of a state: whether it is well formed, and whether it has ended.
+ghost use mathlib.Core.Path.{_≡_};
+ghost use mathlib.Core.Bool.{Bool};
+ghost use mathlib.Core.List.{List};
+ghost use Prim.Native.Nat.{ℕ};
+ghost use Rattle.core_state.specs.State.{wellFormed, ended};
+ghost use Rattle.core_state.specs.Core.{joined, foundState};
+use crate::Core;
+use crate::waiting::load_ok;
+use crate::waiting::none_waits;
+use crate::waiting::wait_ok;
+
+// Whether refusal 11 does not describe the state.
+pub fn is_well_formed(core: Core, registers: &[u32; 32], predicates: &[bool; 8]) -> bool
+    ensures { λ r. ⌜ r ≡ wellFormed (foundState registers predicates core) ⌝ }
+{
+    let load = core.load;
+    let transfer = core.transfer;
+    ((registers[0] == 0) & predicates[0]) & (load_ok(load) & wait_ok(transfer))
+}
+
+pub fn has_ended(core: Core, code: usize) -> bool
+    ensures { λ r. ⌜ ((rs : List ℕ) (ps : List Bool) → r ≡ ended (joined rs ps core) code) ⌝ }
+{
+    let transfer = core.transfer;
+    (core.fetch as usize == code) & none_waits(transfer)
+}

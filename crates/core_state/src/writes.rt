@@ -1,0 +1,95 @@
+// What is done to the state inside a bundle, which is by value. The registers and predicates are lent.
+ghost use mathlib.Core.Path.{_≡_};
+ghost use mathlib.Core.Bool.{Bool};
+ghost use mathlib.Core.List.{List};
+ghost use Prim.Native.Nat.{ℕ};
+ghost use Rattle.core_state.specs.State.{withRegister, withPredicate, withLoad, landed, goingOn, transferred};
+ghost use Rattle.core_state.specs.Core.{joined, waitingTransfer, waitingLoad};
+use crate::Core;
+use crate::LoadWords;
+use crate::TransferWords;
+use crate::waiting::no_load;
+use crate::waiting::no_transfer;
+use effects::Transfer;
+
+impl Core {
+    // A register written; r0 stays zero.
+    pub fn write_register(self, registers: &mut [u32; 32], r: u32, v: u32) -> Core
+        ensures { λ x. ⌜ ((ps : List Bool) → joined (now (registers .exit)) ps x ≡ withRegister (joined (now (registers .entry)) ps self) r v) ⌝ }
+    {
+        registers::write_register(&mut *registers, r, v);
+        self
+    }
+
+    // A predicate written; p0 stays true.
+    pub(crate) fn write_predicate(self, predicates: &mut [bool; 8], p: u32, v: bool) -> Core
+        ensures { λ x. ⌜ ((rs : List ℕ) → joined rs (now (predicates .exit)) x ≡ withPredicate (joined rs (now (predicates .entry)) self) p v) ⌝ }
+    {
+        registers::write_predicate(&mut *predicates, p, v);
+        self
+    }
+
+    // The waiting load replaced.
+    pub fn with_load(self, load: LoadWords) -> Core
+        ensures { λ x. ⌜ ((rs : List ℕ) (ps : List Bool) → joined rs ps x ≡ withLoad (joined rs ps self) (waitingLoad load)) ⌝ }
+    {
+        let specials = self.specials;
+        let transfer = self.transfer;
+        Core {
+            specials,
+            fetch: self.fetch,
+            base: self.base,
+            transfer,
+            load,
+        }
+    }
+
+    // The load waiting from the bundle before is written, and waits no more. The result is built anew on both ways: one that is
+    // handed back as it came would be copied whole.
+    pub fn land_load(self, registers: &mut [u32; 32]) -> Core
+        ensures { λ x. ⌜ ((ps : List Bool) → joined (now (registers .exit)) ps x ≡ landed (joined (now (registers .entry)) ps self)) ⌝ }
+    {
+        let load = self.load;
+        if load.waits == 0 {
+            return self.with_load(no_load());
+        }
+        self.write_register(&mut *registers, load.register, load.value)
+            .with_load(no_load())
+    }
+
+    // Going on at an address, with a transfer that waits or none.
+    pub(crate) fn go_on(self, fetch: u32, transfer: TransferWords) -> Core
+        ensures { λ x. ⌜ ((rs : List ℕ) (ps : List Bool) → joined rs ps x ≡ goingOn (joined rs ps self) fetch (waitingTransfer transfer)) ⌝ }
+    {
+        let specials = self.specials;
+        let load = self.load;
+        Core {
+            specials,
+            fetch,
+            base: self.base,
+            transfer,
+            load,
+        }
+    }
+
+    // A transfer carried out at the end of a bundle, whose following address a call keeps, relative to the old base.
+    pub fn transfer(mut self, transfer: Transfer, following: u32) -> Core
+        ensures { λ x. ⌜ ((rs : List ℕ) (ps : List Bool) → joined rs ps x ≡ transferred (joined rs ps self) transfer following) ⌝ }
+    {
+        match transfer {
+            Transfer::Br { target } => self.go_on(target, no_transfer()),
+            Transfer::Call { target } => {
+                let base = self.base;
+                let offset = word::arithmetic::sub(following, base);
+                self.specials.srb = base;
+                self.specials.sro = offset;
+                self.base = target;
+                self.go_on(target, no_transfer())
+            }
+            Transfer::Block { target, base } => {
+                self.base = base;
+                self.go_on(target, no_transfer())
+            }
+        }
+    }
+}

@@ -1,0 +1,16 @@
+use Rattle.state.specs.Whole.{stateOf}
+use Rattle.state.proofs.State.core.Statement.{statement}
+use Rattle.state.proofs.State.core.Tie as tie
+
+transfer-words-requires : tie.Need-transfer-words-requires
+transfer-words-requires c κs = tt
+
+load-words-requires : tie.Need-load-words-requires
+load-words-requires c κs = tt
+
+returns : tie.Need-returns
+unfolding stateOf
+returns c = rw (c .before .transfer-words .ensures, c .load-words .ensures)
+
+pub core-spec : {M : Type 1} → statement M
+core-spec = tie.close (tie.spec transfer-words-requires load-words-requires returns)

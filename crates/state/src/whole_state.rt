@@ -1,0 +1,89 @@
+// The state of the core, by value, and what is done to it.
+ghost use mathlib.Core.Path.{_≡_};
+ghost use Rattle.settings.specs.Setup.{setup, found, left};
+ghost use Rattle.core_state.specs.Core.{joined};
+ghost use Rattle.bundle_model.specs.Bundle.{full, step};
+ghost use Rattle.state.specs.Whole.{stateOf, steppedOf};
+use crate::State;
+use crate::Stepped;
+use bundle::advance::advance;
+use core_state::Core;
+use core_state::waiting::load_words;
+use core_state::waiting::transfer_words;
+use core_state::waiting::waiting_load;
+use core_state::waiting::waiting_transfer;
+use settings::Config;
+
+impl State {
+    // The state beside registers and predicates.
+    pub fn core(self) -> Core
+        ensures { λ x. ⌜ joined (self .registers) (self .predicates) x ≡ stateOf self ⌝ }
+    {
+        let specials = self.specials;
+        let waiting = self.transfer;
+        let transfer = transfer_words(waiting);
+        let landing = self.load;
+        let load = load_words(landing);
+        Core {
+            specials,
+            fetch: self.fetch,
+            base: self.base,
+            transfer,
+            load,
+        }
+    }
+
+    // The state of its three parts.
+    pub fn join(registers: [u32; 32], predicates: [bool; 8], core: Core) -> State
+        ensures { λ x. ⌜ stateOf x ≡ joined registers predicates core ⌝ }
+    {
+        let specials = core.specials;
+        let waiting = core.transfer;
+        let transfer = waiting_transfer(waiting);
+        let landing = core.load;
+        let load = waiting_load(landing);
+        State {
+            registers,
+            predicates,
+            specials,
+            fetch: core.fetch,
+            base: core.base,
+            transfer,
+            load,
+        }
+    }
+
+    // One step: settings and state are judged, an ended state is left as it is, and else the bundle is done or refused.
+    pub fn step(
+        self,
+        code: &[u8],
+        main: &mut [u8],
+        local: &mut [u8],
+        cache: &mut [u32],
+        config: Config,
+    ) -> Stepped
+        ensures { λ r. ⌜ full (steppedOf r) (left main local cache) ≡ step (setup (now (code .entry)) config) (stateOf self) (found main local cache) ⌝ }
+    {
+        let mut registers = self.registers;
+        let mut predicates = self.predicates;
+        let r = advance(
+            self.core(),
+            &mut registers,
+            &mut predicates,
+            config,
+            code,
+            &mut *main,
+            &mut *local,
+            &mut *cache,
+            1,
+        );
+        let answer = r.answer;
+        let counts = r.counts;
+        let core = r.core;
+        Stepped {
+            answer,
+            state: State::join(registers, predicates, core),
+            counts,
+        }
+    }
+}

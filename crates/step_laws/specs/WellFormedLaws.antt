@@ -1,0 +1,122 @@
+-- A bundle of code made of bytes keeps a state well formed.
+use Prim.Native.Nat.{ℕ, suc, _+_, _<_}
+use mathlib.Core.Bool.{Bool, true, false, cond, _&&_}
+use mathlib.Core.List.{List}
+use mathlib.Core.Path.{_≡_, refl, ap, _∙_}
+use native.Mathlib.Omega.{arith}
+use borrow.Author.Tests.{le-leb, eq-eqb, eqb-true}
+use lib.Dec.{eqb}
+use lib.ListN.{getD}
+use lib.Seq.{getD-set-other}
+use Rattle.big_endian.specs.Bytes.{wordAt}
+use Rattle.big_endian.specs.BytesLaws.{number-bound}
+use Rattle.isa.specs.declared.Operation.{Operation}
+use Rattle.isa.specs.declared.Operation.the-variants as operation
+use Rattle.isa.specs.declared.Instruction.{Instruction}
+use Rattle.isa.specs.declared.StackOperation.the-variants.{Sres, Sens, Sfree, Sspill}
+use Rattle.isa.specs.declared.Bundle.{Bundle}
+use Rattle.isa.specs.declared.Bundle.the-variants.{Undecodable, One, Two, Long}
+use Rattle.decoder_laws.specs.Ranges.{OperationInRange, InstructionInRange, InRange}
+use Rattle.decoder_laws.specs.RangeLaws.{decode-in-range}
+use Rattle.word.specs.BoolLaws.{and-left, and-right}
+use Rattle.settings.specs.declared.Settings.{Settings}
+use Rattle.core_state.specs.State.{State, startOf, landing, landed, loadOk, waitOk, wellFormed}
+use Rattle.core_state.specs.declared.WaitingLoad.{WaitingLoad}
+use Rattle.core_state.specs.declared.WaitingLoad.the-variants as load
+use Rattle.alu_effects.specs.declared.AluEffect.{AluEffect}
+use Rattle.alu_effects.specs.declared.AluEffect.the-variants as alu
+use Rattle.effects.specs.declared.Effect.{Effect}
+use Rattle.effects.specs.declared.Effect.the-variants as effect
+use Rattle.memory.specs.Access.{loadedValue}
+use Rattle.effects.specs.Effect.{Start, slotOne, slotOneEffect, effectOf, stackEffect}
+use Rattle.alu_effects.specs.AluEffects.{holds}
+use Rattle.bundle_model.specs.Bundle.{writeOne, written, bundle, step}
+use Rattle.step_laws.specs.StepCases.{effectAt, stateAfter, bundle-cases, step-cases}
+use Rattle.step_laws.specs.KeptLaws.{withSpecial-cases, writeAlu-cases, onward-cases, Lasting, written-lasts}
+use Rattle.settings.specs.Setup.{Buffers, lent, Setup}
+use Rattle.fetch.specs.Fetch.{bundleAt}
+
+-- The parts of a well-formed state.
+pub record WellFormed (s : State) : Type 0 where
+  pub zero-register : getD (s .registers) 0 0 ≡ 0
+  pub true-predicate : getD (s .predicates) 0 false ≡ true
+  pub load : loadOk (s .load) ≡ true
+  pub transfer : waitOk (s .transfer) ≡ true
+
+-- A well-formed state has them.
+pub well-formed-parts : (s : State) → wellFormed s ≡ true → WellFormed s
+unfolding wellFormed
+well-formed-parts s e =
+    let r = eqb (getD (s .registers) 0 0) 0 in
+    let p = getD (s .predicates) 0 false in
+    let l = loadOk (s .load) in
+    let w = waitOk (s .transfer) in
+    let x = and-left (r && p) (l && w) e in
+    let y = and-right (r && p) (l && w) e in
+    record { zero-register = eqb-true _ _ (and-left r p x); true-predicate = and-right r p x; load = and-left l w y; transfer = and-right l w y }
+
+-- A state that has them is well formed.
+pub well-formed-whole : (s : State) → WellFormed s → wellFormed s ≡ true
+unfolding wellFormed
+well-formed-whole s h = rw (eq-eqb _ _ (h .zero-register), h .true-predicate, h .load, h .transfer)
+
+-- The load that slot one begins.
+abbrev pub loadBegun : Buffers → Effect → WaitingLoad
+loadBegun b (effect.Alu a) = load.Nothing
+loadBegun b (effect.Special d v) = load.Nothing
+loadBegun b (effect.Product x y) = load.Nothing
+loadBegun b (effect.Load k w r a) = load.Waits r (loadedValue b k w a)
+loadBegun b (effect.Store k w a v) = load.Nothing
+loadBegun b (effect.Stack c n m) = load.Nothing
+loadBegun b (effect.Transfer d t) = load.Nothing
+loadBegun b effect.Exception = load.Nothing
+
+-- A load that has landed waits no more.
+landed-load : (s : State) → landed s .load ≡ load.Nothing
+unfolding landed
+landed-load s = go (s .load) refl
+  where
+    go : (l : WaitingLoad) → s .load ≡ l → landing l s .load ≡ load.Nothing
+    go load.Nothing e = e
+    go (load.Waits r v) e = refl
+
+-- Slot one leaves the load that it begins.
+writeOne-load : (g : Settings) (b : Buffers) (from : State) (e : Effect) (onto : State) → onto .load ≡ load.Nothing → writeOne g b from e onto .load ≡ loadBegun b e
+unfolding writeOne
+writeOne-load g b from (effect.Alu a) onto h = writeAlu-cases (λ s. s .load ≡ load.Nothing) a onto (λ rs ps. h)
+writeOne-load g b from (effect.Special d v) onto h = withSpecial-cases (λ s. s .load ≡ load.Nothing) onto d v h (λ x. h)
+writeOne-load g b from (effect.Product x y) onto h = h
+writeOne-load g b from (effect.Load j w r a) onto h = refl
+writeOne-load g b from (effect.Store j w a v) onto h = h
+writeOne-load g b from (effect.Stack c n m) onto h = h
+writeOne-load g b from (effect.Transfer d t) onto h = h
+writeOne-load g b from effect.Exception onto h = h
+
+-- The load that waits after a bundle is the one that slot one began.
+pub written-load : (g : Settings) (b : Buffers) (s : State) (one : Effect) (two : AluEffect) (following : ℕ) → written g b s one two following .load ≡ loadBegun b one
+unfolding written
+written-load g b s one two following =
+    let t = writeOne-load g b s one (landed s) (landed-load s) in
+    onward-cases (λ x. x .load ≡ loadBegun b one) following _ one (s .transfer) (λ srb sro fetch base w q. writeAlu-cases (λ x. x .load ≡ loadBegun b one) two _ (λ rs ps. t))
+
+-- r0 stays zero and p0 true.
+firsts-last : Lasting (λ l. getD l 0 0 ≡ 0) (λ l. getD l 0 false ≡ true)
+firsts-last =
+    record {
+      registers = λ l r v e. getD-set-other l (suc r) 0 v 0 (λ z. omega arith) ∙ e;
+      predicates = λ l i v e. getD-set-other l (suc i) 0 v false (λ z. omega arith) ∙ e;
+      word = λ v. refl;
+    }
+
+-- What is written onto a well-formed state is well formed, if the register of a load that slot one begins is below 32.
+pub written-well-formed : (g : Settings) (b : Buffers) (s : State) (one : Effect) (two : AluEffect) (following : ℕ) → loadOk (loadBegun b one) ≡ true
+    → WellFormed s → WellFormed (written g b s one two following)
+unfolding written
+written-well-formed g b s one two following p h =
+    let t = written-lasts (λ l. getD l 0 0 ≡ 0) (λ l. getD l 0 false ≡ true) firsts-last g b s one two following (h .zero-register, h .true-predicate) in
+    record {
+      zero-register = t .0;
+      true-predicate = t .1;
+      load = ap loadOk (written-load g b s one two following) ∙ p;
+      transfer = onward-cases (λ x. waitOk (x .transfer) ≡ true) following _ one (s .transfer) (λ srb sro fetch base w q. q (h .transfer));
+    }
