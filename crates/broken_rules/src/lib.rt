@@ -29,7 +29,7 @@ fn first_rule(m: Marking, guard: bool, row: Asked) -> Found
     if row.destination & (guard | row.source) {
         return Found::Breaks(Rule::B);
     }
-    if row.access & m.private_register(row.base) {
+    if row.base {
         return Found::Breaks(Rule::C);
     }
     if row.store & (guard | row.value) {

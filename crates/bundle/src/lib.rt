@@ -1,7 +1,7 @@
 // Bundles done or refused, one by one: what a step and a run do. The state is by value, and its registers and predicates are lent.
 pub mod advance;
 mod execute;
-pub mod outcome;
+mod outcome;
 mod ready;
 mod slot_one;
 mod stack_moves;

@@ -11,7 +11,7 @@ use bundle_model::Answer;
 use bundle_model::Counts;
 use core_state::Core;
 
-pub fn no_counts() -> Counts
+pub(crate) fn no_counts() -> Counts
     ensures { λ r. ⌜ r ≡ noCounts ⌝ }
 {
     Counts {

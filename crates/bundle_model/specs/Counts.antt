@@ -1,4 +1,4 @@
--- The counts: none, their sum, and how large they get. A count more is a field more here, and nowhere else.
+-- The counts: none, their sum, and how large they get. A count more is a field more in each of these, and in what a bundle counts.
 use Prim.Native.Nat.{ℕ, _+_, _*_, _^_, _<_, _≤_}
 use mathlib.Core.Path.{_≡_}
 use native.Mathlib.Omega.{arith}

@@ -10,10 +10,10 @@ use native.Mathlib.Omega.{arith}
 use lib.ListN.{getD, getElem?, replicate}
 use Rattle.answers.specs.Answer.{Returned, done, ended, refused}
 use Rattle.settings.specs.Setup.{Buffers, buffers, isStackByte}
-use Rattle.state.specs.State.{State}
-use Rattle.state.specs.declared.WaitingLoad.the-variants as load
-use Rattle.bundle_rules.specs.Counts.{noCounts}
-use Rattle.run_rules.specs.Run.{run, Tried, tries}
+use Rattle.core_state.specs.State.{State}
+use Rattle.core_state.specs.declared.WaitingLoad.the-variants as load
+use Rattle.bundle_model.specs.Counts.{noCounts}
+use Rattle.run_model.specs.Run.{run, Tried, tries}
 use Rattle.marking.specs.declared.Marking.{Marking}
 use Rattle.single_path.specs.Check.{Walked, first, later, accepted, checked}
 use Rattle.even_pace.specs.Terms.{privateByte, Agree, Stops, not-walked, refused-access, SameFetch, SameTried, Throughout, EvenPace}

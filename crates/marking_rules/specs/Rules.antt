@@ -28,21 +28,21 @@ abbrev pub privateAmount : Marking → StackAmount → Bool
 privateAmount m (Words n) = false
 privateAmount m (Register r) = privateRegister m r
 
--- What the rules ask about an operation: the fields of `Asked` (`lib.rt`). What does not apply to an operation is false, or 0.
+-- What the rules ask about an operation: the fields of `Asked` (`lib.rt`). What does not apply to an operation is false.
 --   control      it is a transfer (trap and xret included), stack control, or mts to ss, st, srb, sro, sxb or sxo
 --   destination  a destination is public
 --   source       an operand whose value goes to a destination, or the store loaded from, is private
 --   access       it is a load or store, which forms an address
---   base         the base register of the address
+--   base         the base register of the address is private
 --   store        it is a store to a public store
 --   value        the value that it stores is private
 --   operand      a register operand of a transfer or of stack control is private
 -- So a base register is C's alone, and the register operand of a transfer or of stack control is E's alone.
 abbrev pub result : Bool → Bool → Asked
-result to from = record { control = false; destination = to; source = from; access = false; base = 0; store = false; value = false; operand = false }
+result to from = record { control = false; destination = to; source = from; access = false; base = false; store = false; value = false; operand = false }
 
 abbrev pub controlling : Bool → Asked
-controlling private = record { control = true; destination = false; source = false; access = false; base = 0; store = false; value = false; operand = private }
+controlling private = record { control = true; destination = false; source = false; access = false; base = false; store = false; value = false; operand = private }
 
 -- The table. A product goes to sl and sh.
 unfoldable pub asked : Marking → Operation → Asked
@@ -51,10 +51,10 @@ asked m (Alu (Compare f pd a o)) = result (publicPredicate m pd) (privateRegiste
 asked m (Alu (Predicate f pd p q)) = result (publicPredicate m pd) (privateOperand m p || privateOperand m q)
 asked m (Alu (BitCopy rd a bit p)) = result (publicRegister m rd) (privateRegister m a || privateOperand m p)
 asked m (Multiply f a b) = result (not (m .sl) || not (m .sh)) (privateRegister m a || privateRegister m b)
-asked m (Mts d r) = record { control = onSpecial false false false true d; destination = publicSpecial m d; source = privateRegister m r; access = false; base = 0; store = false; value = false; operand = false }
+asked m (Mts d r) = record { control = onSpecial false false false true d; destination = publicSpecial m d; source = privateRegister m r; access = false; base = false; store = false; value = false; operand = false }
 asked m (Mfs r d) = result (publicRegister m r) (privateSpecial m d)
-asked m (Load k w rd ra o) = record { control = false; destination = publicRegister m rd; source = privateStore m k; access = true; base = ra; store = false; value = false; operand = false }
-asked m (Store k w ra rs o) = record { control = false; destination = false; source = false; access = true; base = ra; store = not (privateStore m k); value = privateRegister m rs; operand = false }
+asked m (Load k w rd ra o) = record { control = false; destination = publicRegister m rd; source = privateStore m k; access = true; base = privateRegister m ra; store = false; value = false; operand = false }
+asked m (Store k w ra rs o) = record { control = false; destination = false; source = false; access = true; base = privateRegister m ra; store = not (privateStore m k); value = privateRegister m rs; operand = false }
 asked m (StackControl (Sres n)) = controlling false
 asked m (StackControl (Sens a)) = controlling (privateAmount m a)
 asked m (StackControl (Sfree n)) = controlling false
@@ -80,7 +80,7 @@ breaksB m g o = asked m o .destination && (g || asked m o .source)
 
 -- C: the base register of an address is private.
 unfoldable pub breaksC : Marking → Operation → Bool
-breaksC m o = asked m o .access && privateRegister m (asked m o .base)
+breaksC m o = asked m o .base
 
 -- D: the store that is written to is public, and the value or the guard is private.
 unfoldable pub breaksD : Marking → Bool → Operation → Bool

@@ -1,6 +1,7 @@
 // A run with a budget.
 ghost use mathlib.Core.Path.{_≡_};
 ghost use Rattle.settings.specs.Setup.{setup, found, left};
+ghost use Rattle.core_state.specs.State.{Shaped};
 ghost use Rattle.state.specs.Whole.{stateOf};
 ghost use Rattle.run_model.specs.Run.{run};
 ghost use Rattle.run.specs.Ran.{returned, endsWith, whole};
@@ -41,7 +42,8 @@ fn at_end(a: Answer, ended: bool) -> RunAnswer
     }
 }
 
-// A run from a state. Inside it the registers and predicates are lent to each bundle.
+// A run from a state. Inside it the registers and predicates are lent to each bundle. That the state has 32 registers and 8 predicates,
+// as its type says, is what even pace asks of it.
 pub fn run(
     start: State,
     code: &[u8],
@@ -52,6 +54,7 @@ pub fn run(
     budget: u32,
 ) -> Ran
     ensures { λ r. ⌜ whole r (left main local cache) ≡ run (setup (now (code .entry)) config) budget (stateOf start) (found main local cache) ⌝ }
+    ensures shaped { λ _. ⌜ Shaped (stateOf start) ⌝ }
 {
     let mut registers = start.registers;
     let mut predicates = start.predicates;

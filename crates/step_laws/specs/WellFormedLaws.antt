@@ -1,4 +1,4 @@
--- A bundle of code made of bytes keeps a state well formed.
+-- The parts of a well-formed state, and what a bundle writes onto one.
 use Prim.Native.Nat.{ℕ, suc, _+_, _<_}
 use mathlib.Core.Bool.{Bool, true, false, cond, _&&_}
 use mathlib.Core.List.{List}

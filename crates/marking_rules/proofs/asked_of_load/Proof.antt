@@ -9,9 +9,12 @@ public-register-requires c κs = tt
 private-store-requires : tie.Need-private-store-requires
 private-store-requires c κs = tt
 
+private-register-requires : tie.Need-private-register-requires
+private-register-requires c κs = tt
+
 returns : tie.Need-returns
 unfolding asked
-returns c = λ w offset i. record { control = false; destination = c .before .public-register .ensures i; source = c .private-store .ensures i; access = true; base = c .before .before .args .ra; store = false; value = false; operand = false }
+returns c = λ w offset i. record { control = false; destination = c .before .before .public-register .ensures i; source = c .before .private-store .ensures i; access = true; base = c .private-register .ensures i; store = false; value = false; operand = false }
 
 pub asked-of-load-spec : {M : Type 1} → statement M
-asked-of-load-spec = tie.close (tie.spec public-register-requires private-store-requires returns)
+asked-of-load-spec = tie.close (tie.spec public-register-requires private-store-requires private-register-requires returns)

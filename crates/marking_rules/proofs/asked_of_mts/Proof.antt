@@ -14,7 +14,7 @@ private-register-requires c κs = tt
 
 returns : tie.Need-returns
 unfolding asked
-returns c = λ i. record { control = c .before .before .is-control .ensures i; destination = c .before .public-special .ensures i; source = c .private-register .ensures i; access = false; base = 0; store = false; value = false; operand = false }
+returns c = λ i. record { control = c .before .before .is-control .ensures i; destination = c .before .public-special .ensures i; source = c .private-register .ensures i; access = false; base = false; store = false; value = false; operand = false }
 
 pub asked-of-mts-spec : {M : Type 1} → statement M
 asked-of-mts-spec =

@@ -1,4 +1,5 @@
-use mathlib.Core.Path.{sym, ap, _∙_}
+use mathlib.Core.Path.{_≡_, sym, ap, _∙_}
+use lib.ListN.{length}
 use Rattle.settings.specs.Setup.{setup, buffers}
 use Rattle.core_state.specs.State.{State}
 use Rattle.state.specs.Whole.{stateOf}
@@ -34,13 +35,18 @@ same-length-3 : tie.Need-same-length-3
 same-length-3 c = search needs
 
 returns : tie.Need-returns
+unfolding stateOf
 returns c =
     let a = c .before .before .before .before .before .before .before .before .before .before .before .before .before .before .before .before .before .before .before .before .before .before .before .before .args in
     let x = setup (a .code .now) (a .config) in
     let b = buffers (a .main .now) (a .local .now) (a .cache .now) in
-    ends-as x (c .before .before .before .before .before .before .before .before .before .before .before .advance .result .answer) _ (c .at-end .result) _ _ _ _ (c .at-end .ensures) (c .before .before .has-ended .ensures _ _) (c .before .join .ensures)
-    ∙ ap (ending x) (c .before .before .before .before .before .before .before .before .before .before .before .advance .ensures ∙ ap (λ (s : State). advanced x (a .budget) s b) (c .before .before .before .before .before .before .before .before .before .before .before .before .before .before .before .before .before .core .ensures))
-    ∙ sym (run-advanced x (stateOf (a .start)) b (a .budget))
+    let regs : length (a .start .registers) ≡ 32 = search (needs, c .before .before .before .before .before .before .before .before .before .before .before .before .before .before .before .before .before .before .before .before .before .before .before .before .good .0) in
+    let preds : length (a .start .predicates) ≡ 8 = search (needs, c .before .before .before .before .before .before .before .before .before .before .before .before .before .before .before .before .before .before .before .before .before .before .before .before .good .0) in (
+      ends-as x (c .before .before .before .before .before .before .before .before .before .before .before .advance .result .answer) _ (c .at-end .result) _ _ _ _ (c .at-end .ensures) (c .before .before .has-ended .ensures _ _) (c .before .join .ensures)
+          ∙ ap (ending x) (c .before .before .before .before .before .before .before .before .before .before .before .advance .ensures ∙ ap (λ (s : State). advanced x (a .budget) s b) (c .before .before .before .before .before .before .before .before .before .before .before .before .before .before .before .before .before .core .ensures))
+          ∙ sym (run-advanced x (stateOf (a .start)) b (a .budget)),
+      record { registers = regs; predicates = preds },
+    )
 
 pub run-spec : {M : Type 1} → statement M
 run-spec =

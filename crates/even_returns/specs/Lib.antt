@@ -1,0 +1,2 @@
+-- Open first: Returns.antt.
+pub mod Returns

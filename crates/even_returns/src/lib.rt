@@ -1,0 +1,1 @@
+// Even pace of what the functions check and run return: laws, in specs/.
