@@ -1,4 +1,4 @@
--- Open first: Bundle.antt, then Refusal.antt and Execute.antt.
+-- Open first: Bundle.antt, then Refusal.antt, Counts.antt and Execute.antt.
 pub mod Refusal
 pub mod Counts
 pub mod Bundle

@@ -1,3 +1,4 @@
+-- Open first: Run.antt, then Loop.antt.
 pub mod Run
 pub mod RunLaws
 pub mod TriesLaws

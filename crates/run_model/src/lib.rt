@@ -1,1 +1,1 @@
-// What a run is, and the list of the bundles that it tries: see specs/.
+// What a run is, the list of the bundles that it tries, and the loop that does them: see specs/.

@@ -1,3 +1,4 @@
+-- Open first: Setup.antt, then Settings.antt.
 pub mod Setup
 pub mod Settings
 pub mod SettingsLaws

@@ -1,2 +1,3 @@
+-- Open first: whole_state.rt, then open.rt and Whole.antt.
 pub mod Whole
 pub mod Open

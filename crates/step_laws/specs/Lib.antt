@@ -1,3 +1,4 @@
+-- Open first: StepCases.antt, then WellLaws.antt and CountLaws.antt.
 pub mod StepCases
 pub mod KeptLaws
 pub mod WellFormedLaws

@@ -1,1 +1,1 @@
-// Laws about the machine's definitions, for what is built on them: see specs/.
+// Laws about bundles and steps, for what is built on them: see specs/.
