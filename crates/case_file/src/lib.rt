@@ -74,4 +74,5 @@ pub enum Reason {
     TooMuchCode,
     TooMuchMemory,
     PlaceOutside,
+    UnseenByte,
 }

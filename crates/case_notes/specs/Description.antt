@@ -11,18 +11,19 @@ use Rattle.case_words.specs.declared.SpecialName.the-variants as SpecialName
 use Rattle.case_kept.specs.PlaceNumbers.{MAIN, LOCAL, WORDS, LO, HI, ENTRY, FETCH, BASE, SPECIALS, TRANSFER, LOAD, REGISTERS, PREDICATES, GIVEN}
 use Rattle.case_kept.specs.Kept.{isSet, put, flag}
 use Rattle.case_notes.specs.KeptParts.{BR, CALL, BLOCK, withTransfer, withLoad}
-use Rattle.case_notes.specs.Mistake.{NO-MISTAKE, rowOf}
+use Rattle.case_notes.specs.declared.Judged.{Judged}
+use Rattle.case_notes.specs.declared.Judged.the-variants as Judged
 
--- What a line leaves: the row of its mistake, and the kept numbers.
+-- What a line leaves: whether it is a mistake, and the kept numbers.
 pub record Noted : Type 0 where
-  pub row : ℕ
+  pub judged : Judged
   pub kept : List ℕ
 
-abbrev pub noted : ℕ → List ℕ → Noted
-noted row kept = record { row = row; kept = kept }
+abbrev pub noted : Judged → List ℕ → Noted
+noted judged kept = record { judged = judged; kept = kept }
 
 abbrev pub fine : List ℕ → Noted
-fine kept = noted NO-MISTAKE kept
+fine kept = noted Judged.Fine kept
 
 -- Whether a line gave the number at a place.
 abbrev pub isGiven : List ℕ → ℕ → Bool
@@ -37,7 +38,7 @@ give kept place n = put (markGiven kept place) place n
 
 -- A line that may stand once and comes again is a mistake. It is known by the place of its first number.
 abbrev pub once : List ℕ → ℕ → Noted → Noted
-once kept place rest = cond (isGiven kept place) (noted (rowOf Reason.Repeated) kept) rest
+once kept place rest = cond (isGiven kept place) (noted (Judged.Mistake Reason.Repeated) kept) rest
 
 abbrev pub numberOnce : List ℕ → ℕ → ℕ → Noted
 numberOnce kept place n = once kept place (fine (give kept place n))
@@ -48,7 +49,7 @@ GREATEST = 65536
 
 -- The length of a memory; one above 65,536 bytes is a mistake.
 abbrev pub lengthOnce : List ℕ → ℕ → ℕ → Noted
-lengthOnce kept place n = once kept place (cond (ltb GREATEST n) (noted (rowOf Reason.TooMuchMemory) kept) (fine (give kept place n)))
+lengthOnce kept place n = once kept place (cond (ltb GREATEST n) (noted (Judged.Mistake Reason.TooMuchMemory) kept) (fine (give kept place n)))
 
 abbrev pub transferOnce : List ℕ → ℕ → ℕ → ℕ → ℕ → Noted
 transferOnce kept kind a b c = once kept TRANSFER (fine (withTransfer (markGiven kept TRANSFER) kind a b c))

@@ -1,5 +1,4 @@
 pub mod KeptParts
-pub mod Mistake
 pub mod Description
 pub mod Marking
 pub mod MarkingLaws

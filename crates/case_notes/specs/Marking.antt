@@ -12,7 +12,7 @@ use Rattle.case_file.specs.Arguments.{privateEntry}
 use Rattle.marking.specs.declared.Marking.{Marking}
 use Rattle.case_kept.specs.PlaceNumbers.{PRIVATE-REGISTERS, PRIVATE-PREDICATES, PRIVATE-SL, PRIVATE-SH, PRIVATE-MAIN, PRIVATE-LOCAL, PRIVATE-STACK}
 use Rattle.case_kept.specs.Kept.{isSet, put, flagsAt}
-use Rattle.case_notes.specs.Mistake.{rowOf}
+use Rattle.case_notes.specs.declared.Judged.the-variants as Judged
 use Rattle.case_notes.specs.Description.{Noted, noted, fine}
 
 abbrev pub withRegister : List ℕ → ℕ → List ℕ
@@ -35,7 +35,7 @@ marked kept Item.Unknown = kept
 -- What an entry of a private line does: an item is marked and the line goes on after it; a mistake or the end ends it.
 abbrev pub markEntry : PrivateEntry → List ℕ → (ℕ → List ℕ → Noted) → Noted
 markEntry (PrivateEntry.Item item next) kept rest = rest next (marked kept item)
-markEntry (PrivateEntry.Mistake r) kept rest = noted (rowOf r) kept
+markEntry (PrivateEntry.Mistake r) kept rest = noted (Judged.Mistake r) kept
 markEntry PrivateEntry.End kept rest = fine kept
 
 -- At most n entries of a private line from a place on. The items before a mistake are marked.

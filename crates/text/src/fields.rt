@@ -55,17 +55,7 @@ pub fn next_field(line: &[u8], a: usize) -> Field
 pub fn same(a: &[u8], b: &[u8]) -> bool
     ensures { λ r. ⌜ r ≡ sameBytes (now (a .entry)) (now (b .entry)) ⌝ }
 {
-    if a.len() != b.len() {
-        return false;
-    }
-    let mut i = 0;
-    while i < a.len() {
-        if a[i] != b[i] {
-            return false;
-        }
-        i += 1;
-    }
-    true
+    check::same(a, b)
 }
 
 fn is_name_byte(c: u8) -> bool

@@ -1,0 +1,5 @@
+pub mod Form
+pub mod FormLaws
+pub mod Changes
+pub mod ChangesLaws
+pub mod Mistake
