@@ -2,13 +2,13 @@
 use Prim.Native.Nat.{ℕ, suc, _+_, _*_, _-_, _≤_, _<_, min}
 use Prim.Native.Char.{code}
 use mathlib.Core.Path.{_≡_, refl, sym, ap, _∙_}
-use mathlib.Core.Bool.{Bool, true, false}
+use mathlib.Core.Bool.{Bool, true, false, _&&_}
 use mathlib.Core.List.{List, [], _∷_, _++_}
 use native.Mathlib.Numerals.{add-one}
 use native.Mathlib.Omega.{arith}
 use lib.ListN.{length, take, drop, getD, length-drop, drop-of-length-le}
 use lib.Seq.{drop-cons, take-all}
-use lib.Dec.{leb}
+use lib.Dec.{leb, eqb}
 use borrow.Author.Tests.{leb-true, leb-false}
 use Rattle.text.specs.Page.{Page, withByte, withText}
 use Rattle.text.specs.PageLaws.{text-append, text-then, text-none, text-byte}
@@ -55,16 +55,43 @@ line-parts p q r s t u label address w a b c d e =
     (text-then r s u (code " " ∷ []) _ (c ∙ sym (text-byte r (code " ")))
     (text-then s t u (byteTexts w) (code "\n" ∷ []) d (e ∙ sym (text-byte t (code "\n"))))))
 
-module _ (p : Page) (label after before : List ℕ) (k e : ℕ) (same : length before ≡ length after) (h : 4 * k ≤ length after) (g : e ≡ 4 * k + min 4 (length after - 4 * k)) where
-  -- Whether word k changed, told by the parts that are compared.
-  told : (r : Bool) → r ≡ sameBytes (take (e - 4 * k) (drop (4 * k) after)) (take (e - 4 * k) (drop (4 * k) before)) → sameBytes (word after k) (word before k) ≡ r
-  told r t = sym (rw (word-part (length after) k e after refl h g, word-part (length after) k e before same h g) at t)
+-- A word of 4 bytes, byte by byte.
+four : (l : List ℕ) (n : ℕ) → n + 4 ≤ length l → take 4 (drop n l) ≡ getD l n 0 ∷ getD l (n + 1) 0 ∷ getD l (n + 2) 0 ∷ getD l (n + 3) 0 ∷ []
+four l n h =
+    let e : n + 1 + 1 ≡ n + 2 = omega arith in
+    let f : n + 2 + 1 ≡ n + 3 = omega arith in
+    ap (take 4) (at n (omega arith)) ∙ ap (λ (t : List ℕ). getD l n 0 ∷ take 3 t) (at (n + 1) (omega arith))
+    ∙ ap (λ (m : ℕ). getD l n 0 ∷ getD l (n + 1) 0 ∷ take 2 (drop m l)) e ∙ ap (λ (t : List ℕ). getD l n 0 ∷ getD l (n + 1) 0 ∷ take 2 t) (at (n + 2) (omega arith))
+    ∙ ap (λ (m : ℕ). getD l n 0 ∷ getD l (n + 1) 0 ∷ getD l (n + 2) 0 ∷ take 1 (drop m l)) f
+    ∙ ap (λ (t : List ℕ). getD l n 0 ∷ getD l (n + 1) 0 ∷ getD l (n + 2) 0 ∷ take 1 t) (at (n + 3) (omega arith))
+  where
+    at : (i : ℕ) → i < length l → drop i l ≡ getD l i 0 ∷ drop (i + 1) l
+    at i g = drop-cons l i 0 g ∙ ap (λ (m : ℕ). getD l i 0 ∷ drop m l) (sym (add-one i))
 
-  pub unchanged : (r : Bool) → r ≡ sameBytes (take (e - 4 * k) (drop (4 * k) after)) (take (e - 4 * k) (drop (4 * k) before)) → r ≡ true → p ≡ withText p (changeAt label after before k)
+grouped : (p q r s : Bool) → ((p && q) && (r && s)) ≡ (p && (q && (r && (s && true))))
+grouped false q r s = refl
+grouped true false r s = refl
+grouped true true false s = refl
+grouped true true true false = refl
+grouped true true true true = refl
+
+pub same-four : (a b : List ℕ) (n : ℕ) → n + 4 ≤ length a → n + 4 ≤ length b
+    → ((eqb (getD a n 0) (getD b n 0) && eqb (getD a (n + 1) 0) (getD b (n + 1) 0)) && (eqb (getD a (n + 2) 0) (getD b (n + 2) 0) && eqb (getD a (n + 3) 0) (getD b (n + 3) 0)))
+    ≡ sameBytes (take 4 (drop n a)) (take 4 (drop n b))
+unfolding sameBytes
+same-four a b n h g = rw (four a n h, four b n g)
+    (grouped (eqb (getD a n 0) (getD b n 0)) (eqb (getD a (n + 1) 0) (getD b (n + 1) 0)) (eqb (getD a (n + 2) 0) (getD b (n + 2) 0)) (eqb (getD a (n + 3) 0) (getD b (n + 3) 0)))
+
+-- What is left of a memory, where that is less than a word.
+pub last-word : (l : List ℕ) (n k : ℕ) → length l ≡ n → n - 4 * k < 4 → take (n - 4 * k) (drop (4 * k) l) ≡ word l k
+last-word l n k e h = take-all (n - 4 * k) (drop (4 * k) l) (simp length-drop (omega arith)) ∙ sym (take-all 4 (drop (4 * k) l) (simp length-drop (omega arith)))
+
+module _ (p : Page) (label after before : List ℕ) (k : ℕ) (r : Bool) (told : r ≡ sameBytes (word after k) (word before k)) where
+  pub unchanged : r ≡ true → p ≡ withText p (changeAt label after before k)
   unfolding changeAt
-  unchanged r t y = rw (told r t, y) (sym (text-none p))
+  unchanged y = rw (← told, y) (sym (text-none p))
 
-  pub changed : (q : Page) (r : Bool) → r ≡ sameBytes (take (e - 4 * k) (drop (4 * k) after)) (take (e - 4 * k) (drop (4 * k) before)) → r ≡ false
+  pub changed : (q : Page) (e : ℕ) → r ≡ false → 4 * k ≤ length after → e ≡ 4 * k + min 4 (length after - 4 * k)
       → q ≡ withText p (changeLine label (4 * k) (take (e - 4 * k) (drop (4 * k) after))) → q ≡ withText p (changeAt label after before k)
   unfolding changeAt
-  changed q r t y z = rw (told r t, y) (z ∙ ap (λ (w : List ℕ). withText p (changeLine label (4 * k) w)) (word-part (length after) k e after refl h g))
+  changed q e y h g z = rw (← told, y) (z ∙ ap (λ (w : List ℕ). withText p (changeLine label (4 * k) w)) (word-part (length after) k e after refl h g))

@@ -2,8 +2,9 @@
 ghost use mathlib.Core.Path.{_≡_};
 ghost use Prim.Native.Nat.{_*_, _≤_};
 ghost use lib.ListN.{length};
+ghost use Rattle.text.specs.Field.{sameBytes};
 ghost use Rattle.text.specs.Page.{page, withText};
-ghost use Rattle.case_report.specs.Changes.{byteTexts, changeLine, changeAt, wordChanges, memoryChanges, cacheLine, cacheChange, cacheChanges, changesText};
+ghost use Rattle.case_report.specs.Changes.{byteTexts, changeLine, word, changeAt, wordChanges, memoryChanges, cacheLine, cacheChange, cacheChanges, changesText};
 use crate::form::say;
 use case_kept::buffers::CACHE_COPY;
 use case_kept::buffers::COPY;
@@ -40,7 +41,22 @@ fn put_change(out: &mut [u8], used: usize, label: &[u8], address: usize, word: &
     put_byte(&mut *out, d, b'\n')
 }
 
-// Word k of a memory, if it changed. The last word may be shorter than 4 bytes.
+// Whether word k is as it was. Nearly all words are compared here, so that only the last one, which may be shorter than 4 bytes, is
+// left to a loop.
+fn is_same_word(after: &[u8], before: &[u8], k: usize) -> bool
+    requires { ⌜ (4 * k ≤ length (now after)) × (length (now before) ≡ length (now after)) ⌝ }
+    ensures { λ r. ⌜ r ≡ sameBytes (word (now (after .entry)) k) (word (now (before .entry)) k) ⌝ }
+{
+    let a = 4 * k;
+    if after.len() - a < 4 {
+        return same(&after[a..], &before[a..]);
+    }
+    let front = (after[a] == before[a]) & (after[a + 1] == before[a + 1]);
+    let back = (after[a + 2] == before[a + 2]) & (after[a + 3] == before[a + 3]);
+    front & back
+}
+
+// Word k of a memory, if it changed.
 fn put_if_changed(
     out: &mut [u8],
     used: usize,
@@ -52,11 +68,11 @@ fn put_if_changed(
     requires { ⌜ (4 * k ≤ length (now after)) × (length (now before) ≡ length (now after)) ⌝ }
     ensures { λ r. ⌜ page r (now (out .exit)) ≡ withText (page used (now (out .entry))) (changeAt (now (label .entry)) (now (after .entry)) (now (before .entry)) k) ⌝ }
 {
-    let start = 4 * k;
-    let end = start + least(4, after.len() - start);
-    if same(&after[start..end], &before[start..end]) {
+    if is_same_word(after, before, k) {
         return used;
     }
+    let start = 4 * k;
+    let end = start + least(4, after.len() - start);
     put_change(&mut *out, used, label, start, &after[start..end])
 }
 
