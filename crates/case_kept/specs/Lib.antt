@@ -1,4 +1,4 @@
-pub mod PlaceNumbers
+pub mod Indices
 pub mod Kept
 pub mod KeptLaws
 pub mod Places

@@ -13,8 +13,8 @@ use Rattle.case_file.specs.declared.Reason.the-variants as Reason
 use Rattle.case_file.specs.Arguments.{codeEntry}
 use Rattle.case_kept.specs.declared.places.Store.{Store}
 use Rattle.case_kept.specs.declared.places.Store.the-variants as Store
-use Rattle.case_kept.specs.PlaceNumbers.{CODE}
-use Rattle.case_kept.specs.Kept.{numberAt, put}
+use Rattle.case_kept.specs.Indices.{CODE}
+use Rattle.case_kept.specs.Kept.{keptNumber, put}
 use Rattle.case_notes.specs.declared.Judged.{Judged}
 use Rattle.case_notes.specs.declared.Judged.the-variants as Judged
 use Rattle.case_notes.specs.Description.{Noted, GREATEST, given}
@@ -34,7 +34,7 @@ filled judged kept buffer = record { judged = judged; kept = kept; buffer = buff
 -- A code word goes behind those that the case has. Where the greatest length leaves no room for it, the line is a mistake.
 unfoldable pub appended : List ℕ → ℕ → List ℕ → Filled
 appended kept w code =
-    let n = numberAt kept CODE in
+    let n = keptNumber kept CODE in
     cond (leb GREATEST n) (filled (Judged.Mistake Reason.TooMuchCode) kept code) (filled Judged.Fine (put kept CODE (n + 4)) (putWord code n w))
 
 -- The line goes on where there was no mistake.
@@ -50,7 +50,7 @@ appendEntry (CodeEntry.Word w next) kept code rest = andThen (appended kept w co
 appendEntry (CodeEntry.Mistake r) kept code rest = filled (Judged.Mistake r) kept code
 appendEntry CodeEntry.End kept code rest = filled Judged.Fine kept code
 
--- At most n entries of a code line from a place on.
+-- At most n entries of a code line from a position on.
 unfoldable pub appendFrom : ℕ → List ℕ → ℕ → List ℕ → List ℕ → Filled
 appendFrom zero line at kept code = filled Judged.Fine kept code
 appendFrom (suc n) line at kept code = appendEntry (codeEntry line at) kept code (appendFrom n line)

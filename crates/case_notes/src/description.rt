@@ -1,6 +1,6 @@
 // What the description lines of a case say of its numbers, gathered in any order. Each function answers whether the line is a mistake.
 ghost use mathlib.Core.Path.{_≡_};
-ghost use Rattle.case_notes.specs.Description.{noted, isGiven, markGiven, give as giveAt, numberOnce, lengthOnce, transferOnce, specialPlace, register, predicate, special, given};
+ghost use Rattle.case_notes.specs.Description.{noted, isGiven, markGiven, give as giveAt, numberOnce, lengthOnce, transferOnce, specialIndex, register, predicate, special, given};
 use crate::Judged;
 use crate::kept_parts::BLOCK;
 use crate::kept_parts::BR;
@@ -32,49 +32,49 @@ use case_words::SpecialName;
 
 const GREATEST: u32 = 65536;
 
-// Whether a line gave the number at a place.
-pub fn is_given(kept: &Kept, place: usize) -> bool
-    ensures { λ r. ⌜ r ≡ isGiven (now (kept .entry)) place ⌝ }
+// Whether a line gave the number at an index.
+pub fn is_given(kept: &Kept, index: usize) -> bool
+    ensures { λ r. ⌜ r ≡ isGiven (now (kept .entry)) index ⌝ }
 {
-    is_set_after(kept, GIVEN, place)
+    is_set_after(kept, GIVEN, index)
 }
 
-fn mark_given(kept: &mut Kept, place: usize)
-    ensures { λ _. ⌜ now (kept .exit) ≡ markGiven (now (kept .entry)) place ⌝ }
+fn mark_given(kept: &mut Kept, index: usize)
+    ensures { λ _. ⌜ now (kept .exit) ≡ markGiven (now (kept .entry)) index ⌝ }
 {
-    keep_after(&mut *kept, GIVEN, place, 1);
+    keep_after(&mut *kept, GIVEN, index, 1);
 }
 
 // A number, and that a line gave it.
-fn give_number(kept: &mut Kept, place: usize, n: u32)
-    ensures { λ _. ⌜ now (kept .exit) ≡ giveAt (now (kept .entry)) place n ⌝ }
+fn give_number(kept: &mut Kept, index: usize, n: u32)
+    ensures { λ _. ⌜ now (kept .exit) ≡ giveAt (now (kept .entry)) index n ⌝ }
 {
-    mark_given(&mut *kept, place);
-    keep_word(&mut *kept, place, n);
+    mark_given(&mut *kept, index);
+    keep_word(&mut *kept, index, n);
 }
 
 // A number that a case gives once.
-fn give_once(kept: &mut Kept, place: usize, n: u32) -> Judged
-    ensures { λ r. ⌜ noted r (now (kept .exit)) ≡ numberOnce (now (kept .entry)) place n ⌝ }
+fn give_once(kept: &mut Kept, index: usize, n: u32) -> Judged
+    ensures { λ r. ⌜ noted r (now (kept .exit)) ≡ numberOnce (now (kept .entry)) index n ⌝ }
 {
-    if is_given(&*kept, place) {
+    if is_given(&*kept, index) {
         return Judged::Mistake(Reason::Repeated);
     }
-    give_number(&mut *kept, place, n);
+    give_number(&mut *kept, index, n);
     Judged::Fine
 }
 
 // The length of a memory.
-fn give_length(kept: &mut Kept, place: usize, n: u32) -> Judged
-    ensures { λ r. ⌜ noted r (now (kept .exit)) ≡ lengthOnce (now (kept .entry)) place n ⌝ }
+fn give_length(kept: &mut Kept, index: usize, n: u32) -> Judged
+    ensures { λ r. ⌜ noted r (now (kept .exit)) ≡ lengthOnce (now (kept .entry)) index n ⌝ }
 {
-    if is_given(&*kept, place) {
+    if is_given(&*kept, index) {
         return Judged::Mistake(Reason::Repeated);
     }
     if GREATEST < n {
         return Judged::Mistake(Reason::TooMuchMemory);
     }
-    give_number(&mut *kept, place, n);
+    give_number(&mut *kept, index, n);
     Judged::Fine
 }
 
@@ -110,9 +110,9 @@ fn give_predicate(kept: &mut Kept, p: u32, v: bool) -> Judged
     Judged::Fine
 }
 
-// The place of a special register in the list of them.
-fn special_place(name: SpecialName) -> usize
-    ensures { λ r. ⌜ r ≡ specialPlace name ⌝ }
+// The index of a special register in the list of them.
+fn special_index(name: SpecialName) -> usize
+    ensures { λ r. ⌜ r ≡ specialIndex name ⌝ }
 {
     match name {
         SpecialName::Sl => 0,
@@ -130,7 +130,7 @@ fn special_place(name: SpecialName) -> usize
 fn give_special(kept: &mut Kept, name: SpecialName, w: u32) -> Judged
     ensures { λ r. ⌜ noted r (now (kept .exit)) ≡ special (now (kept .entry)) name w ⌝ }
 {
-    let k = special_place(name);
+    let k = special_index(name);
     if k < 8 {
         give_number(&mut *kept, SPECIALS + k, w);
         return Judged::Fine;

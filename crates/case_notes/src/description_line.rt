@@ -34,7 +34,7 @@ fn append_word(kept: &mut Kept, word: u32, code: &mut Bytes) -> Judged
     Judged::Fine
 }
 
-// Appends the words of a code line from a place on. A line has fewer entries than bytes.
+// Appends the words of a code line from a position on. A line has fewer entries than bytes.
 fn code_line(kept: &mut Kept, line: &[u8], list: usize, code: &mut Bytes) -> Judged
     ensures { λ r. ⌜ filled r (now (kept .exit)) (now (code .exit)) ≡ codeLine (now (line .entry)) list (now (kept .entry)) (now (code .entry)) ⌝ }
 {

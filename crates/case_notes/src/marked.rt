@@ -1,7 +1,7 @@
 // The marking that a case describes, among the kept numbers.
 ghost use mathlib.Core.Path.{_≡_};
-ghost use Rattle.case_kept.specs.PlaceNumbers.{PRIVATE-REGISTERS};
-ghost use Rattle.case_kept.specs.Kept.{flagsAt};
+ghost use Rattle.case_kept.specs.Indices.{PRIVATE-REGISTERS};
+ghost use Rattle.case_kept.specs.Kept.{keptFlags};
 ghost use Rattle.case_notes.specs.Description.{noted};
 ghost use Rattle.case_notes.specs.Marking.{withRegister, withPredicate, marked, markItems, markingOf};
 use crate::Judged;
@@ -53,7 +53,7 @@ fn mark(kept: &mut Kept, item: Item)
     }
 }
 
-// The items of a private line from a place on, and whether one is a mistake. A line has fewer entries than bytes.
+// The items of a private line from a position on, and whether one is a mistake. A line has fewer entries than bytes.
 pub fn mark_items(kept: &mut Kept, line: &[u8], list: usize) -> Judged
     ensures { λ r. ⌜ noted r (now (kept .exit)) ≡ markItems (now (line .entry)) list (now (kept .entry)) ⌝ }
 {
@@ -78,7 +78,7 @@ pub fn mark_items(kept: &mut Kept, line: &[u8], list: usize) -> Judged
 }
 
 fn private_registers(kept: &Kept) -> [bool; 32]
-    ensures { λ r. ⌜ r ≡ flagsAt 32 (now (kept .entry)) PRIVATE-REGISTERS ⌝ }
+    ensures { λ r. ⌜ r ≡ keptFlags 32 (now (kept .entry)) PRIVATE-REGISTERS ⌝ }
 {
     let mut registers = [false; 32];
     let mut i = 0;

@@ -2,4 +2,5 @@ pub mod Form
 pub mod FormLaws
 pub mod Changes
 pub mod ChangesLaws
+pub mod ChangesFit
 pub mod Mistake

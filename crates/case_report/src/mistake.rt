@@ -2,7 +2,7 @@
 ghost use mathlib.Core.Path.{_≡_};
 ghost use Rattle.text.specs.Page.{page, withText};
 ghost use Rattle.case_kept.specs.Kept.{put as putNumber};
-ghost use Rattle.case_kept.specs.PlaceNumbers.{PHASE, STOPPED};
+ghost use Rattle.case_kept.specs.Indices.{PHASE, STOPPED};
 ghost use Rattle.case_report.specs.Mistake.{reasonText, errorText};
 use crate::form::say;
 use case_file::Reason;

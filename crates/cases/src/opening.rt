@@ -27,7 +27,7 @@ use case_kept::kept::word;
 use case_kept::places::Outside;
 use case_kept::places::Store;
 use case_kept::places::first_outside;
-use case_kept::places::reach_place;
+use case_kept::places::reach_index;
 use case_notes::description::is_given;
 use case_notes::kept_parts::listed;
 use case_report::form::say;
@@ -52,7 +52,7 @@ fn put_name(out: &mut [u8], line: &[u8], name: usize) -> usize {
 
 // How many bytes of a memory a case may have written: those that it has, and those of its places.
 fn written(kept: &Kept, length: usize, store: Store) -> usize {
-    let reach = number(kept, reach_place(store));
+    let reach = number(kept, reach_index(store));
     if number(kept, length) < reach {
         return reach as usize;
     }
@@ -104,9 +104,9 @@ fn fresh(
 }
 
 // A word of the state is as built where no line gave it.
-fn keep_built(kept: &mut Kept, place: usize, w: u32) {
-    if !is_given(&*kept, place) {
-        keep_word(&mut *kept, place, w);
+fn keep_built(kept: &mut Kept, index: usize, w: u32) {
+    if !is_given(&*kept, index) {
+        keep_word(&mut *kept, index, w);
     }
 }
 

@@ -30,7 +30,7 @@ pub number-end : (base v : ℕ) → numberFrom base v [] ≡ Value v
 unfolding numberFrom
 number-end base v = refl
 
--- A digit put in front of the bytes from place a on.
+-- A digit put in front of the bytes from position a on.
 pub drop-put : (s : List ℕ) (a d : ℕ) → a < length s → drop a (set s a d) ≡ d ∷ drop (a + 1) s
 drop-put s a d h =
     drop-cons (set s a d) a 0 (rw length-set h)

@@ -5,7 +5,7 @@ ghost use lib.ListN.{length, drop};
 ghost use Rattle.text.specs.Field.{spaces, fieldLength, fieldFrom, sameBytes, isNameByte, areNameBytes, isName};
 use crate::Field;
 
-// The first place from a on that holds no space.
+// The first position from a on that holds no space.
 fn after_spaces(line: &[u8], a: usize) -> usize
     requires { ⌜ a ≤ length (now line) ⌝ }
     ensures { λ r. ⌜ (r ≡ a + spaces (drop a (now (line .entry)))) × (r ≤ length (now (line .entry))) ⌝ }
@@ -20,7 +20,7 @@ fn after_spaces(line: &[u8], a: usize) -> usize
     i
 }
 
-// The first place from a on at which a field has ended.
+// The first position from a on at which a field has ended.
 fn after_field(line: &[u8], a: usize) -> usize
     requires { ⌜ a ≤ length (now line) ⌝ }
     ensures { λ r. ⌜ (r ≡ a + fieldLength (drop a (now (line .entry)))) × (a ≤ r) × (r ≤ length (now (line .entry))) ⌝ }

@@ -1,7 +1,7 @@
 use borrow.Author.Tests.{eq-eqb, ne-eqb}
 use Rattle.case_file.specs.Arguments.{argumentAt}
-use Rattle.case_file.proofs.arguments.word_at.Statement.{statement}
-use Rattle.case_file.proofs.arguments.word_at.Tie as tie
+use Rattle.case_file.proofs.arguments.word_field.Statement.{statement}
+use Rattle.case_file.proofs.arguments.word_field.Tie as tie
 
 next-field-requires : tie.Need-next-field-requires
 next-field-requires c κs = tt
@@ -36,8 +36,8 @@ returns-3 : tie.Need-returns-3
 unfolding argumentAt
 returns-3 c = rw (← c .before .before .before .before .before .next-field .ensures .0, ne-eqb _ _ (c .before .before .before .before .if1 .left), ← c .before .before .word .ensures, c .enum-told .given .1)
 
-pub word-at-spec : {M : Type 1} → statement M
-word-at-spec =
+pub word-field-spec : {M : Type 1} → statement M
+word-field-spec =
     tie.close
     (tie.spec
     next-field-requires
