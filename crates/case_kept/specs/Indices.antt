@@ -44,6 +44,16 @@ SPECIALS = 9
 abbrev pub TRANSFER : ℕ
 TRANSFER = 17
 
+-- The kinds of a waiting transfer. Where none waits, the kind is 0.
+abbrev pub BR : ℕ
+BR = 1
+
+abbrev pub CALL : ℕ
+CALL = 2
+
+abbrev pub BLOCK : ℕ
+BLOCK = 3
+
 abbrev pub TARGET : ℕ
 TARGET = 18
 

@@ -31,8 +31,15 @@ pub const BASE: usize = 8;
 // Eight special registers, in the order of the report.
 pub const SPECIALS: usize = 9;
 
-// The kind of the waiting transfer, and the numbers of its line: target, base where it has one, and wait.
+// The kind of the waiting transfer, and at TARGET the numbers of its line: target, base where it has one, and wait.
 pub const TRANSFER: usize = 17;
+
+// The kinds. Where no transfer waits, the kind is 0.
+pub const BR: u64 = 1;
+
+pub const CALL: u64 = 2;
+
+pub const BLOCK: u64 = 3;
 
 pub const TARGET: usize = 18;
 

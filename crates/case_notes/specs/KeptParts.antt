@@ -6,18 +6,8 @@ use lib.ListN.{length, getD}
 use Rattle.alu_effects.specs.declared.Specials.{Specials}
 use Rattle.effects.specs.declared.Transfer.{Transfer}
 use Rattle.effects.specs.declared.Transfer.the-variants as Transfer
-use Rattle.case_kept.specs.Indices.{SPECIALS, TRANSFER, TARGET, LOAD, LOADED, REGISTERS, PREDICATES}
+use Rattle.case_kept.specs.Indices.{SPECIALS, TRANSFER, BR, CALL, BLOCK, TARGET, LOAD, LOADED, REGISTERS, PREDICATES}
 use Rattle.case_kept.specs.Kept.{keptWord, put, flag, keptWords, putEach}
-
--- The kinds of a waiting transfer. Where none waits, the kind is 0.
-abbrev pub BR : ℕ
-BR = 1
-
-abbrev pub CALL : ℕ
-CALL = 2
-
-abbrev pub BLOCK : ℕ
-BLOCK = 3
 
 -- A waiting transfer: its kind, and the numbers of its line in their order. A line of two numbers has 0 for the third.
 abbrev pub withTransfer : List ℕ → ℕ → ℕ → ℕ → ℕ → List ℕ

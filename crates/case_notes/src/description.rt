@@ -2,14 +2,14 @@
 ghost use mathlib.Core.Path.{_≡_};
 ghost use Rattle.case_notes.specs.Description.{noted, isGiven, markGiven, give as giveAt, numberOnce, lengthOnce, transferOnce, specialIndex, register, predicate, special, given};
 use crate::Judged;
-use crate::kept_parts::BLOCK;
-use crate::kept_parts::BR;
-use crate::kept_parts::CALL;
 use crate::kept_parts::keep_load;
 use crate::kept_parts::keep_transfer;
 use case_file::Line;
 use case_file::Reason;
 use case_kept::kept::BASE;
+use case_kept::kept::BLOCK;
+use case_kept::kept::BR;
+use case_kept::kept::CALL;
 use case_kept::kept::ENTRY;
 use case_kept::kept::FETCH;
 use case_kept::kept::GIVEN;

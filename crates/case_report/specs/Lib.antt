@@ -1,5 +1,6 @@
 pub mod Form
 pub mod FormLaws
+pub mod StateLines
 pub mod Changes
 pub mod ChangesLaws
 pub mod ChangesFit

@@ -3,3 +3,4 @@ pub mod changes;
 pub mod form;
 pub mod mistake;
 pub mod output;
+pub mod state_lines;

@@ -2,7 +2,6 @@
 use crate::kept_state::keep_state;
 use crate::kept_state::state_of;
 use crate::report::put_counts;
-use crate::report::put_state;
 use bundle_rules::Answer;
 use case_kept::buffers::Bytes;
 use case_kept::buffers::Cache;
@@ -14,6 +13,7 @@ use case_kept::extent::extents_of;
 use case_kept::kept::Kept;
 use case_report::changes::put_changes;
 use case_report::form::say;
+use case_report::state_lines::put_state;
 use machine::State;
 use machine::Stepped;
 use run::Ran;
