@@ -26,7 +26,7 @@ isEmpty f = eqb (f .start) (f .end)
 abbrev pub bytesOf : List ℕ → Field → List ℕ
 bytesOf line f = take (f .end - f .start) (drop (f .start) line)
 
--- Whether no field is left from a place on.
+-- Whether no field is left from a position on.
 unfoldable pub isEnd : List ℕ → ℕ → Bool
 isEnd line at = isEmpty (fieldFrom line at)
 
@@ -34,17 +34,17 @@ abbrev pub valueOr : Reason → Number → ℕ → Argument
 valueOr reason (Number.Value n) next = Argument.Value n next
 valueOr reason Number.Bad next = Argument.Mistake reason
 
--- The next field from a place on, read as a number, and the place after it; or why it is a mistake.
+-- The next field from a position on, read as a number, and the position after it; or why it is a mistake.
 unfoldable pub argumentAt : (List ℕ → Number) → Reason → List ℕ → ℕ → Argument
 argumentAt read reason line at =
     let f = fieldFrom line at in
     cond (isEmpty f) (Argument.Mistake FieldMissing) (valueOr reason (read (bytesOf line f)) (f .end))
 
-abbrev pub numberAt : List ℕ → ℕ → Argument
-numberAt = argumentAt decimalOf NotANumber
+abbrev pub numberField : List ℕ → ℕ → Argument
+numberField = argumentAt decimalOf NotANumber
 
-abbrev pub wordAt : List ℕ → ℕ → Argument
-wordAt = argumentAt wordOf NotAWord
+abbrev pub wordField : List ℕ → ℕ → Argument
+wordField = argumentAt wordOf NotAWord
 
 abbrev pub codeWord : Argument → CodeEntry
 codeWord (Argument.Value w next) = CodeEntry.Word w next
@@ -52,7 +52,7 @@ codeWord (Argument.Mistake r) = CodeEntry.Mistake r
 
 -- The next entry of a code line.
 unfoldable pub codeEntry : List ℕ → ℕ → CodeEntry
-codeEntry line at = cond (isEnd line at) CodeEntry.End (codeWord (wordAt line at))
+codeEntry line at = cond (isEnd line at) CodeEntry.End (codeWord (wordField line at))
 
 -- The next entry of a private line.
 unfoldable pub privateEntry : List ℕ → ℕ → PrivateEntry

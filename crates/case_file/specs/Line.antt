@@ -19,19 +19,19 @@ use Rattle.case_file.specs.declared.Line.{Line}
 use Rattle.case_file.specs.declared.Line.the-variants as Line
 use Rattle.case_file.specs.declared.Reason.the-variants as Reason
 use Rattle.case_words.specs.Names.{keywordOf, transferKindOf, specialNameOf, isSpecial}
-use Rattle.case_file.specs.Arguments.{isEmpty, bytesOf, isEnd, numberAt, wordAt}
+use Rattle.case_file.specs.Arguments.{isEmpty, bytesOf, isEnd, numberField, wordField}
 
--- The line goes on after a field, with what was read and the place after it; a mistake ends it.
+-- The line goes on after a field, with what was read and the position after it; a mistake ends it.
 abbrev pub goOn : Argument → (ℕ → ℕ → Line) → Line
 goOn (Argument.Value v next) rest = rest v next
 goOn (Argument.Mistake r) rest = Line.Mistake r
 
--- The next field from a place on, as a number, as a word, or as it is written.
+-- The next field from a position on, as a number, as a word, or as it is written.
 abbrev pub number : List ℕ → ℕ → (ℕ → ℕ → Line) → Line
-number line at = goOn (numberAt line at)
+number line at = goOn (numberField line at)
 
 abbrev pub word : List ℕ → ℕ → (ℕ → ℕ → Line) → Line
-word line at = goOn (wordAt line at)
+word line at = goOn (wordField line at)
 
 abbrev pub field : List ℕ → ℕ → (Field → Line) → Line
 field line at rest =

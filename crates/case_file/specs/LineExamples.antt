@@ -22,7 +22,7 @@ abbrev pub expected : List (Text.String × Line) → List Line
 expected [] = []
 expected ((w, l) ∷ rows) = l ∷ expected rows
 
--- The rows in the order of the format. The numbers of a case, code or private line are places in the line.
+-- The rows in the order of the format. The numbers of a case, code or private line are positions in the line.
 unfoldable pub rows : List (Text.String × Line)
 rows =
     ("case bunch-split.2", Case 5)

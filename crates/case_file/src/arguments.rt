@@ -1,6 +1,6 @@
 // The fields after a line's keyword.
 ghost use mathlib.Core.Path.{_≡_};
-ghost use Rattle.case_file.specs.Arguments.{isEnd, numberAt, wordAt, codeEntry, privateEntry};
+ghost use Rattle.case_file.specs.Arguments.{isEnd, numberField, wordField, codeEntry, privateEntry};
 use crate::Argument;
 use crate::CodeEntry;
 use crate::PrivateEntry;
@@ -20,8 +20,8 @@ pub(crate) fn ended(line: &[u8], at: usize) -> bool
     f.start == f.end
 }
 
-pub(crate) fn number_at(line: &[u8], at: usize) -> Argument
-    ensures { λ r. ⌜ r ≡ numberAt (now (line .entry)) at ⌝ }
+pub(crate) fn number_field(line: &[u8], at: usize) -> Argument
+    ensures { λ r. ⌜ r ≡ numberField (now (line .entry)) at ⌝ }
 {
     let f = next_field(line, at);
     let start = f.start;
@@ -35,8 +35,8 @@ pub(crate) fn number_at(line: &[u8], at: usize) -> Argument
     }
 }
 
-pub(crate) fn word_at(line: &[u8], at: usize) -> Argument
-    ensures { λ r. ⌜ r ≡ wordAt (now (line .entry)) at ⌝ }
+pub(crate) fn word_field(line: &[u8], at: usize) -> Argument
+    ensures { λ r. ⌜ r ≡ wordField (now (line .entry)) at ⌝ }
 {
     let f = next_field(line, at);
     let start = f.start;
@@ -56,7 +56,7 @@ pub fn code_entry(line: &[u8], at: usize) -> CodeEntry
     if ended(line, at) {
         return CodeEntry::End;
     }
-    match word_at(line, at) {
+    match word_field(line, at) {
         Argument::Value { value, next } => CodeEntry::Word { word: value, next },
         Argument::Mistake(r) => CodeEntry::Mistake(r),
     }

@@ -5,7 +5,7 @@ pub mod lines;
 use case_words::Item;
 use case_words::SpecialName;
 
-// A number or word, and the place after its field.
+// A number or word, and the position after its field.
 pub enum Argument {
     Value { value: u32, next: usize },
     Mistake(Reason),
@@ -25,7 +25,7 @@ pub enum PrivateEntry {
     End,
 }
 
-// A line by its keyword. Case holds the place of the name, Code and Private the place of their lists.
+// A line by its keyword. Case holds the position of the name, Code and Private that of their lists.
 pub enum Line {
     Empty,
     Mistake(Reason),
@@ -74,4 +74,5 @@ pub enum Reason {
     TooMuchCode,
     TooMuchMemory,
     PlaceOutside,
+    UnseenByte,
 }

@@ -6,8 +6,8 @@ use crate::Argument;
 use crate::Line;
 use crate::Reason;
 use crate::arguments::ended;
-use crate::arguments::number_at;
-use crate::arguments::word_at;
+use crate::arguments::number_field;
+use crate::arguments::word_field;
 use case_words::Keyword;
 use case_words::NumberAndWord;
 use case_words::OneNumber;
@@ -70,7 +70,7 @@ fn of_number(k: OneNumber, n: u32) -> Line
 fn number_line(line: &[u8], at: usize, k: OneNumber) -> Line
     ensures { λ r. ⌜ r ≡ lineAfter (now (line .entry)) at (Keyword.OneNumber k) ⌝ }
 {
-    match number_at(line, at) {
+    match number_field(line, at) {
         Argument::Mistake(r) => Line::Mistake(r),
         Argument::Value { value, next } => whole(line, next, of_number(k, value)),
     }
@@ -100,9 +100,9 @@ fn of_word(k: NumberAndWord, n: u32, word: u32) -> Line
 fn word_line(line: &[u8], at: usize, k: NumberAndWord) -> Line
     ensures { λ r. ⌜ r ≡ lineAfter (now (line .entry)) at (Keyword.NumberAndWord k) ⌝ }
 {
-    match number_at(line, at) {
+    match number_field(line, at) {
         Argument::Mistake(r) => Line::Mistake(r),
-        Argument::Value { value, next } => match word_at(line, next) {
+        Argument::Value { value, next } => match word_field(line, next) {
             Argument::Mistake(r) => Line::Mistake(r),
             Argument::Value {
                 value: word,
@@ -130,9 +130,9 @@ fn pred(number: u32, bit: u32) -> Line
 fn pred_line(line: &[u8], at: usize) -> Line
     ensures { λ r. ⌜ r ≡ lineAfter (now (line .entry)) at Keyword.Pred ⌝ }
 {
-    match number_at(line, at) {
+    match number_field(line, at) {
         Argument::Mistake(r) => Line::Mistake(r),
-        Argument::Value { value, next } => match number_at(line, next) {
+        Argument::Value { value, next } => match number_field(line, next) {
             Argument::Mistake(r) => Line::Mistake(r),
             Argument::Value {
                 value: bit,
@@ -155,7 +155,7 @@ fn special_line(line: &[u8], at: usize) -> Line
     if let SpecialName::Unknown = name {
         return Line::Mistake(Reason::NoSuchSpecial);
     }
-    match word_at(line, end) {
+    match word_field(line, end) {
         Argument::Mistake(r) => Line::Mistake(r),
         Argument::Value { value, next } => whole(line, next, Line::Special { name, word: value }),
     }
@@ -182,11 +182,11 @@ fn of_three(stack: bool, a: u32, b: u32, c: u32) -> Line
 fn three_numbers(line: &[u8], at: usize, stack: bool) -> Line
     ensures { λ r. ⌜ r ≡ threeNumbers (now (line .entry)) at (λ a b c. cond stack (Line.Stack a b c) (Line.Block a b c)) ⌝ }
 {
-    match number_at(line, at) {
+    match number_field(line, at) {
         Argument::Mistake(r) => Line::Mistake(r),
-        Argument::Value { value: a, next } => match number_at(line, next) {
+        Argument::Value { value: a, next } => match number_field(line, next) {
             Argument::Mistake(r) => Line::Mistake(r),
-            Argument::Value { value: b, next } => match number_at(line, next) {
+            Argument::Value { value: b, next } => match number_field(line, next) {
                 Argument::Mistake(r) => Line::Mistake(r),
                 Argument::Value { value: c, next } => whole(line, next, of_three(stack, a, b, c)),
             },
@@ -206,12 +206,12 @@ fn br_or_call(call: bool, target: u32, wait: u32) -> Line
 fn two_numbers(line: &[u8], at: usize, call: bool) -> Line
     ensures { λ r. ⌜ r ≡ twoNumbers (now (line .entry)) at (λ t w. cond call (Line.Call t w) (Line.Br t w)) ⌝ }
 {
-    match number_at(line, at) {
+    match number_field(line, at) {
         Argument::Mistake(r) => Line::Mistake(r),
         Argument::Value {
             value: target,
             next,
-        } => match number_at(line, next) {
+        } => match number_field(line, next) {
             Argument::Mistake(r) => Line::Mistake(r),
             Argument::Value { value: wait, next } => whole(
                 line,

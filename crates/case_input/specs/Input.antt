@@ -13,7 +13,7 @@ use Rattle.case_input.specs.declared.Found.the-variants as found
 abbrev pub closed : Found → Input
 closed f = record { at = 0; end = 0; held = 0; ended = true; found = f }
 
--- Bytes of the piece from a place to another are to be taken, and some of a line are held.
+-- Bytes of the piece from a position to another are to be taken, and some of a line are held.
 abbrev pub goingOn : ℕ → ℕ → ℕ → Found → Input
 goingOn at end held f = record { at = at; end = end; held = held; ended = false; found = f }
 

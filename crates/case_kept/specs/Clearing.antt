@@ -11,7 +11,7 @@ COPY = 65536
 abbrev pub CACHE-COPY : ℕ
 CACHE-COPY = 513
 
--- Numbers set one after the other from a place on: what a rule gives for 0, 1, .. up to n.
+-- Numbers set one after the other from an index on: what a rule gives for 0, 1, .. up to n.
 unfoldable pub setEach : ℕ → ℕ → (ℕ → ℕ) → List ℕ → List ℕ
 setEach first zero f l = l
 setEach first (suc n) f l = set (setEach first n f l) (first + n) (f n)

@@ -12,10 +12,10 @@ pub set-none : (first : ℕ) (f : ℕ → ℕ) (l : List ℕ) → l ≡ setEach 
 unfolding setEach
 set-none first f l = refl
 
--- One number more, at the place i after the first.
-pub set-more : (first i place n : ℕ) (f : ℕ → ℕ) (l now : List ℕ) → place ≡ first + i → n ≡ f i → now ≡ setEach first i f l → set now place n ≡ setEach first (i + 1) f l
+-- One number more, at the index i after the first.
+pub set-more : (first i index n : ℕ) (f : ℕ → ℕ) (l now : List ℕ) → index ≡ first + i → n ≡ f i → now ≡ setEach first i f l → set now index n ≡ setEach first (i + 1) f l
 unfolding setEach
-set-more first i place n f l now p q e = rw (e, p, q, add-one i)
+set-more first i index n f l now p q e = rw (e, p, q, add-one i)
 
 -- What lies in front, or behind, is as it was.
 pub get-in-front : (first n : ℕ) (f : ℕ → ℕ) (l : List ℕ) (k : ℕ) → k < first → getD (setEach first n f l) k 0 ≡ getD l k 0

@@ -11,7 +11,7 @@ pub up-to-none : {A : Type 0} (f : ℕ → A) → [] ≡ upTo 0 f
 unfolding upTo
 up-to-none f = refl
 
--- A list that agrees with the rule up to i agrees one further when its place i is given what the rule gives.
+-- A list that agrees with the rule up to i agrees one further when at i it is given what the rule gives.
 pub up-to-more : {A : Type 0} (f : ℕ → A) (l : List A) (i : ℕ) (a : A) → i < length l → take i l ≡ upTo i f → a ≡ f i → take (i + 1) (set l i a) ≡ upTo (i + 1) f
 unfolding upTo
 up-to-more {A} f l i a h e q =
@@ -22,7 +22,7 @@ pub put-none : (first : ℕ) (f : ℕ → ℕ) (kept : List ℕ) → kept ≡ pu
 unfolding putEach
 put-none first f kept = refl
 
--- One number more, at the place i after the first.
-pub put-more : (first i place n : ℕ) (f : ℕ → ℕ) (kept now : List ℕ) → place ≡ first + i → n ≡ f i → now ≡ putEach first i f kept → put now place n ≡ putEach first (i + 1) f kept
+-- One number more, at the index i after the first.
+pub put-more : (first i index n : ℕ) (f : ℕ → ℕ) (kept now : List ℕ) → index ≡ first + i → n ≡ f i → now ≡ putEach first i f kept → put now index n ≡ putEach first (i + 1) f kept
 unfolding putEach
-put-more first i place n f kept now p q e = rw (e, p, q, add-one i)
+put-more first i index n f kept now p q e = rw (e, p, q, add-one i)

@@ -1,5 +1,5 @@
--- Open first: Kept.antt, then PlaceNumbers.antt and Places.antt.
-pub mod PlaceNumbers
+-- Open first: Kept.antt, then Indices.antt and Places.antt.
+pub mod Indices
 pub mod Kept
 pub mod KeptLaws
 pub mod Places

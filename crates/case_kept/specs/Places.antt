@@ -9,8 +9,8 @@ use Rattle.case_kept.specs.declared.places.Store.{Store}
 use Rattle.case_kept.specs.declared.places.Store.the-variants as Store
 use Rattle.case_kept.specs.declared.places.Outside.{Outside}
 use Rattle.case_kept.specs.declared.places.Outside.the-variants as Outside
-use Rattle.case_kept.specs.PlaceNumbers.{MAIN, LOCAL, WORDS, REACH, NOTED, LINE, NOTES}
-use Rattle.case_kept.specs.Kept.{numberAt, put}
+use Rattle.case_kept.specs.Indices.{MAIN, LOCAL, WORDS, REACH, NOTED, LINE, NOTES}
+use Rattle.case_kept.specs.Kept.{keptNumber, put}
 
 -- A last byte that no memory has.
 abbrev pub NO-BYTE : ℕ
@@ -22,16 +22,16 @@ unfoldable pub lastByte : ℕ → ℕ
 lastByte address = cond (eqb (address % 4) 0) (cond (ltb 65532 address) NO-BYTE (address + 3)) NO-BYTE
 
 -- Where it is kept how far the places of a store reach.
-abbrev pub reachPlace : Store → ℕ
-reachPlace Store.Main = REACH
-reachPlace Store.Local = REACH + 1
-reachPlace Store.Cache = REACH + 2
+abbrev pub reachIndex : Store → ℕ
+reachIndex Store.Main = REACH
+reachIndex Store.Local = REACH + 1
+reachIndex Store.Cache = REACH + 2
 
 -- Where the length of a store is kept.
-abbrev pub lengthPlace : Store → ℕ
-lengthPlace Store.Main = MAIN
-lengthPlace Store.Local = LOCAL
-lengthPlace Store.Cache = WORDS
+abbrev pub lengthIndex : Store → ℕ
+lengthIndex Store.Main = MAIN
+lengthIndex Store.Local = LOCAL
+lengthIndex Store.Cache = WORDS
 
 -- There is room for this many notes, more than a file of 1 MiB can make. Places after them are not judged.
 abbrev pub ROOM : ℕ
@@ -41,27 +41,27 @@ ROOM = 50000
 abbrev pub withNote : List ℕ → ℕ → Store → ℕ → List ℕ
 withNote kept n store last =
     let at = NOTES + 3 * n in
-    let line = numberAt kept LINE in
-    put (put (put (put kept at (lengthPlace store)) (at + 1) last) (at + 2) line) NOTED (n + 1)
+    let line = keptNumber kept LINE in
+    put (put (put (put kept at (lengthIndex store)) (at + 1) last) (at + 2) line) NOTED (n + 1)
 
 abbrev pub noteIfRoom : List ℕ → Store → ℕ → List ℕ
 noteIfRoom kept store last =
-    let n = numberAt kept NOTED in
+    let n = keptNumber kept NOTED in
     cond (leb ROOM n) kept (withNote kept n store last)
 
 -- A place of a store, by its last byte or word.
 unfoldable pub notePlace : List ℕ → Store → ℕ → List ℕ
 notePlace kept store last =
-    cond (leb (last + 1) (numberAt kept (reachPlace store))) kept
-    (noteIfRoom (put kept (reachPlace store) (last + 1)) store last)
+    cond (leb (last + 1) (keptNumber kept (reachIndex store))) kept
+    (noteIfRoom (put kept (reachIndex store) (last + 1)) store last)
 
--- The first of n notes from a place on whose last byte or word is none of its store's.
+-- The first of n notes from an index on whose last byte or word is none of its store's.
 unfoldable pub outsideFrom : ℕ → List ℕ → ℕ → Outside
 outsideFrom zero kept at = Outside.Nowhere
 outsideFrom (suc n) kept at =
-    cond (leb (numberAt kept (numberAt kept at)) (numberAt kept (at + 1))) (Outside.Line (numberAt kept (at + 2)))
+    cond (leb (keptNumber kept (keptNumber kept at)) (keptNumber kept (at + 1))) (Outside.Line (keptNumber kept (at + 2)))
     (outsideFrom n kept (at + 3))
 
 -- The line of the first place outside its store.
 unfoldable pub firstOutside : List ℕ → Outside
-firstOutside kept = outsideFrom (min (numberAt kept NOTED) ROOM) kept NOTES
+firstOutside kept = outsideFrom (min (keptNumber kept NOTED) ROOM) kept NOTES

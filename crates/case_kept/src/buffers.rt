@@ -19,6 +19,10 @@ pub type Cache = [u32; 1026];
 
 pub const CACHE_COPY: usize = 513;
 
+// What a line of the file has to report, before it is written out. The longest report is that of an operation which changes every
+// word of both memories and of the stack cache: some 683,000 bytes.
+pub type Report = [u8; 1048576];
+
 // The lesser of two lengths.
 pub fn least(a: usize, b: usize) -> usize
     ensures { λ r. ⌜ (r ≤ a) × (r ≤ b) × (r ≡ min a b) ⌝ }

@@ -12,7 +12,7 @@ use crate::kept::WORDS;
 use crate::kept::word;
 ghost use mathlib.Core.Path.{_≡_};
 ghost use Prim.Native.Nat.{_≤_};
-ghost use Rattle.case_kept.specs.Extent.{bytesAt, cacheWords, extentsOf};
+ghost use Rattle.case_kept.specs.Extent.{keptBytes, cacheWords, extentsOf};
 
 // The bytes of the code and the memories, how many words of the cache are lent, and the stack area.
 pub struct Extents {
@@ -25,7 +25,7 @@ pub struct Extents {
 }
 
 fn bytes_of(kept: &Kept, length: usize) -> usize
-    ensures { λ r. ⌜ (r ≤ 65536) × (r ≡ bytesAt (now (kept .entry)) length) ⌝ }
+    ensures { λ r. ⌜ (r ≤ 65536) × (r ≡ keptBytes (now (kept .entry)) length) ⌝ }
 {
     least(word(kept, length) as usize, COPY)
 }

@@ -1,8 +1,8 @@
-// The numbers that are kept from line to line, in one lent list: where the file stands, what the description lines of the case
+// The numbers that are kept from line to line, in one lent list, each at an index of its own: where the file stands, what the description lines of the case
 // say, the case's state, its marking, and the places that it names.
 ghost use mathlib.Core.Path.{_≡_};
 ghost use Prim.Native.Nat.{_+_};
-ghost use Rattle.case_kept.specs.Kept.{numberAt, wordAt, isSet, put, flag as flagOf, flagsAt, forgotten};
+ghost use Rattle.case_kept.specs.Kept.{keptNumber, keptWord, isSet, put, flag as flagOf, keptFlags, forgotten};
 
 pub const ALL: usize = 150200;
 
@@ -31,8 +31,15 @@ pub const BASE: usize = 8;
 // Eight special registers, in the order of the report.
 pub const SPECIALS: usize = 9;
 
-// The kind of the waiting transfer, and the numbers of its line: target, base where it has one, and wait.
+// The kind of the waiting transfer, and at TARGET the numbers of its line: target, base where it has one, and wait.
 pub const TRANSFER: usize = 17;
+
+// The kinds. Where no transfer waits, the kind is 0.
+pub const BR: u64 = 1;
+
+pub const CALL: u64 = 2;
+
+pub const BLOCK: u64 = 3;
 
 pub const TARGET: usize = 18;
 
@@ -89,28 +96,28 @@ pub const REFUSED: u64 = 3;
 
 pub const STOPPED: u64 = 4;
 
-pub fn number(kept: &Kept, place: usize) -> u64
-    ensures { λ r. ⌜ r ≡ numberAt (now (kept .entry)) place ⌝ }
+pub fn number(kept: &Kept, index: usize) -> u64
+    ensures { λ r. ⌜ r ≡ keptNumber (now (kept .entry)) index ⌝ }
 {
-    if place < ALL {
-        return kept[place];
+    if index < ALL {
+        return kept[index];
     }
     0
 }
 
-pub fn word(kept: &Kept, place: usize) -> u32
-    ensures { λ r. ⌜ r ≡ wordAt (now (kept .entry)) place ⌝ }
+pub fn word(kept: &Kept, index: usize) -> u32
+    ensures { λ r. ⌜ r ≡ keptWord (now (kept .entry)) index ⌝ }
 {
-    (number(kept, place) % 4294967296) as u32
+    (number(kept, index) % 4294967296) as u32
 }
 
-pub fn is_set(kept: &Kept, place: usize) -> bool
-    ensures { λ r. ⌜ r ≡ isSet (now (kept .entry)) place ⌝ }
+pub fn is_set(kept: &Kept, index: usize) -> bool
+    ensures { λ r. ⌜ r ≡ isSet (now (kept .entry)) index ⌝ }
 {
-    number(kept, place) != 0
+    number(kept, index) != 0
 }
 
-// The same i places further on, of which there may be none.
+// The same i further on, where there may be nothing.
 pub fn is_set_after(kept: &Kept, first: usize, i: usize) -> bool
     ensures { λ r. ⌜ r ≡ isSet (now (kept .entry)) (first + i) ⌝ }
 {
@@ -123,15 +130,15 @@ pub fn is_set_after(kept: &Kept, first: usize, i: usize) -> bool
     is_set(kept, first + i)
 }
 
-pub fn keep(kept: &mut Kept, place: usize, n: u64)
-    ensures { λ _. ⌜ now (kept .exit) ≡ put (now (kept .entry)) place n ⌝ }
+pub fn keep(kept: &mut Kept, index: usize, n: u64)
+    ensures { λ _. ⌜ now (kept .exit) ≡ put (now (kept .entry)) index n ⌝ }
 {
-    if place < ALL {
-        kept[place] = n;
+    if index < ALL {
+        kept[index] = n;
     }
 }
 
-// The same i places further on, of which there may be none.
+// The same i further on, where there may be nothing.
 pub fn keep_after(kept: &mut Kept, first: usize, i: usize, n: u64)
     ensures { λ _. ⌜ now (kept .exit) ≡ put (now (kept .entry)) (first + i) n ⌝ }
 {
@@ -144,25 +151,25 @@ pub fn keep_after(kept: &mut Kept, first: usize, i: usize, n: u64)
     keep(&mut *kept, first + i, n);
 }
 
-pub fn keep_word(kept: &mut Kept, place: usize, w: u32)
-    ensures { λ _. ⌜ now (kept .exit) ≡ put (now (kept .entry)) place w ⌝ }
+pub fn keep_word(kept: &mut Kept, index: usize, w: u32)
+    ensures { λ _. ⌜ now (kept .exit) ≡ put (now (kept .entry)) index w ⌝ }
 {
-    keep(&mut *kept, place, w as u64);
+    keep(&mut *kept, index, w as u64);
 }
 
-pub fn keep_flag(kept: &mut Kept, place: usize, flag: bool)
-    ensures { λ _. ⌜ now (kept .exit) ≡ put (now (kept .entry)) place (flagOf flag) ⌝ }
+pub fn keep_flag(kept: &mut Kept, index: usize, flag: bool)
+    ensures { λ _. ⌜ now (kept .exit) ≡ put (now (kept .entry)) index (flagOf flag) ⌝ }
 {
     if flag {
-        keep(&mut *kept, place, 1);
+        keep(&mut *kept, index, 1);
         return;
     }
-    keep(&mut *kept, place, 0);
+    keep(&mut *kept, index, 0);
 }
 
-// Eight flags from a place on.
+// Eight flags from an index on.
 pub fn flags_of(kept: &Kept, first: usize) -> [bool; 8]
-    ensures { λ r. ⌜ r ≡ flagsAt 8 (now (kept .entry)) first ⌝ }
+    ensures { λ r. ⌜ r ≡ keptFlags 8 (now (kept .entry)) first ⌝ }
 {
     let mut flags = [false; 8];
     let mut i = 0;

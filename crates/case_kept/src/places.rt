@@ -1,7 +1,7 @@
 // The places that a case names in its memories and in its stack cache. Their lines may come before those that give the lengths,
 // so they are noted and judged at the first operation. Only a place further out than all before it can be the first mistake.
 ghost use mathlib.Core.Path.{_≡_};
-ghost use Rattle.case_kept.specs.Places.{lastByte, reachPlace, lengthPlace, noteIfRoom, notePlace, firstOutside};
+ghost use Rattle.case_kept.specs.Places.{lastByte, reachIndex, lengthIndex, noteIfRoom, notePlace, firstOutside};
 use crate::buffers::least;
 use crate::kept::Kept;
 use crate::kept::LINE;
@@ -44,8 +44,8 @@ pub fn last_byte(address: u32) -> u32
 }
 
 // Where it is kept how far the places of a store reach.
-pub fn reach_place(store: Store) -> usize
-    ensures { λ r. ⌜ r ≡ reachPlace store ⌝ }
+pub fn reach_index(store: Store) -> usize
+    ensures { λ r. ⌜ r ≡ reachIndex store ⌝ }
 {
     match store {
         Store::Main => REACH,
@@ -55,8 +55,8 @@ pub fn reach_place(store: Store) -> usize
 }
 
 // Where the length of a store is kept.
-fn length_place(store: Store) -> usize
-    ensures { λ r. ⌜ r ≡ lengthPlace store ⌝ }
+fn length_index(store: Store) -> usize
+    ensures { λ r. ⌜ r ≡ lengthIndex store ⌝ }
 {
     match store {
         Store::Main => MAIN,
@@ -74,7 +74,7 @@ fn note_if_room(kept: &mut Kept, store: Store, last: u32)
         return;
     }
     let line = kept[LINE];
-    let length = length_place(store) as u64;
+    let length = length_index(store) as u64;
     let at = NOTES + 3 * (n as usize);
     kept[at] = length;
     kept[at + 1] = last as u64;
@@ -87,7 +87,7 @@ pub fn note(kept: &mut Kept, store: Store, last: u32)
     ensures { λ _. ⌜ now (kept .exit) ≡ notePlace (now (kept .entry)) store last ⌝ }
 {
     let end = (last as u64) + 1;
-    let reach = reach_place(store);
+    let reach = reach_index(store);
     if end <= number(&*kept, reach) {
         return;
     }

@@ -8,39 +8,40 @@ use Rattle.case_file.specs.declared.Line.the-variants as Line
 use Rattle.case_file.specs.declared.Reason.the-variants as Reason
 use Rattle.case_words.specs.declared.SpecialName.{SpecialName}
 use Rattle.case_words.specs.declared.SpecialName.the-variants as SpecialName
-use Rattle.case_kept.specs.PlaceNumbers.{MAIN, LOCAL, WORDS, LO, HI, ENTRY, FETCH, BASE, SPECIALS, TRANSFER, LOAD, REGISTERS, PREDICATES, GIVEN}
+use Rattle.case_kept.specs.Indices.{MAIN, LOCAL, WORDS, LO, HI, ENTRY, FETCH, BASE, SPECIALS, TRANSFER, BR, CALL, BLOCK, LOAD, REGISTERS, PREDICATES, GIVEN}
 use Rattle.case_kept.specs.Kept.{isSet, put, flag}
-use Rattle.case_notes.specs.KeptParts.{BR, CALL, BLOCK, withTransfer, withLoad}
-use Rattle.case_notes.specs.Mistake.{NO-MISTAKE, rowOf}
+use Rattle.case_notes.specs.KeptParts.{withTransfer, withLoad}
+use Rattle.case_notes.specs.declared.Judged.{Judged}
+use Rattle.case_notes.specs.declared.Judged.the-variants as Judged
 
--- What a line leaves: the row of its mistake, and the kept numbers.
+-- What a line leaves: whether it is a mistake, and the kept numbers.
 pub record Noted : Type 0 where
-  pub row : ℕ
+  pub judged : Judged
   pub kept : List ℕ
 
-abbrev pub noted : ℕ → List ℕ → Noted
-noted row kept = record { row = row; kept = kept }
+abbrev pub noted : Judged → List ℕ → Noted
+noted judged kept = record { judged = judged; kept = kept }
 
 abbrev pub fine : List ℕ → Noted
-fine kept = noted NO-MISTAKE kept
+fine kept = noted Judged.Fine kept
 
--- Whether a line gave the number at a place.
+-- Whether a line gave the number at an index.
 abbrev pub isGiven : List ℕ → ℕ → Bool
-isGiven kept place = isSet kept (GIVEN + place)
+isGiven kept index = isSet kept (GIVEN + index)
 
 abbrev pub markGiven : List ℕ → ℕ → List ℕ
-markGiven kept place = put kept (GIVEN + place) 1
+markGiven kept index = put kept (GIVEN + index) 1
 
 -- A number, and that a line gave it.
 abbrev pub give : List ℕ → ℕ → ℕ → List ℕ
-give kept place n = put (markGiven kept place) place n
+give kept index n = put (markGiven kept index) index n
 
--- A line that may stand once and comes again is a mistake. It is known by the place of its first number.
+-- A line that may stand once and comes again is a mistake. It is known by the index of its first number.
 abbrev pub once : List ℕ → ℕ → Noted → Noted
-once kept place rest = cond (isGiven kept place) (noted (rowOf Reason.Repeated) kept) rest
+once kept index rest = cond (isGiven kept index) (noted (Judged.Mistake Reason.Repeated) kept) rest
 
 abbrev pub numberOnce : List ℕ → ℕ → ℕ → Noted
-numberOnce kept place n = once kept place (fine (give kept place n))
+numberOnce kept index n = once kept index (fine (give kept index n))
 
 -- The greatest length of the code and of each memory, in bytes.
 abbrev pub GREATEST : ℕ
@@ -48,24 +49,24 @@ GREATEST = 65536
 
 -- The length of a memory; one above 65,536 bytes is a mistake.
 abbrev pub lengthOnce : List ℕ → ℕ → ℕ → Noted
-lengthOnce kept place n = once kept place (cond (ltb GREATEST n) (noted (rowOf Reason.TooMuchMemory) kept) (fine (give kept place n)))
+lengthOnce kept index n = once kept index (cond (ltb GREATEST n) (noted (Judged.Mistake Reason.TooMuchMemory) kept) (fine (give kept index n)))
 
 abbrev pub transferOnce : List ℕ → ℕ → ℕ → ℕ → ℕ → Noted
 transferOnce kept kind a b c = once kept TRANSFER (fine (withTransfer (markGiven kept TRANSFER) kind a b c))
 
--- The order of the special registers. A name that is none of them has no place below 8.
-abbrev pub specialPlace : SpecialName → ℕ
-specialPlace SpecialName.Sl = 0
-specialPlace SpecialName.Sh = 1
-specialPlace SpecialName.Ss = 2
-specialPlace SpecialName.St = 3
-specialPlace SpecialName.Srb = 4
-specialPlace SpecialName.Sro = 5
-specialPlace SpecialName.Sxb = 6
-specialPlace SpecialName.Sxo = 7
-specialPlace SpecialName.Unknown = 8
+-- The order of the special registers. A name that is none of them has no index below 8.
+abbrev pub specialIndex : SpecialName → ℕ
+specialIndex SpecialName.Sl = 0
+specialIndex SpecialName.Sh = 1
+specialIndex SpecialName.Ss = 2
+specialIndex SpecialName.St = 3
+specialIndex SpecialName.Srb = 4
+specialIndex SpecialName.Sro = 5
+specialIndex SpecialName.Sxb = 6
+specialIndex SpecialName.Sxo = 7
+specialIndex SpecialName.Unknown = 8
 
--- Lines that may come again: for one place the last one counts.
+-- Lines that may come again: for one number the last one counts.
 abbrev pub register : List ℕ → ℕ → ℕ → Noted
 register kept r w = fine (cond (ltb r 32) (put kept (REGISTERS + r) w) kept)
 
@@ -73,7 +74,7 @@ abbrev pub predicate : List ℕ → ℕ → Bool → Noted
 predicate kept p v = fine (cond (ltb p 8) (put kept (PREDICATES + p) (flag v)) kept)
 
 abbrev pub special : List ℕ → SpecialName → ℕ → Noted
-special kept name w = fine (cond (ltb (specialPlace name) 8) (give kept (SPECIALS + specialPlace name) w) kept)
+special kept name w = fine (cond (ltb (specialIndex name) 8) (give kept (SPECIALS + specialIndex name) w) kept)
 
 -- The lines that need nothing but their own numbers, by the table of the description lines. Every other line leaves the numbers alone.
 unfoldable pub given : Line → List ℕ → Noted

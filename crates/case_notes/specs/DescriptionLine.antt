@@ -3,7 +3,7 @@ use Prim.Native.Nat.{ℕ, zero, suc, _+_, min}
 use mathlib.Core.Bool.{cond}
 use mathlib.Core.List.{List, _++_}
 use lib.ListN.{length, take, drop}
-use lib.Dec.{leb, eqb}
+use lib.Dec.{leb}
 use Rattle.big_endian.specs.Bytes.{putWord}
 use Rattle.case_file.specs.declared.CodeEntry.{CodeEntry}
 use Rattle.case_file.specs.declared.CodeEntry.the-variants as CodeEntry
@@ -13,41 +13,46 @@ use Rattle.case_file.specs.declared.Reason.the-variants as Reason
 use Rattle.case_file.specs.Arguments.{codeEntry}
 use Rattle.case_kept.specs.declared.places.Store.{Store}
 use Rattle.case_kept.specs.declared.places.Store.the-variants as Store
-use Rattle.case_kept.specs.PlaceNumbers.{CODE}
-use Rattle.case_kept.specs.Kept.{numberAt, put}
-use Rattle.case_notes.specs.Mistake.{NO-MISTAKE, rowOf}
+use Rattle.case_kept.specs.Indices.{CODE}
+use Rattle.case_kept.specs.Kept.{keptNumber, put}
+use Rattle.case_notes.specs.declared.Judged.{Judged}
+use Rattle.case_notes.specs.declared.Judged.the-variants as Judged
 use Rattle.case_notes.specs.Description.{Noted, GREATEST, given}
 use Rattle.case_notes.specs.Marking.{markItems}
 use Rattle.case_kept.specs.Places.{lastByte, notePlace}
 use Rattle.case_kept.specs.Clearing.{COPY, putInCopy}
 
--- What a line leaves that fills one buffer: the row of its mistake, the kept numbers, and the buffer.
+-- What a line leaves that fills one buffer: whether it is a mistake, the kept numbers, and the buffer.
 pub record Filled : Type 0 where
-  pub row : ℕ
+  pub judged : Judged
   pub kept : List ℕ
   pub buffer : List ℕ
 
-abbrev pub filled : ℕ → List ℕ → List ℕ → Filled
-filled row kept buffer = record { row = row; kept = kept; buffer = buffer }
+abbrev pub filled : Judged → List ℕ → List ℕ → Filled
+filled judged kept buffer = record { judged = judged; kept = kept; buffer = buffer }
 
 -- A code word goes behind those that the case has. Where the greatest length leaves no room for it, the line is a mistake.
 unfoldable pub appended : List ℕ → ℕ → List ℕ → Filled
 appended kept w code =
-    let n = numberAt kept CODE in
-    cond (leb GREATEST n) (filled (rowOf Reason.TooMuchCode) kept code) (filled NO-MISTAKE (put kept CODE (n + 4)) (putWord code n w))
+    let n = keptNumber kept CODE in
+    cond (leb GREATEST n) (filled (Judged.Mistake Reason.TooMuchCode) kept code) (filled Judged.Fine (put kept CODE (n + 4)) (putWord code n w))
 
 -- The line goes on where there was no mistake.
+abbrev pub orMistake : Judged → Filled → Filled → Filled
+orMistake Judged.Fine rest f = rest
+orMistake (Judged.Mistake r) rest f = f
+
 abbrev pub andThen : Filled → (List ℕ → List ℕ → Filled) → Filled
-andThen f rest = cond (eqb (f .row) NO-MISTAKE) (rest (f .kept) (f .buffer)) f
+andThen f rest = orMistake (f .judged) (rest (f .kept) (f .buffer)) f
 
 abbrev pub appendEntry : CodeEntry → List ℕ → List ℕ → (ℕ → List ℕ → List ℕ → Filled) → Filled
 appendEntry (CodeEntry.Word w next) kept code rest = andThen (appended kept w code) (rest next)
-appendEntry (CodeEntry.Mistake r) kept code rest = filled (rowOf r) kept code
-appendEntry CodeEntry.End kept code rest = filled NO-MISTAKE kept code
+appendEntry (CodeEntry.Mistake r) kept code rest = filled (Judged.Mistake r) kept code
+appendEntry CodeEntry.End kept code rest = filled Judged.Fine kept code
 
--- At most n entries of a code line from a place on.
+-- At most n entries of a code line from a position on.
 unfoldable pub appendFrom : ℕ → List ℕ → ℕ → List ℕ → List ℕ → Filled
-appendFrom zero line at kept code = filled NO-MISTAKE kept code
+appendFrom zero line at kept code = filled Judged.Fine kept code
 appendFrom (suc n) line at kept code = appendEntry (codeEntry line at) kept code (appendFrom n line)
 
 -- A line has no more entries than bytes.
@@ -62,38 +67,38 @@ putBelowCopy memory address w =
 
 -- `mainword` and `localword`: the word is put there at once, and its place is judged later.
 unfoldable pub memoryWord : List ℕ → Store → ℕ → ℕ → List ℕ → Filled
-memoryWord kept store address w memory = filled NO-MISTAKE (notePlace kept store (lastByte address)) (putBelowCopy memory address w)
+memoryWord kept store address w memory = filled Judged.Fine (notePlace kept store (lastByte address)) (putBelowCopy memory address w)
 
 unfoldable pub cacheWord : List ℕ → ℕ → ℕ → List ℕ → Filled
-cacheWord kept place w cache = filled NO-MISTAKE (notePlace kept Store.Cache place) (putInCopy cache place w)
+cacheWord kept place w cache = filled Judged.Fine (notePlace kept Store.Cache place) (putInCopy cache place w)
 
 -- What a description line leaves.
 pub record Described : Type 0 where
-  pub row : ℕ
+  pub judged : Judged
   pub code : List ℕ
   pub main : List ℕ
   pub local : List ℕ
   pub cache : List ℕ
   pub kept : List ℕ
 
-abbrev pub described : ℕ → List ℕ → List ℕ → List ℕ → List ℕ → List ℕ → Described
-described row code main local cache kept = record { row = row; code = code; main = main; local = local; cache = cache; kept = kept }
+abbrev pub described : Judged → List ℕ → List ℕ → List ℕ → List ℕ → List ℕ → Described
+described judged code main local cache kept = record { judged = judged; code = code; main = main; local = local; cache = cache; kept = kept }
 
 module _ (line code main local cache kept : List ℕ) where
   abbrev pub inCode : Filled → Described
-  inCode f = described (f .row) (f .buffer) main local cache (f .kept)
+  inCode f = described (f .judged) (f .buffer) main local cache (f .kept)
 
   abbrev pub inMain : Filled → Described
-  inMain f = described (f .row) code (f .buffer) local cache (f .kept)
+  inMain f = described (f .judged) code (f .buffer) local cache (f .kept)
 
   abbrev pub inLocal : Filled → Described
-  inLocal f = described (f .row) code main (f .buffer) cache (f .kept)
+  inLocal f = described (f .judged) code main (f .buffer) cache (f .kept)
 
   abbrev pub inCache : Filled → Described
-  inCache f = described (f .row) code main local (f .buffer) (f .kept)
+  inCache f = described (f .judged) code main local (f .buffer) (f .kept)
 
   abbrev pub inKept : Noted → Described
-  inKept n = described (n .row) code main local cache (n .kept)
+  inKept n = described (n .judged) code main local cache (n .kept)
 
   -- The lines of the table, by what they fill.
   unfoldable pub describedBy : Line → Described

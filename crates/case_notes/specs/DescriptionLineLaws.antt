@@ -5,9 +5,10 @@ use mathlib.Core.List.{List}
 use native.Mathlib.Numerals.{sub-one}
 use native.Mathlib.Omega.{arith}
 use Rattle.case_file.specs.Arguments.{codeEntry}
+use Rattle.case_notes.specs.declared.Judged.the-variants as Judged
 use Rattle.case_notes.specs.DescriptionLine.{filled, appendEntry, appendFrom}
 
-pub append-none : (n : ℕ) (line : List ℕ) (at : ℕ) (kept code : List ℕ) → n ≤ 0 → appendFrom n line at kept code ≡ filled 0 kept code
+pub append-none : (n : ℕ) (line : List ℕ) (at : ℕ) (kept code : List ℕ) → n ≤ 0 → appendFrom n line at kept code ≡ filled Judged.Fine kept code
 unfolding appendFrom
 append-none zero line at kept code h = refl
 append-none (suc n) line at kept code h = absurd (omega arith)

@@ -6,18 +6,8 @@ use lib.ListN.{length, getD}
 use Rattle.alu_effects.specs.declared.Specials.{Specials}
 use Rattle.effects.specs.declared.Transfer.{Transfer}
 use Rattle.effects.specs.declared.Transfer.the-variants as Transfer
-use Rattle.case_kept.specs.PlaceNumbers.{SPECIALS, TRANSFER, TARGET, LOAD, LOADED, REGISTERS, PREDICATES}
-use Rattle.case_kept.specs.Kept.{wordAt, put, flag, wordsAt, putEach}
-
--- The kinds of a waiting transfer. Where none waits, the kind is 0.
-abbrev pub BR : ℕ
-BR = 1
-
-abbrev pub CALL : ℕ
-CALL = 2
-
-abbrev pub BLOCK : ℕ
-BLOCK = 3
+use Rattle.case_kept.specs.Indices.{SPECIALS, TRANSFER, BR, CALL, BLOCK, TARGET, LOAD, LOADED, REGISTERS, PREDICATES}
+use Rattle.case_kept.specs.Kept.{keptWord, put, flag, keptWords, putEach}
 
 -- A waiting transfer: its kind, and the numbers of its line in their order. A line of two numbers has 0 for the third.
 abbrev pub withTransfer : List ℕ → ℕ → ℕ → ℕ → ℕ → List ℕ
@@ -34,19 +24,19 @@ withTarget kept (Transfer.Call target) wait = withTransfer kept CALL target wait
 withTarget kept (Transfer.Block target base) wait = withTransfer kept BLOCK target base wait
 
 abbrev pub registersOf : List ℕ → List ℕ
-registersOf kept = wordsAt 32 kept REGISTERS
+registersOf kept = keptWords 32 kept REGISTERS
 
 -- The special registers stand in the order of the report.
 abbrev pub specialsOf : List ℕ → Specials
 specialsOf kept = record {
-  sl = wordAt kept SPECIALS;
-  sh = wordAt kept (SPECIALS + 1);
-  ss = wordAt kept (SPECIALS + 2);
-  st = wordAt kept (SPECIALS + 3);
-  srb = wordAt kept (SPECIALS + 4);
-  sro = wordAt kept (SPECIALS + 5);
-  sxb = wordAt kept (SPECIALS + 6);
-  sxo = wordAt kept (SPECIALS + 7);
+  sl = keptWord kept SPECIALS;
+  sh = keptWord kept (SPECIALS + 1);
+  ss = keptWord kept (SPECIALS + 2);
+  st = keptWord kept (SPECIALS + 3);
+  srb = keptWord kept (SPECIALS + 4);
+  sro = keptWord kept (SPECIALS + 5);
+  sxb = keptWord kept (SPECIALS + 6);
+  sxo = keptWord kept (SPECIALS + 7);
 }
 
 abbrev pub listOf : Specials → List ℕ

@@ -1,6 +1,5 @@
 -- Open first: Description.antt, then DescriptionLine.antt and Marking.antt.
 pub mod KeptParts
-pub mod Mistake
 pub mod Description
 pub mod Marking
 pub mod MarkingLaws

@@ -10,9 +10,9 @@ use Rattle.case_file.specs.declared.PrivateEntry.{PrivateEntry}
 use Rattle.case_file.specs.declared.PrivateEntry.the-variants as PrivateEntry
 use Rattle.case_file.specs.Arguments.{privateEntry}
 use Rattle.marking.specs.declared.Marking.{Marking}
-use Rattle.case_kept.specs.PlaceNumbers.{PRIVATE-REGISTERS, PRIVATE-PREDICATES, PRIVATE-SL, PRIVATE-SH, PRIVATE-MAIN, PRIVATE-LOCAL, PRIVATE-STACK}
-use Rattle.case_kept.specs.Kept.{isSet, put, flagsAt}
-use Rattle.case_notes.specs.Mistake.{rowOf}
+use Rattle.case_kept.specs.Indices.{PRIVATE-REGISTERS, PRIVATE-PREDICATES, PRIVATE-SL, PRIVATE-SH, PRIVATE-MAIN, PRIVATE-LOCAL, PRIVATE-STACK}
+use Rattle.case_kept.specs.Kept.{isSet, put, keptFlags}
+use Rattle.case_notes.specs.declared.Judged.the-variants as Judged
 use Rattle.case_notes.specs.Description.{Noted, noted, fine}
 
 abbrev pub withRegister : List ℕ → ℕ → List ℕ
@@ -35,10 +35,10 @@ marked kept Item.Unknown = kept
 -- What an entry of a private line does: an item is marked and the line goes on after it; a mistake or the end ends it.
 abbrev pub markEntry : PrivateEntry → List ℕ → (ℕ → List ℕ → Noted) → Noted
 markEntry (PrivateEntry.Item item next) kept rest = rest next (marked kept item)
-markEntry (PrivateEntry.Mistake r) kept rest = noted (rowOf r) kept
+markEntry (PrivateEntry.Mistake r) kept rest = noted (Judged.Mistake r) kept
 markEntry PrivateEntry.End kept rest = fine kept
 
--- At most n entries of a private line from a place on. The items before a mistake are marked.
+-- At most n entries of a private line from a position on. The items before a mistake are marked.
 unfoldable pub markFrom : ℕ → List ℕ → ℕ → List ℕ → Noted
 markFrom zero line at kept = fine kept
 markFrom (suc n) line at kept = markEntry (privateEntry line at) kept (markFrom n line)
@@ -50,8 +50,8 @@ markItems line list kept = markFrom (length line) line list kept
 -- The marking of a case: what no private line names is public.
 abbrev pub markingOf : List ℕ → Marking
 markingOf kept = record {
-  registers = flagsAt 32 kept PRIVATE-REGISTERS;
-  predicates = flagsAt 8 kept PRIVATE-PREDICATES;
+  registers = keptFlags 32 kept PRIVATE-REGISTERS;
+  predicates = keptFlags 8 kept PRIVATE-PREDICATES;
   sl = isSet kept PRIVATE-SL;
   sh = isSet kept PRIVATE-SH;
   main = isSet kept PRIVATE-MAIN;

@@ -1,16 +1,15 @@
-// What the description lines of a case say of its numbers, gathered in any order. Each function answers the row of the mistake.
+// What the description lines of a case say of its numbers, gathered in any order. Each function answers whether the line is a mistake.
 ghost use mathlib.Core.Path.{_≡_};
-ghost use Rattle.case_notes.specs.Description.{noted, isGiven, markGiven, give as giveAt, numberOnce, lengthOnce, transferOnce, specialPlace, register, predicate, special, given};
-use crate::kept_parts::BLOCK;
-use crate::kept_parts::BR;
-use crate::kept_parts::CALL;
+ghost use Rattle.case_notes.specs.Description.{noted, isGiven, markGiven, give as giveAt, numberOnce, lengthOnce, transferOnce, specialIndex, register, predicate, special, given};
+use crate::Judged;
 use crate::kept_parts::keep_load;
 use crate::kept_parts::keep_transfer;
-use crate::mistake::NO_MISTAKE;
-use crate::mistake::REPEATED;
-use crate::mistake::TOO_MUCH_MEMORY;
 use case_file::Line;
+use case_file::Reason;
 use case_kept::kept::BASE;
+use case_kept::kept::BLOCK;
+use case_kept::kept::BR;
+use case_kept::kept::CALL;
 use case_kept::kept::ENTRY;
 use case_kept::kept::FETCH;
 use case_kept::kept::GIVEN;
@@ -33,87 +32,87 @@ use case_words::SpecialName;
 
 const GREATEST: u32 = 65536;
 
-// Whether a line gave the number at a place.
-pub fn is_given(kept: &Kept, place: usize) -> bool
-    ensures { λ r. ⌜ r ≡ isGiven (now (kept .entry)) place ⌝ }
+// Whether a line gave the number at an index.
+pub fn is_given(kept: &Kept, index: usize) -> bool
+    ensures { λ r. ⌜ r ≡ isGiven (now (kept .entry)) index ⌝ }
 {
-    is_set_after(kept, GIVEN, place)
+    is_set_after(kept, GIVEN, index)
 }
 
-fn mark_given(kept: &mut Kept, place: usize)
-    ensures { λ _. ⌜ now (kept .exit) ≡ markGiven (now (kept .entry)) place ⌝ }
+fn mark_given(kept: &mut Kept, index: usize)
+    ensures { λ _. ⌜ now (kept .exit) ≡ markGiven (now (kept .entry)) index ⌝ }
 {
-    keep_after(&mut *kept, GIVEN, place, 1);
+    keep_after(&mut *kept, GIVEN, index, 1);
 }
 
 // A number, and that a line gave it.
-fn give_number(kept: &mut Kept, place: usize, n: u32)
-    ensures { λ _. ⌜ now (kept .exit) ≡ giveAt (now (kept .entry)) place n ⌝ }
+fn give_number(kept: &mut Kept, index: usize, n: u32)
+    ensures { λ _. ⌜ now (kept .exit) ≡ giveAt (now (kept .entry)) index n ⌝ }
 {
-    mark_given(&mut *kept, place);
-    keep_word(&mut *kept, place, n);
+    mark_given(&mut *kept, index);
+    keep_word(&mut *kept, index, n);
 }
 
 // A number that a case gives once.
-fn give_once(kept: &mut Kept, place: usize, n: u32) -> usize
-    ensures { λ r. ⌜ noted r (now (kept .exit)) ≡ numberOnce (now (kept .entry)) place n ⌝ }
+fn give_once(kept: &mut Kept, index: usize, n: u32) -> Judged
+    ensures { λ r. ⌜ noted r (now (kept .exit)) ≡ numberOnce (now (kept .entry)) index n ⌝ }
 {
-    if is_given(&*kept, place) {
-        return REPEATED;
+    if is_given(&*kept, index) {
+        return Judged::Mistake(Reason::Repeated);
     }
-    give_number(&mut *kept, place, n);
-    NO_MISTAKE
+    give_number(&mut *kept, index, n);
+    Judged::Fine
 }
 
 // The length of a memory.
-fn give_length(kept: &mut Kept, place: usize, n: u32) -> usize
-    ensures { λ r. ⌜ noted r (now (kept .exit)) ≡ lengthOnce (now (kept .entry)) place n ⌝ }
+fn give_length(kept: &mut Kept, index: usize, n: u32) -> Judged
+    ensures { λ r. ⌜ noted r (now (kept .exit)) ≡ lengthOnce (now (kept .entry)) index n ⌝ }
 {
-    if is_given(&*kept, place) {
-        return REPEATED;
+    if is_given(&*kept, index) {
+        return Judged::Mistake(Reason::Repeated);
     }
     if GREATEST < n {
-        return TOO_MUCH_MEMORY;
+        return Judged::Mistake(Reason::TooMuchMemory);
     }
-    give_number(&mut *kept, place, n);
-    NO_MISTAKE
+    give_number(&mut *kept, index, n);
+    Judged::Fine
 }
 
-fn give_stack(kept: &mut Kept, words: u32, lo: u32, hi: u32) -> usize
+fn give_stack(kept: &mut Kept, words: u32, lo: u32, hi: u32) -> Judged
     ensures { λ r. ⌜ noted r (now (kept .exit)) ≡ given (Line.Stack words lo hi) (now (kept .entry)) ⌝ }
 {
     if is_given(&*kept, WORDS) {
-        return REPEATED;
+        return Judged::Mistake(Reason::Repeated);
     }
     give_number(&mut *kept, WORDS, words);
     kept[LO] = lo as u64;
     kept[HI] = hi as u64;
-    NO_MISTAKE
+    Judged::Fine
 }
 
-fn give_register(kept: &mut Kept, r: u32, w: u32) -> usize
+fn give_register(kept: &mut Kept, r: u32, w: u32) -> Judged
     ensures { λ n. ⌜ noted n (now (kept .exit)) ≡ register (now (kept .entry)) r w ⌝ }
 {
     if r < 32 {
         keep_word(&mut *kept, REGISTERS + (r as usize), w);
-        return NO_MISTAKE;
+        return Judged::Fine;
     }
-    NO_MISTAKE
+    Judged::Fine
 }
 
-fn give_predicate(kept: &mut Kept, p: u32, v: bool) -> usize
+fn give_predicate(kept: &mut Kept, p: u32, v: bool) -> Judged
     ensures { λ r. ⌜ noted r (now (kept .exit)) ≡ predicate (now (kept .entry)) p v ⌝ }
 {
     if p < 8 {
         keep_flag(&mut *kept, PREDICATES + (p as usize), v);
-        return NO_MISTAKE;
+        return Judged::Fine;
     }
-    NO_MISTAKE
+    Judged::Fine
 }
 
-// The place of a special register in the list of them.
-fn special_place(name: SpecialName) -> usize
-    ensures { λ r. ⌜ r ≡ specialPlace name ⌝ }
+// The index of a special register in the list of them.
+fn special_index(name: SpecialName) -> usize
+    ensures { λ r. ⌜ r ≡ specialIndex name ⌝ }
 {
     match name {
         SpecialName::Sl => 0,
@@ -128,41 +127,41 @@ fn special_place(name: SpecialName) -> usize
     }
 }
 
-fn give_special(kept: &mut Kept, name: SpecialName, w: u32) -> usize
+fn give_special(kept: &mut Kept, name: SpecialName, w: u32) -> Judged
     ensures { λ r. ⌜ noted r (now (kept .exit)) ≡ special (now (kept .entry)) name w ⌝ }
 {
-    let k = special_place(name);
+    let k = special_index(name);
     if k < 8 {
         give_number(&mut *kept, SPECIALS + k, w);
-        return NO_MISTAKE;
+        return Judged::Fine;
     }
-    NO_MISTAKE
+    Judged::Fine
 }
 
-fn give_transfer(kept: &mut Kept, kind: u64, a: u32, b: u32, c: u32) -> usize
+fn give_transfer(kept: &mut Kept, kind: u64, a: u32, b: u32, c: u32) -> Judged
     ensures { λ r. ⌜ noted r (now (kept .exit)) ≡ transferOnce (now (kept .entry)) kind a b c ⌝ }
 {
     if is_given(&*kept, TRANSFER) {
-        return REPEATED;
+        return Judged::Mistake(Reason::Repeated);
     }
     mark_given(&mut *kept, TRANSFER);
     keep_transfer(&mut *kept, kind, a, b, c);
-    NO_MISTAKE
+    Judged::Fine
 }
 
-fn give_load(kept: &mut Kept, register: u32, value: u32) -> usize
+fn give_load(kept: &mut Kept, register: u32, value: u32) -> Judged
     ensures { λ r. ⌜ noted r (now (kept .exit)) ≡ given (Line.Load register value) (now (kept .entry)) ⌝ }
 {
     if is_given(&*kept, LOAD) {
-        return REPEATED;
+        return Judged::Mistake(Reason::Repeated);
     }
     mark_given(&mut *kept, LOAD);
     keep_load(&mut *kept, register, value);
-    NO_MISTAKE
+    Judged::Fine
 }
 
 // A line that needs nothing but its own numbers.
-pub fn give(kept: &mut Kept, said: Line) -> usize
+pub fn give(kept: &mut Kept, said: Line) -> Judged
     ensures { λ r. ⌜ noted r (now (kept .exit)) ≡ given said (now (kept .entry)) ⌝ }
 {
     match said {
@@ -181,6 +180,6 @@ pub fn give(kept: &mut Kept, said: Line) -> usize
             give_transfer(&mut *kept, BLOCK, target, base, wait)
         }
         Line::Load { number, word } => give_load(&mut *kept, number, word),
-        _ => NO_MISTAKE,
+        _ => Judged::Fine,
     }
 }

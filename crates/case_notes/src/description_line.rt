@@ -1,14 +1,13 @@
-// The description lines that fill a buffer. Each function answers the row of the mistake.
+// The description lines that fill a buffer. Each function answers whether the line is a mistake.
 ghost use mathlib.Core.Path.{_≡_};
 ghost use Rattle.case_notes.specs.DescriptionLine.{filled, appended, codeLine, putBelowCopy, memoryWord, cacheWord, described, describedBy};
+use crate::Judged;
 use crate::description::give;
 use crate::marked::mark_items;
-use crate::mistake::NO_MISTAKE;
-use crate::mistake::TOO_MUCH_CODE;
-use crate::mistake::row_of;
 use big_endian::write_word;
 use case_file::CodeEntry;
 use case_file::Line;
+use case_file::Reason;
 use case_file::arguments::code_entry;
 use case_kept::buffers::Bytes;
 use case_kept::buffers::COPY;
@@ -23,20 +22,20 @@ use case_kept::places::last_byte;
 use case_kept::places::note;
 
 // Appends a word to the code, or answers the mistake that there is no room.
-fn append_word(kept: &mut Kept, word: u32, code: &mut Bytes) -> usize
+fn append_word(kept: &mut Kept, word: u32, code: &mut Bytes) -> Judged
     ensures { λ r. ⌜ filled r (now (kept .exit)) (now (code .exit)) ≡ appended (now (kept .entry)) word (now (code .entry)) ⌝ }
 {
     let n = kept[CODE];
     if 65536 <= n {
-        return TOO_MUCH_CODE;
+        return Judged::Mistake(Reason::TooMuchCode);
     }
     write_word(&mut *code, n as u32, word);
     kept[CODE] = n + 4;
-    NO_MISTAKE
+    Judged::Fine
 }
 
-// Appends the words of a code line from a place on. A line has fewer entries than bytes.
-fn code_line(kept: &mut Kept, line: &[u8], list: usize, code: &mut Bytes) -> usize
+// Appends the words of a code line from a position on. A line has fewer entries than bytes.
+fn code_line(kept: &mut Kept, line: &[u8], list: usize, code: &mut Bytes) -> Judged
     ensures { λ r. ⌜ filled r (now (kept .exit)) (now (code .exit)) ≡ codeLine (now (line .entry)) list (now (kept .entry)) (now (code .entry)) ⌝ }
 {
     let mut at = list;
@@ -45,21 +44,20 @@ fn code_line(kept: &mut Kept, line: &[u8], list: usize, code: &mut Bytes) -> usi
         left -= 1;
         match code_entry(line, at) {
             CodeEntry::End => {
-                return NO_MISTAKE;
+                return Judged::Fine;
             }
             CodeEntry::Mistake(r) => {
-                return row_of(r);
+                return Judged::Mistake(r);
             }
             CodeEntry::Word { word, next } => {
-                let row = append_word(&mut *kept, word, &mut *code);
-                if row != NO_MISTAKE {
-                    return row;
+                if let Judged::Mistake(r) = append_word(&mut *kept, word, &mut *code) {
+                    return Judged::Mistake(r);
                 }
                 at = next;
             }
         }
     }
-    NO_MISTAKE
+    Judged::Fine
 }
 
 // Bytes that no memory has are not written.
@@ -71,20 +69,26 @@ fn write_below_copy(memory: &mut [u8], address: u32, word: u32)
 }
 
 // A word of a memory is put there at once.
-fn memory_word(kept: &mut Kept, store: Store, address: u32, word: u32, memory: &mut Memory) -> usize
+fn memory_word(
+    kept: &mut Kept,
+    store: Store,
+    address: u32,
+    word: u32,
+    memory: &mut Memory,
+) -> Judged
     ensures { λ r. ⌜ filled r (now (kept .exit)) (now (memory .exit)) ≡ memoryWord (now (kept .entry)) store address word (now (memory .entry)) ⌝ }
 {
     write_below_copy(&mut *memory, address, word);
     note(&mut *kept, store, last_byte(address));
-    NO_MISTAKE
+    Judged::Fine
 }
 
-fn cache_word(kept: &mut Kept, place: u32, word: u32, cache: &mut Cache) -> usize
+fn cache_word(kept: &mut Kept, place: u32, word: u32, cache: &mut Cache) -> Judged
     ensures { λ r. ⌜ filled r (now (kept .exit)) (now (cache .exit)) ≡ cacheWord (now (kept .entry)) place word (now (cache .entry)) ⌝ }
 {
     put_in_copy(&mut *cache, place as usize, word);
     note(&mut *kept, Store::Cache, place);
-    NO_MISTAKE
+    Judged::Fine
 }
 
 // A description line.
@@ -96,7 +100,7 @@ pub fn describe(
     local: &mut Memory,
     cache: &mut Cache,
     kept: &mut Kept,
-) -> usize
+) -> Judged
     ensures { λ r. ⌜ described r (now (code .exit)) (now (main .exit)) (now (local .exit)) (now (cache .exit)) (now (kept .exit)) ≡ describedBy (now (line .entry)) (now (code .entry)) (now (main .entry)) (now (local .entry)) (now (cache .entry)) (now (kept .entry)) said ⌝ }
 {
     match said {

@@ -2,6 +2,9 @@
 ghost use mathlib.Core.Path.{_≡_};
 ghost use Rattle.case_notes.specs.KeptParts.{withTransfer, withLoad, withTarget, registersOf, specialsOf, listOf, withWords, withPredicates};
 use alu_effects::Specials;
+use case_kept::kept::BLOCK;
+use case_kept::kept::BR;
+use case_kept::kept::CALL;
 use case_kept::kept::Kept;
 use case_kept::kept::LOAD;
 use case_kept::kept::LOADED;
@@ -14,13 +17,6 @@ use case_kept::kept::keep_after;
 use case_kept::kept::keep_flag;
 use case_kept::kept::word;
 use effects::Transfer;
-
-// The kinds of a waiting transfer. Where none waits, the kind is 0.
-pub const BR: u64 = 1;
-
-pub const CALL: u64 = 2;
-
-pub const BLOCK: u64 = 3;
 
 pub fn registers_of(kept: &Kept) -> [u32; 32]
     ensures { λ r. ⌜ r ≡ registersOf (now (kept .entry)) ⌝ }

@@ -3,4 +3,11 @@ pub mod description;
 pub mod description_line;
 pub mod kept_parts;
 pub mod marked;
-pub mod mistake;
+
+use case_file::Reason;
+
+// Whether a line was taken, or why it is a mistake.
+pub enum Judged {
+    Fine,
+    Mistake(Reason),
+}

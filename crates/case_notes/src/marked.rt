@@ -1,11 +1,10 @@
 // The marking that a case describes, among the kept numbers.
 ghost use mathlib.Core.Path.{_≡_};
-ghost use Rattle.case_kept.specs.PlaceNumbers.{PRIVATE-REGISTERS};
-ghost use Rattle.case_kept.specs.Kept.{flagsAt};
+ghost use Rattle.case_kept.specs.Indices.{PRIVATE-REGISTERS};
+ghost use Rattle.case_kept.specs.Kept.{keptFlags};
 ghost use Rattle.case_notes.specs.Description.{noted};
 ghost use Rattle.case_notes.specs.Marking.{withRegister, withPredicate, marked, markItems, markingOf};
-use crate::mistake::NO_MISTAKE;
-use crate::mistake::row_of;
+use crate::Judged;
 use case_file::PrivateEntry;
 use case_file::arguments::private_entry;
 use case_kept::kept::Kept;
@@ -54,8 +53,8 @@ fn mark(kept: &mut Kept, item: Item)
     }
 }
 
-// The items of a private line from a place on, and the row of the mistake. A line has fewer entries than bytes.
-pub fn mark_items(kept: &mut Kept, line: &[u8], list: usize) -> usize
+// The items of a private line from a position on, and whether one is a mistake. A line has fewer entries than bytes.
+pub fn mark_items(kept: &mut Kept, line: &[u8], list: usize) -> Judged
     ensures { λ r. ⌜ noted r (now (kept .exit)) ≡ markItems (now (line .entry)) list (now (kept .entry)) ⌝ }
 {
     let mut at = list;
@@ -64,10 +63,10 @@ pub fn mark_items(kept: &mut Kept, line: &[u8], list: usize) -> usize
         left -= 1;
         match private_entry(line, at) {
             PrivateEntry::End => {
-                return NO_MISTAKE;
+                return Judged::Fine;
             }
             PrivateEntry::Mistake(r) => {
-                return row_of(r);
+                return Judged::Mistake(r);
             }
             PrivateEntry::Item { item, next } => {
                 mark(&mut *kept, item);
@@ -75,11 +74,11 @@ pub fn mark_items(kept: &mut Kept, line: &[u8], list: usize) -> usize
             }
         }
     }
-    NO_MISTAKE
+    Judged::Fine
 }
 
 fn private_registers(kept: &Kept) -> [bool; 32]
-    ensures { λ r. ⌜ r ≡ flagsAt 32 (now (kept .entry)) PRIVATE-REGISTERS ⌝ }
+    ensures { λ r. ⌜ r ≡ keptFlags 32 (now (kept .entry)) PRIVATE-REGISTERS ⌝ }
 {
     let mut registers = [false; 32];
     let mut i = 0;

@@ -1,4 +1,6 @@
-// The texts of the report. What is written out gives nothing back, and changes no buffer.
+// The texts of the report, put into a lent buffer, and the one function that writes a buffer out.
 pub mod changes;
+pub mod form;
 pub mod mistake;
 pub mod output;
+pub mod state_lines;

@@ -5,12 +5,12 @@ use case_kept::extent::Extents;
 use case_kept::extent::extents_of;
 use case_kept::kept::Kept;
 use case_notes::marked::marking_of;
-use case_report::output::say;
-use case_report::output::tell;
+use case_report::form::say;
 use settings::Config;
 use single_path::Checked;
 use single_path::Marking;
 use single_path::Rule;
+use text::page::put;
 
 fn letter(r: Rule) -> u8 {
     match r {
@@ -23,26 +23,32 @@ fn letter(r: Rule) -> u8 {
 }
 
 // Refusal 1 is one of the marking, and has no address.
-fn put_refused(number: u32, address: u32) {
+fn put_refused(out: &mut [u8], number: u32, address: u32) -> usize {
     if number == 1 {
-        tell(b"check refused 1\n");
-        return;
+        return put(&mut *out, 0, b"check refused 1\n");
     }
-    say(b"check refused % at %\n", &[number as u64, address as u64]);
+    say(
+        &mut *out,
+        0,
+        b"check refused % at %\n",
+        &[number as u64, address as u64],
+    )
 }
 
-fn put_broken(address: u32, letter: u8) {
+fn put_broken(out: &mut [u8], address: u32, letter: u8) -> usize {
     say(
+        &mut *out,
+        0,
         b"check refused 9 at % rule $\n",
         &[address as u64, letter as u64],
-    );
+    )
 }
 
-fn put_checked(c: Checked) {
+fn put_checked(out: &mut [u8], c: Checked) -> usize {
     match c {
-        Checked::Accepted => tell(b"check accepted\n"),
-        Checked::Refused { number, address } => put_refused(number, address),
-        Checked::Broken { address, rule } => put_broken(address, letter(rule)),
+        Checked::Accepted => put(&mut *out, 0, b"check accepted\n"),
+        Checked::Refused { number, address } => put_refused(&mut *out, number, address),
+        Checked::Broken { address, rule } => put_broken(&mut *out, address, letter(rule)),
     }
 }
 
@@ -52,6 +58,9 @@ fn check_part(code: &[u8], e: Extents, marking: Marking) -> Checked {
     single_path::check(&code[0..c], e.main, e.local, e.words, config, marking)
 }
 
-pub(crate) fn do_check(code: &Bytes, kept: &Kept) {
-    put_checked(check_part(code, extents_of(kept), marking_of(kept)));
+pub(crate) fn do_check(code: &Bytes, kept: &Kept, out: &mut [u8]) -> usize {
+    put_checked(
+        &mut *out,
+        check_part(code, extents_of(kept), marking_of(kept)),
+    )
 }

@@ -1,5 +1,8 @@
 // The state of a case among the kept numbers.
 use case_kept::kept::BASE;
+use case_kept::kept::BLOCK;
+use case_kept::kept::BR;
+use case_kept::kept::CALL;
 use case_kept::kept::FETCH;
 use case_kept::kept::Kept;
 use case_kept::kept::LOAD;
@@ -13,9 +16,6 @@ use case_kept::kept::flags_of;
 use case_kept::kept::is_set;
 use case_kept::kept::number;
 use case_kept::kept::word;
-use case_notes::kept_parts::BLOCK;
-use case_notes::kept_parts::BR;
-use case_notes::kept_parts::CALL;
 use case_notes::kept_parts::keep_load;
 use case_notes::kept_parts::keep_predicates;
 use case_notes::kept_parts::keep_target;

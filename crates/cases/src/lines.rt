@@ -1,8 +1,11 @@
-// Lines of the file, one after the other.
+// Lines of the file, one after the other. What a line has to report is put at the front of a buffer, of which each function answers
+// how much is used, and is written out before the next line is read.
 use crate::opening::open_case;
 use crate::opening::start_case;
 use crate::perform::perform;
+use bytes::scan::find;
 use case_file::Line;
+use case_file::Reason;
 use case_file::lines::read_line;
 use case_input::Found;
 use case_input::look;
@@ -11,6 +14,7 @@ use case_kept::buffers::Bytes;
 use case_kept::buffers::Cache;
 use case_kept::buffers::LineBytes;
 use case_kept::buffers::Memory;
+use case_kept::buffers::Report;
 use case_kept::buffers::least;
 use case_kept::kept::DESCRIBED;
 use case_kept::kept::Kept;
@@ -19,20 +23,16 @@ use case_kept::kept::NO_CASE;
 use case_kept::kept::OPEN;
 use case_kept::kept::PHASE;
 use case_kept::kept::STOPPED;
+use case_notes::Judged;
 use case_notes::description_line::describe;
-use case_notes::mistake::AFTER_OPERATION;
-use case_notes::mistake::BEFORE_FIRST_CASE;
-use case_notes::mistake::LINE_TOO_LONG;
-use case_notes::mistake::NO_MISTAKE;
-use case_notes::mistake::row_of;
-use case_report::mistake::UNSEEN_BYTE;
 use case_report::mistake::fail;
+use case_report::output::write_out;
 use std::num::wrapping_add_u64;
 
 // What a line is to the case.
 enum Kind {
     Empty,
-    Mistake(usize),
+    Mistake(Reason),
     Start(usize),
     Operation,
     Description,
@@ -41,7 +41,7 @@ enum Kind {
 fn kind_of(said: Line) -> Kind {
     match said {
         Line::Empty => Kind::Empty,
-        Line::Mistake(r) => Kind::Mistake(row_of(r)),
+        Line::Mistake(r) => Kind::Mistake(r),
         Line::Case { name } => Kind::Start(name),
         Line::Run(_) => Kind::Operation,
         Line::Step => Kind::Operation,
@@ -56,16 +56,16 @@ fn kind_in(phase: u64, kind: Kind) -> Kind {
     match kind {
         Kind::Operation => {
             if phase == NO_CASE {
-                return Kind::Mistake(BEFORE_FIRST_CASE);
+                return Kind::Mistake(Reason::BeforeFirstCase);
             }
             Kind::Operation
         }
         Kind::Description => {
             if phase == NO_CASE {
-                return Kind::Mistake(BEFORE_FIRST_CASE);
+                return Kind::Mistake(Reason::BeforeFirstCase);
             }
             if phase != DESCRIBED {
-                return Kind::Mistake(AFTER_OPERATION);
+                return Kind::Mistake(Reason::AfterOperation);
             }
             Kind::Description
         }
@@ -75,47 +75,55 @@ fn kind_in(phase: u64, kind: Kind) -> Kind {
 
 // Whether a tab or a carriage return stands in a line, in front of its comment.
 fn has_unseen_byte(line: &[u8]) -> bool {
-    let mut i = 0;
-    while i < line.len() {
-        if line[i] == b'#' {
-            return false;
-        }
-        if (line[i] == b'\t') | (line[i] == b'\r') {
-            return true;
-        }
-        i += 1;
-    }
-    false
+    let end = find(line, 0, line.len(), b'#');
+    (find(line, 0, end, b'\t') < end) | (find(line, 0, end, b'\r') < end)
 }
 
 // What is told of a mistake: first what cannot be seen in the line.
-fn reason(line: &[u8], row: usize) -> usize {
+fn reason(line: &[u8], r: Reason) -> Reason {
     if has_unseen_byte(line) {
-        return UNSEEN_BYTE;
+        return Reason::UnseenByte;
     }
-    row
+    r
 }
 
 // A mistake of the line that was read last.
-fn fail_here(kept: &mut Kept, row: usize) {
+fn fail_here(kept: &mut Kept, r: Reason, out: &mut [u8]) -> usize {
     let line = kept[LINE];
-    fail(&mut *kept, line, row);
+    fail(&mut *out, 0, &mut *kept, line, r)
 }
 
-fn judged(kept: &mut Kept, row: usize) {
-    if row != NO_MISTAKE {
-        fail_here(&mut *kept, row);
+fn judged(kept: &mut Kept, j: Judged, out: &mut [u8]) -> usize {
+    match j {
+        Judged::Fine => 0,
+        Judged::Mistake(r) => fail_here(&mut *kept, r, &mut *out),
     }
 }
 
 // Where the case is described, it is opened, refused or found mistaken.
-fn ready(code: &Bytes, main: &mut Memory, local: &mut Memory, cache: &mut Cache, kept: &mut Kept) {
+fn ready(
+    code: &Bytes,
+    main: &mut Memory,
+    local: &mut Memory,
+    cache: &mut Cache,
+    kept: &mut Kept,
+    out: &mut [u8],
+) -> usize {
     if kept[PHASE] == DESCRIBED {
-        open_case(code, &mut *main, &mut *local, &mut *cache, &mut *kept);
+        return open_case(
+            code,
+            &mut *main,
+            &mut *local,
+            &mut *cache,
+            &mut *kept,
+            &mut *out,
+        );
     }
+    0
 }
 
-// An operation line: the first of a case opens it. After a refused opening nothing is done.
+// An operation line: the first of a case opens it, which is reported only where it is refused. After a refused opening nothing is
+// done.
 fn operation_line(
     said: Line,
     code: &Bytes,
@@ -123,11 +131,28 @@ fn operation_line(
     local: &mut Memory,
     cache: &mut Cache,
     kept: &mut Kept,
-) {
-    ready(code, &mut *main, &mut *local, &mut *cache, &mut *kept);
+    out: &mut [u8],
+) -> usize {
+    let used = ready(
+        code,
+        &mut *main,
+        &mut *local,
+        &mut *cache,
+        &mut *kept,
+        &mut *out,
+    );
     if kept[PHASE] == OPEN {
-        perform(said, code, &mut *main, &mut *local, &mut *cache, &mut *kept);
+        return perform(
+            said,
+            code,
+            &mut *main,
+            &mut *local,
+            &mut *cache,
+            &mut *kept,
+            &mut *out,
+        );
     }
+    used
 }
 
 // The next line, without its line end.
@@ -138,12 +163,13 @@ fn take_line(
     local: &mut Memory,
     cache: &mut Cache,
     kept: &mut Kept,
-) {
+    out: &mut [u8],
+) -> usize {
     kept[LINE] = wrapping_add_u64(kept[LINE], 1);
     let said = read_line(line);
     match kind_in(kept[PHASE], kind_of(said)) {
-        Kind::Empty => (),
-        Kind::Mistake(row) => fail_here(&mut *kept, reason(line, row)),
+        Kind::Empty => 0,
+        Kind::Mistake(r) => fail_here(&mut *kept, reason(line, r), &mut *out),
         Kind::Start(name) => start_case(
             line,
             name,
@@ -151,6 +177,7 @@ fn take_line(
             &mut *local,
             &mut *cache,
             &mut *kept,
+            &mut *out,
         ),
         Kind::Operation => operation_line(
             said,
@@ -159,9 +186,10 @@ fn take_line(
             &mut *local,
             &mut *cache,
             &mut *kept,
+            &mut *out,
         ),
         Kind::Description => {
-            let row = describe(
+            let j = describe(
                 said,
                 line,
                 &mut *code,
@@ -170,24 +198,28 @@ fn take_line(
                 &mut *cache,
                 &mut *kept,
             );
-            judged(&mut *kept, row);
+            judged(&mut *kept, j, &mut *out)
         }
     }
 }
 
 // The file gave no line.
-fn without_line(found: Found, path: &[u8], kept: &mut Kept) {
+fn without_line(found: Found, path: &[u8], kept: &mut Kept, out: &mut [u8]) -> usize {
     match found {
         Found::Unreadable => {
             os::fail(path);
             kept[PHASE] = STOPPED;
+            0
         }
-        Found::End => kept[PHASE] = STOPPED,
+        Found::End => {
+            kept[PHASE] = STOPPED;
+            0
+        }
         Found::TooLong => {
             let line = wrapping_add_u64(kept[LINE], 1);
-            fail(&mut *kept, line, LINE_TOO_LONG);
+            fail(&mut *out, 0, &mut *kept, line, Reason::LineTooLong)
         }
-        _ => (),
+        _ => 0,
     }
 }
 
@@ -201,7 +233,8 @@ fn take(
     local: &mut Memory,
     cache: &mut Cache,
     kept: &mut Kept,
-) {
+    out: &mut [u8],
+) -> usize {
     match found {
         Found::Line(n) => {
             let end = least(n, 4000);
@@ -213,9 +246,10 @@ fn take(
                 &mut *local,
                 &mut *cache,
                 &mut *kept,
-            );
+                &mut *out,
+            )
         }
-        _ => without_line(found, path, &mut *kept),
+        _ => without_line(found, path, &mut *kept, &mut *out),
     }
 }
 
@@ -230,6 +264,7 @@ pub(crate) fn read_all(
     local: &mut Memory,
     cache: &mut Cache,
     kept: &mut Kept,
+    out: &mut Report,
 ) {
     let mut s = no_input();
     let mut turns = u64::MAX;
@@ -237,7 +272,7 @@ pub(crate) fn read_all(
         turns -= 1;
         s = look(fd, &mut *piece, &mut *line, s);
         let found = s.found;
-        take(
+        let used = take(
             found,
             path,
             &*line,
@@ -246,7 +281,11 @@ pub(crate) fn read_all(
             &mut *local,
             &mut *cache,
             &mut *kept,
+            &mut *out,
         );
+        if !write_out(&*out, used) {
+            return;
+        }
         if kept[PHASE] == STOPPED {
             return;
         }

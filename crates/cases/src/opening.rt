@@ -1,4 +1,5 @@
 // How a case starts, and how its state is opened at its first operation.
+use case_file::Reason;
 use case_kept::buffers::Bytes;
 use case_kept::buffers::Cache;
 use case_kept::buffers::Memory;
@@ -26,33 +27,33 @@ use case_kept::kept::word;
 use case_kept::places::Outside;
 use case_kept::places::Store;
 use case_kept::places::first_outside;
-use case_kept::places::reach_place;
+use case_kept::places::reach_index;
 use case_notes::description::is_given;
 use case_notes::kept_parts::listed;
-use case_notes::mistake::PLACE_OUTSIDE;
+use case_report::form::say;
 use case_report::mistake::fail;
-use case_report::output::say;
-use case_report::output::tell;
 use settings::Config;
 use state::Opened;
 use state::Opening;
 use state::State;
 use text::fields::next_field;
+use text::page::put;
+use text::page::put_byte;
 ghost use Prim.Native.Nat.{_≤_};
 ghost use lib.ListN.{length};
 
-fn tell_name(line: &[u8], name: usize) {
+fn put_name(out: &mut [u8], line: &[u8], name: usize) -> usize {
     let f = next_field(line, name);
     let start = f.start;
     let end = f.end;
-    tell(b"case ");
-    tell(&line[start..end]);
-    tell(b"\n");
+    let a = put(&mut *out, 0, b"case ");
+    let b = put(&mut *out, a, &line[start..end]);
+    put_byte(&mut *out, b, b'\n')
 }
 
 // How many bytes of a memory a case may have written: those that it has, and those of its places.
 fn written(kept: &Kept, length: usize, store: Store) -> usize {
-    let reach = number(kept, reach_place(store));
+    let reach = number(kept, reach_index(store));
     if number(kept, length) < reach {
         return reach as usize;
     }
@@ -67,13 +68,14 @@ pub(crate) fn start_case(
     local: &mut Memory,
     cache: &mut Cache,
     kept: &mut Kept,
-) {
-    tell_name(line, name);
+    out: &mut [u8],
+) -> usize {
     clear_memory(&mut *main, written(&*kept, MAIN, Store::Main));
     clear_memory(&mut *local, written(&*kept, LOCAL, Store::Local));
     clear_cache_copy(&mut *cache);
     forget_case(&mut *kept);
     kept[PHASE] = DESCRIBED;
+    put_name(&mut *out, line, name)
 }
 
 // The fresh state, judged and built.
@@ -103,9 +105,9 @@ fn fresh(
 }
 
 // A word of the state is as built where no line gave it.
-fn keep_built(kept: &mut Kept, place: usize, w: u32) {
-    if !is_given(&*kept, place) {
-        keep_word(&mut *kept, place, w);
+fn keep_built(kept: &mut Kept, index: usize, w: u32) {
+    if !is_given(&*kept, index) {
+        keep_word(&mut *kept, index, w);
     }
 }
 
@@ -133,25 +135,35 @@ fn set_up(main: &mut Memory, local: &mut Memory, cache: &mut Cache, e: Extents) 
 }
 
 // Keeps what came of the opening. The number of a refusal is reported.
-fn keep_opened(o: Opened, kept: &mut Kept) {
+fn keep_opened(o: Opened, kept: &mut Kept, out: &mut [u8]) -> usize {
     let answer = o.answer;
     let state = o.state;
     match answer {
         Opening::Refused(n) => {
-            say(b"open refused %\n", &[n as u64]);
             kept[PHASE] = REFUSED;
+            say(&mut *out, 0, b"open refused %\n", &[n as u64])
         }
-        Opening::Opened => keep_fresh(&mut *kept, state),
+        Opening::Opened => {
+            keep_fresh(&mut *kept, state);
+            0
+        }
     }
 }
 
 // Of a case that is refused nothing is done, so the copies are made in any case.
-fn open(code: &Bytes, main: &mut Memory, local: &mut Memory, cache: &mut Cache, kept: &mut Kept) {
+fn open(
+    code: &Bytes,
+    main: &mut Memory,
+    local: &mut Memory,
+    cache: &mut Cache,
+    kept: &mut Kept,
+    out: &mut [u8],
+) -> usize {
     let e = extents_of(&*kept);
     let entry = word(&*kept, ENTRY);
     let o = fresh(e, entry, code, &*main, &*local, &mut *cache);
     set_up(&mut *main, &mut *local, &mut *cache, e);
-    keep_opened(o, &mut *kept);
+    keep_opened(o, &mut *kept, &mut *out)
 }
 
 // At a case's first operation its places are judged, and its state is opened.
@@ -161,9 +173,17 @@ pub(crate) fn open_case(
     local: &mut Memory,
     cache: &mut Cache,
     kept: &mut Kept,
-) {
+    out: &mut [u8],
+) -> usize {
     match first_outside(&*kept) {
-        Outside::Line(n) => fail(&mut *kept, n, PLACE_OUTSIDE),
-        Outside::Nowhere => open(code, &mut *main, &mut *local, &mut *cache, &mut *kept),
+        Outside::Line(n) => fail(&mut *out, 0, &mut *kept, n, Reason::PlaceOutside),
+        Outside::Nowhere => open(
+            code,
+            &mut *main,
+            &mut *local,
+            &mut *cache,
+            &mut *kept,
+            &mut *out,
+        ),
     }
 }

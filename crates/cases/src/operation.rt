@@ -2,7 +2,6 @@
 use crate::kept_state::keep_state;
 use crate::kept_state::state_of;
 use crate::report::put_counts;
-use crate::report::put_state;
 use bundle_model::Answer;
 use case_kept::buffers::Bytes;
 use case_kept::buffers::Cache;
@@ -13,29 +12,30 @@ use case_kept::extent::Extents;
 use case_kept::extent::extents_of;
 use case_kept::kept::Kept;
 use case_report::changes::put_changes;
-use case_report::output::say;
-use case_report::output::tell;
+use case_report::form::say;
+use case_report::state_lines::put_state;
 use run::Ran;
 use run::RunAnswer;
 use settings::Config;
 use state::State;
 use state::Stepped;
+use text::page::put;
 ghost use Prim.Native.Nat.{_≤_};
 ghost use lib.ListN.{length};
 
-fn put_step_answer(a: Answer) {
+fn put_step_answer(out: &mut [u8], a: Answer) -> usize {
     match a {
-        Answer::Done => tell(b"step done"),
-        Answer::Ended => tell(b"step ended"),
-        Answer::Refused(n) => say(b"step refused %", &[n as u64]),
+        Answer::Done => put(&mut *out, 0, b"step done"),
+        Answer::Ended => put(&mut *out, 0, b"step ended"),
+        Answer::Refused(n) => say(&mut *out, 0, b"step refused %", &[n as u64]),
     }
 }
 
-fn put_run_answer(a: RunAnswer) {
+fn put_run_answer(out: &mut [u8], a: RunAnswer) -> usize {
     match a {
-        RunAnswer::Ended => tell(b"run ended"),
-        RunAnswer::Spent => tell(b"run spent"),
-        RunAnswer::Refused(n) => say(b"run refused %", &[n as u64]),
+        RunAnswer::Ended => put(&mut *out, 0, b"run ended"),
+        RunAnswer::Spent => put(&mut *out, 0, b"run spent"),
+        RunAnswer::Refused(n) => say(&mut *out, 0, b"run refused %", &[n as u64]),
     }
 }
 
@@ -91,32 +91,40 @@ fn run_on(
 }
 
 // The state that a step left is kept, and its answer is reported.
-fn after_step(r: Stepped, kept: &mut Kept) {
+fn after_step(r: Stepped, kept: &mut Kept, out: &mut [u8]) -> usize {
     let answer = r.answer;
     let counts = r.counts;
     let state = r.state;
-    put_step_answer(answer);
-    put_counts(counts);
     keep_state(&mut *kept, state);
+    let used = put_step_answer(&mut *out, answer);
+    put_counts(&mut *out, used, counts)
 }
 
-fn after_run(r: Ran, kept: &mut Kept) {
+fn after_run(r: Ran, kept: &mut Kept, out: &mut [u8]) -> usize {
     let answer = r.answer;
     let counts = r.counts;
     let state = r.state;
-    put_run_answer(answer);
-    put_counts(counts);
     keep_state(&mut *kept, state);
+    let used = put_run_answer(&mut *out, answer);
+    put_counts(&mut *out, used, counts)
 }
 
 // The state lines and the change lines. What is reported is changed no longer: the copies are brought up to date.
-fn report(main: &mut Memory, local: &mut Memory, cache: &mut Cache, kept: &Kept) {
+fn report(
+    out: &mut [u8],
+    used: usize,
+    main: &mut Memory,
+    local: &mut Memory,
+    cache: &mut Cache,
+    kept: &Kept,
+) -> usize {
     let e = extents_of(kept);
-    put_state(kept);
-    put_changes(&*main, &*local, &*cache, e);
+    let a = put_state(&mut *out, used, kept);
+    let b = put_changes(&mut *out, a, &*main, &*local, &*cache, e);
     copy_memory(&mut *main, e.main);
     copy_memory(&mut *local, e.local);
     copy_cache(&mut *cache, e.words);
+    b
 }
 
 pub(crate) fn do_step(
@@ -125,7 +133,8 @@ pub(crate) fn do_step(
     local: &mut Memory,
     cache: &mut Cache,
     kept: &mut Kept,
-) {
+    out: &mut [u8],
+) -> usize {
     let r = step(
         state_of(&*kept),
         extents_of(&*kept),
@@ -134,8 +143,15 @@ pub(crate) fn do_step(
         &mut *local,
         &mut *cache,
     );
-    after_step(r, &mut *kept);
-    report(&mut *main, &mut *local, &mut *cache, &*kept);
+    let used = after_step(r, &mut *kept, &mut *out);
+    report(
+        &mut *out,
+        used,
+        &mut *main,
+        &mut *local,
+        &mut *cache,
+        &*kept,
+    )
 }
 
 pub(crate) fn do_run(
@@ -145,7 +161,8 @@ pub(crate) fn do_run(
     local: &mut Memory,
     cache: &mut Cache,
     kept: &mut Kept,
-) {
+    out: &mut [u8],
+) -> usize {
     let r = run_on(
         state_of(&*kept),
         budget,
@@ -155,6 +172,13 @@ pub(crate) fn do_run(
         &mut *local,
         &mut *cache,
     );
-    after_run(r, &mut *kept);
-    report(&mut *main, &mut *local, &mut *cache, &*kept);
+    let used = after_run(r, &mut *kept, &mut *out);
+    report(
+        &mut *out,
+        used,
+        &mut *main,
+        &mut *local,
+        &mut *cache,
+        &*kept,
+    )
 }

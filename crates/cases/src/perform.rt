@@ -30,10 +30,26 @@ pub(crate) fn perform(
     local: &mut Memory,
     cache: &mut Cache,
     kept: &mut Kept,
-) {
+    out: &mut [u8],
+) -> usize {
     match operation_of(said) {
-        Operation::Check => do_check(code, &*kept),
-        Operation::Step => do_step(code, &mut *main, &mut *local, &mut *cache, &mut *kept),
-        Operation::Run(n) => do_run(n, code, &mut *main, &mut *local, &mut *cache, &mut *kept),
+        Operation::Check => do_check(code, &*kept, &mut *out),
+        Operation::Step => do_step(
+            code,
+            &mut *main,
+            &mut *local,
+            &mut *cache,
+            &mut *kept,
+            &mut *out,
+        ),
+        Operation::Run(n) => do_run(
+            n,
+            code,
+            &mut *main,
+            &mut *local,
+            &mut *cache,
+            &mut *kept,
+            &mut *out,
+        ),
     }
 }

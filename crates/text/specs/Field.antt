@@ -16,7 +16,7 @@ unfoldable pub fieldLength : List ℕ → ℕ
 fieldLength [] = 0
 fieldLength (c ∷ cs) = cond (eqb c 32 || eqb c 35) 0 (suc (fieldLength cs))
 
--- The next field of a line from place a on. It is empty where no field is left.
+-- The next field of a line from position a on. It is empty where no field is left.
 unfoldable pub fieldFrom : List ℕ → ℕ → Field
 fieldFrom line a =
     let start = min a (length line) + spaces (drop (min a (length line)) line) in

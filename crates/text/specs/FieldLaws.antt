@@ -8,7 +8,7 @@ use native.Mathlib.Omega.{arith}
 use lib.ListN.{length, drop, getD, drop-of-length-le}
 use lib.Seq.{drop-cons}
 use lib.Dec.{eqb}
-use borrow.Author.Tests.{eq-eqb, ne-eqb}
+use borrow.Author.Tests.{eq-eqb, ne-eqb, eqb-true}
 use Rattle.text.specs.Field.{spaces, fieldLength, sameBytes, isNameByte, areNameBytes}
 
 module _ (l : List ℕ) (i : ℕ) (h : i < length l) where
@@ -55,26 +55,27 @@ module _ (l : List ℕ) (i : ℕ) (h : length l ≤ i) where
   unfolding areNameBytes
   names-end = rw none
 
-module _ (a b : List ℕ) (i : ℕ) (p : i < length a) (q : i < length b) where
-  pub same-step : getD a i 0 ≡ getD b i 0 → sameBytes (drop (i + 1) a) (drop (i + 1) b) ≡ sameBytes (drop i a) (drop i b)
-  unfolding sameBytes
-  same-step e = rw (at a i p, at b i q, eq-eqb _ _ e)
-
-  pub same-stop : (getD a i 0 ≡ getD b i 0 → ⊥) → false ≡ sameBytes (drop i a) (drop i b)
-  unfolding sameBytes
-  same-stop e = rw (at a i p, at b i q, ne-eqb _ _ e)
-
-pub same-end : (a b : List ℕ) (i : ℕ) → length a ≤ i → length b ≤ i → true ≡ sameBytes (drop i a) (drop i b)
+same-itself : (a : List ℕ) → sameBytes a a ≡ true
 unfolding sameBytes
-same-end a b i p q = rw (none a i p, none b i q)
+same-itself [] = refl
+same-itself (c ∷ cs) = rw (eq-eqb c c refl) (same-itself cs)
 
-pub same-lengths : (a b : List ℕ) → (length a ≡ length b → ⊥) → false ≡ sameBytes a b
+same-equal : (a b : List ℕ) → sameBytes a b ≡ true → a ≡ b
 unfolding sameBytes
-same-lengths [] [] h = absurd (h refl)
-same-lengths [] (d ∷ ds) h = refl
-same-lengths (c ∷ cs) [] h = refl
-same-lengths (c ∷ cs) (d ∷ ds) h = go (eqb c d) (same-lengths cs ds (λ e. h (ap suc e)))
+same-equal [] [] h = refl
+same-equal [] (d ∷ ds) h = cc
+same-equal (c ∷ cs) [] h = cc
+same-equal (c ∷ cs) (d ∷ ds) h = go (eqb c d) refl (same-equal cs ds) h
   where
-    go : (t : Bool) → false ≡ sameBytes cs ds → false ≡ (t && sameBytes cs ds)
-    go true e = e
+    go : (t : Bool) → eqb c d ≡ t → (sameBytes cs ds ≡ true → cs ≡ ds) → (t && sameBytes cs ds) ≡ true → c ∷ cs ≡ d ∷ ds
+    go true e rest k = rw (eqb-true c d e, rest k)
+    go false e rest k = cc
+
+-- An answer that is yes for equal bytes and no for others.
+pub same-told : (a b : List ℕ) (r : Bool) → (r ≡ true → a ≡ b) → (a ≡ b → r ≡ true) → r ≡ sameBytes a b
+same-told a b true f g = sym (same-itself a) ∙ ap (sameBytes a) (f refl)
+same-told a b false f g = go (sameBytes a b) refl
+  where
+    go : (t : Bool) → sameBytes a b ≡ t → false ≡ t
+    go true e = g (same-equal a b e)
     go false e = refl

@@ -3,3 +3,6 @@ pub mod Number
 pub mod NumberLaws
 pub mod Field
 pub mod FieldLaws
+pub mod DecimalLaws
+pub mod Page
+pub mod PageLaws

@@ -51,3 +51,7 @@ hexBefore (suc k) n s = hexBefore k (n / 16) (glyph (n % 16) ∷ s)
 -- A word as it is written in a report.
 abbrev pub wordText : ℕ → List ℕ
 wordText n = hexBefore 8 n []
+
+-- A byte of a memory as it is written in a report.
+abbrev pub byteText : ℕ → List ℕ
+byteText b = hexBefore 2 b []

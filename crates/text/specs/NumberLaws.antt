@@ -30,7 +30,7 @@ pub number-end : (base v : ℕ) → numberFrom base v [] ≡ Value v
 unfolding numberFrom
 number-end base v = refl
 
--- A digit put in front of the bytes from place a on.
+-- A digit put in front of the bytes from position a on.
 pub drop-put : (s : List ℕ) (a d : ℕ) → a < length s → drop a (set s a d) ≡ d ∷ drop (a + 1) s
 drop-put s a d h =
     drop-cons (set s a d) a 0 (rw length-set h)
@@ -42,21 +42,6 @@ pub put-before : (s : List ℕ) (a d : ℕ) → 0 < a → a ≤ length s → dro
 put-before s a d p h =
     let e : a - 1 + 1 ≡ a = omega arith in
     drop-put s (a - 1) d (omega arith) ∙ ap (λ (k : ℕ). d ∷ drop k s) e
-
-pub decimal-last : (a n : ℕ) (s : List ℕ) → 0 < a → n / 10 ≡ 0 → glyph (n % 10) ∷ s ≡ decimalBefore a n s
-unfolding decimalBefore
-decimal-last zero n s h e = absurd (omega arith)
-decimal-last (suc a) n s h e = rw e
-
-pub decimal-step : (a n : ℕ) (s : List ℕ) → 0 < a → (n / 10 ≡ 0 → ⊥) → decimalBefore (a - 1) (n / 10) (glyph (n % 10) ∷ s) ≡ decimalBefore a n s
-unfolding decimalBefore
-decimal-step zero n s h e = absurd (omega arith)
-decimal-step (suc a) n s h e = rw (ne-eqb _ _ e, sub-one)
-
-pub decimal-none : (a n : ℕ) (s : List ℕ) → a ≡ 0 → s ≡ decimalBefore a n s
-unfolding decimalBefore
-decimal-none zero n s e = refl
-decimal-none (suc a) n s e = absurd (omega arith)
 
 pub hex-step : (a n : ℕ) (s : List ℕ) → 0 < a → hexBefore (a - 1) (n / 16) (glyph (n % 16) ∷ s) ≡ hexBefore a n s
 unfolding hexBefore

@@ -5,7 +5,7 @@ ghost use lib.ListN.{length, drop};
 ghost use Rattle.text.specs.Field.{spaces, fieldLength, fieldFrom, sameBytes, isNameByte, areNameBytes, isName};
 use crate::Field;
 
-// The first place from a on that holds no space.
+// The first position from a on that holds no space.
 fn after_spaces(line: &[u8], a: usize) -> usize
     requires { ⌜ a ≤ length (now line) ⌝ }
     ensures { λ r. ⌜ (r ≡ a + spaces (drop a (now (line .entry)))) × (r ≤ length (now (line .entry))) ⌝ }
@@ -20,7 +20,7 @@ fn after_spaces(line: &[u8], a: usize) -> usize
     i
 }
 
-// The first place from a on at which a field has ended.
+// The first position from a on at which a field has ended.
 fn after_field(line: &[u8], a: usize) -> usize
     requires { ⌜ a ≤ length (now line) ⌝ }
     ensures { λ r. ⌜ (r ≡ a + fieldLength (drop a (now (line .entry)))) × (a ≤ r) × (r ≤ length (now (line .entry))) ⌝ }
@@ -55,17 +55,7 @@ pub fn next_field(line: &[u8], a: usize) -> Field
 pub fn same(a: &[u8], b: &[u8]) -> bool
     ensures { λ r. ⌜ r ≡ sameBytes (now (a .entry)) (now (b .entry)) ⌝ }
 {
-    if a.len() != b.len() {
-        return false;
-    }
-    let mut i = 0;
-    while i < a.len() {
-        if a[i] != b[i] {
-            return false;
-        }
-        i += 1;
-    }
-    true
+    check::same(a, b)
 }
 
 fn is_name_byte(c: u8) -> bool

@@ -1,7 +1,8 @@
-// Text: the fields of a line, the numbers that are read from them, and numbers written as digits.
-pub mod digits;
+// Text: the fields of a line, the numbers that are read from them, and texts and digits put into a buffer.
+mod digits;
 pub mod fields;
 pub mod numbers;
+pub mod page;
 
 // A part of a line, from start up to, not including, end.
 pub struct Field {

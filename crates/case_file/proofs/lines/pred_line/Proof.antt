@@ -2,8 +2,8 @@ use Rattle.case_file.specs.Line.{lineAfter}
 use Rattle.case_file.proofs.lines.pred_line.Statement.{statement}
 use Rattle.case_file.proofs.lines.pred_line.Tie as tie
 
-number-at-requires : tie.Need-number-at-requires
-number-at-requires c κs = tt
+number-field-requires : tie.Need-number-field-requires
+number-field-requires c κs = tt
 
 enum-known-r : tie.Need-enum-known-r
 enum-known-r c = c .match .keys1
@@ -11,8 +11,8 @@ enum-known-r c = c .match .keys1
 enum-known-value : tie.Need-enum-known-value
 enum-known-value c = c .match .keys2
 
-number-at-requires-2 : tie.Need-number-at-requires-2
-number-at-requires-2 c κs = tt
+number-field-requires-2 : tie.Need-number-field-requires-2
+number-field-requires-2 c κs = tt
 
 enum-known-r-2 : tie.Need-enum-known-r-2
 enum-known-r-2 c = c .match2 .keys1
@@ -28,24 +28,24 @@ whole-requires c κs = tt
 
 returns : tie.Need-returns
 unfolding lineAfter
-returns c = rw (← c .before .before .before .number-at .ensures, c .before .r .given .1)
+returns c = rw (← c .before .before .before .number-field .ensures, c .before .r .given .1)
 
 returns-2 : tie.Need-returns-2
 unfolding lineAfter
-returns-2 c = rw (← c .before .before .before .before .before .before .before .number-at .ensures, c .before .before .before .before .before .value .given .1, ← c .before .before .before .number-at2 .ensures, c .before .r2 .given .1)
+returns-2 c = rw (← c .before .before .before .before .before .before .before .number-field .ensures, c .before .before .before .before .before .value .given .1, ← c .before .before .before .number-field2 .ensures, c .before .r2 .given .1)
 
 returns-3 : tie.Need-returns-3
 unfolding lineAfter
-returns-3 c = rw (← c .before .before .before .before .before .before .before .before .before .number-at .ensures, c .before .before .before .before .before .before .before .value .given .1, ← c .before .before .before .before .before .number-at2 .ensures, c .before .before .before .bit .given .1, ← c .before .pred .ensures) (c .whole .ensures)
+returns-3 c = rw (← c .before .before .before .before .before .before .before .before .before .number-field .ensures, c .before .before .before .before .before .before .before .value .given .1, ← c .before .before .before .before .before .number-field2 .ensures, c .before .before .before .bit .given .1, ← c .before .pred .ensures) (c .whole .ensures)
 
 pub pred-line-spec : {M : Type 1} → statement M
 pred-line-spec =
     tie.close
     (tie.spec
-    number-at-requires
+    number-field-requires
     enum-known-r
     enum-known-value
-    number-at-requires-2
+    number-field-requires-2
     enum-known-r-2
     enum-known-bit
     pred-requires

@@ -54,8 +54,8 @@ returns-2 : tie.Need-returns-2
 unfolding lineAfter
 returns-2 c = rw (← c .before .before .before .before .before .next-field .ensures .0, ne-eqb _ _ (c .before .before .before .before .if1 .left), ← c .before .before .special-name .ensures, c .enum-told .given .1)
 
-word-at-requires : tie.Need-word-at-requires
-word-at-requires c κs = tt
+word-field-requires : tie.Need-word-field-requires
+word-field-requires c κs = tt
 
 enum-known-r : tie.Need-enum-known-r
 enum-known-r c = c .match2 .keys1
@@ -68,11 +68,11 @@ whole-requires c κs = tt
 
 returns-3 : tie.Need-returns-3
 unfolding lineAfter
-returns-3 c = rw (← c .before .before .before .before .before .before .before .before .next-field .ensures .0, ne-eqb _ _ (c .before .before .before .before .before .before .before .if1 .left), ← c .before .before .before .before .before .special-name .ensures, is-special _ (c .before .before .before .before .match .keys2), ← c .before .before .before .word-at .ensures, c .before .r .given .1)
+returns-3 c = rw (← c .before .before .before .before .before .before .before .before .next-field .ensures .0, ne-eqb _ _ (c .before .before .before .before .before .before .before .if1 .left), ← c .before .before .before .before .before .special-name .ensures, is-special _ (c .before .before .before .before .match .keys2), ← c .before .before .before .word-field .ensures, c .before .r .given .1)
 
 returns-4 : tie.Need-returns-4
 unfolding lineAfter
-returns-4 c = rw (← c .before .before .before .before .before .before .before .before .before .next-field .ensures .0, ne-eqb _ _ (c .before .before .before .before .before .before .before .before .if1 .left), ← c .before .before .before .before .before .before .special-name .ensures, is-special _ (c .before .before .before .before .before .match .keys2), ← c .before .before .before .before .word-at .ensures, c .before .before .value .given .1) (c .whole .ensures)
+returns-4 c = rw (← c .before .before .before .before .before .before .before .before .before .next-field .ensures .0, ne-eqb _ _ (c .before .before .before .before .before .before .before .before .if1 .left), ← c .before .before .before .before .before .before .special-name .ensures, is-special _ (c .before .before .before .before .before .match .keys2), ← c .before .before .before .before .word-field .ensures, c .before .before .value .given .1) (c .whole .ensures)
 
 pub special-line-spec : {M : Type 1} → statement M
 special-line-spec =
@@ -86,7 +86,7 @@ special-line-spec =
     special-name-requires
     enum-told
     returns-2
-    word-at-requires
+    word-field-requires
     enum-known-r
     enum-known-value
     whole-requires

@@ -1,7 +1,7 @@
 use Prim.Native.Nat.{_-_, _≤_}
 use lib.ListN.{length, take, length-set}
 use lib.Seq.{take-all}
-use Rattle.case_kept.specs.Kept.{flagsAt}
+use Rattle.case_kept.specs.Kept.{keptFlags}
 use Rattle.case_kept.specs.KeptLaws.{up-to-none, up-to-more}
 use borrow.Author.Needs.{needs}
 use native.Mathlib.Omega.{arith}
@@ -10,7 +10,7 @@ use Rattle.case_kept.proofs.kept.flags_of.Statement.{statement}
 use Rattle.case_kept.proofs.kept.flags_of.Tie as tie
 
 abbrev Inv-loop : tie.InvT-loop
-Inv-loop kept first flags₀ i₀ flags i = (i ≤ 8) × (length flags ≡ 8) × (take i flags ≡ flagsAt i kept first)
+Inv-loop kept first flags₀ i₀ flags i = (i ≤ 8) × (length flags ≡ 8) × (take i flags ≡ keptFlags i kept first)
 
 abbrev μ-loop : tie.MeasureT-loop
 μ-loop kept first flags₀ i₀ flags i = 8 - i

@@ -15,8 +15,8 @@ returns c = rw (le-leb _ _ (c .if1 .taken))
 element-copy-out-line : tie.Need-element-copy-out-line
 element-copy-out-line c = search needs
 
-length-place-requires : tie.Need-length-place-requires
-length-place-requires c κs = tt
+length-index-requires : tie.Need-length-index-requires
+length-index-requires c κs = tt
 
 mul-at : tie.Need-mul-at
 mul-at c = omega arith
@@ -59,7 +59,7 @@ returns-2 c = let n = getD (c .before .before .before .before .args .kept .now) 
     let h : 200 + 3 * n < 150200 = omega arith in
     let h1 : 200 + 3 * n + 1 < 150200 = omega arith in
     let h2 : 200 + 3 * n + 2 < 150200 = omega arith in
-    rw (lt-leb _ _ (c .before .before .if1 .left), lt-ltb _ _ h, lt-ltb _ _ h1, lt-ltb _ _ h2, ← c .length-place .ensures)
+    rw (lt-leb _ _ (c .before .before .if1 .left), lt-ltb _ _ h, lt-ltb _ _ h1, lt-ltb _ _ h2, ← c .length-index .ensures)
 
 pub note-if-room-spec : {M : Type 1} → statement M
 note-if-room-spec =
@@ -68,7 +68,7 @@ note-if-room-spec =
     element-copy-out-n
     returns
     element-copy-out-line
-    length-place-requires
+    length-index-requires
     mul-at
     add-at
     mul-kept

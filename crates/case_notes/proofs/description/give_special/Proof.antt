@@ -3,8 +3,8 @@ use borrow.Author.Tests.{lt-ltb, le-ltb}
 use Rattle.case_notes.proofs.description.give_special.Statement.{statement}
 use Rattle.case_notes.proofs.description.give_special.Tie as tie
 
-special-place-requires : tie.Need-special-place-requires
-special-place-requires c κs = tt
+special-index-requires : tie.Need-special-index-requires
+special-index-requires c κs = tt
 
 add-give-number : tie.Need-add-give-number
 add-give-number c = omega arith
@@ -13,12 +13,12 @@ give-number-requires : tie.Need-give-number-requires
 give-number-requires c κs = tt
 
 returns : tie.Need-returns
-returns c = rw (← c .before .before .before .special-place .ensures, lt-ltb _ _ (c .before .before .if1 .taken), c .give-number .ensures)
+returns c = rw (← c .before .before .before .special-index .ensures, lt-ltb _ _ (c .before .before .if1 .taken), c .give-number .ensures)
 
 returns-2 : tie.Need-returns-2
-returns-2 c = rw (← c .before .special-place .ensures, le-ltb _ _ (c .if1 .left))
+returns-2 c = rw (← c .before .special-index .ensures, le-ltb _ _ (c .if1 .left))
 
 pub give-special-spec : {M : Type 1} → statement M
 give-special-spec =
     tie.close
-    (tie.spec special-place-requires add-give-number give-number-requires returns returns-2)
+    (tie.spec special-index-requires add-give-number give-number-requires returns returns-2)

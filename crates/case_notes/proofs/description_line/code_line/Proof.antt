@@ -1,8 +1,7 @@
+use native.Mathlib.Omega.{arith}
+use mathlib.Core.Path.{_≡_, refl}
 use Rattle.case_notes.specs.DescriptionLine.{appendFrom, codeLine}
 use Rattle.case_notes.specs.DescriptionLineLaws.{append-none, append-some}
-use native.Mathlib.Omega.{arith}
-use borrow.Author.Tests.{eq-eqb, ne-eqb}
-use mathlib.Core.Path.{_≡_, refl}
 use Rattle.case_notes.proofs.description_line.code_line.Statement.{statement}
 use Rattle.case_notes.proofs.description_line.code_line.Tie as tie
 
@@ -31,12 +30,9 @@ returns c = let l = c .before .before .before .before .loop in
 enum-known-r : tie.Need-enum-known-r Inv-loop μ-loop
 enum-known-r c = c .match .keys2
 
-row-of-requires : tie.Need-row-of-requires Inv-loop μ-loop
-row-of-requires c κs = tt
-
 returns-2 : tie.Need-returns-2 Inv-loop μ-loop
-returns-2 c = let l = c .before .before .before .before .before .before .loop in
-    rw (← l .inv, append-some (l .left) _ _ _ _ (c .before .before .before .before .before .loop-test .taken), ← c .before .before .before .before .code-entry .ensures, c .before .before .r .given .1, c .row-of .ensures)
+returns-2 c = let l = c .before .before .before .before .before .loop in
+    rw (← l .inv, append-some (l .left) _ _ _ _ (c .before .before .before .before .loop-test .taken), ← c .before .before .before .code-entry .ensures, c .before .r .given .1)
 
 enum-known-word : tie.Need-enum-known-word Inv-loop μ-loop
 enum-known-word c = c .match .keys3
@@ -44,16 +40,22 @@ enum-known-word c = c .match .keys3
 append-word-requires : tie.Need-append-word-requires Inv-loop μ-loop
 append-word-requires c κs = tt
 
+enum-known-r-2 : tie.Need-enum-known-r-2 Inv-loop μ-loop
+enum-known-r-2 c = c .match2 .keys1
+
 returns-3 : tie.Need-returns-3 Inv-loop μ-loop
-returns-3 c = let l = c .before .before .before .before .before .before .before .before .before .loop in
-    rw (← l .inv, append-some (l .left) _ _ _ _ (c .before .before .before .before .before .before .before .before .loop-test .taken), ← c .before .before .before .before .before .before .before .code-entry .ensures, c .before .before .before .before .before .word .given .1, ← c .before .append-word .ensures, ne-eqb _ _ (c .if1 .taken))
+returns-3 c = let l = c .before .before .before .before .before .before .before .before .before .before .before .loop in
+    rw (← l .inv, append-some (l .left) _ _ _ _ (c .before .before .before .before .before .before .before .before .before .before .loop-test .taken), ← c .before .before .before .before .before .before .before .before .before .code-entry .ensures, c .before .before .before .before .before .before .before .word .given .1, ← c .before .before .before .append-word .ensures, c .before .r2 .given .1)
+
+enum-told-2 : tie.Need-enum-told-2 Inv-loop μ-loop
+enum-told-2 c = c .match2 .keys2
 
 loop-less : tie.Need-loop-less Inv-loop μ-loop
 loop-less c = omega arith
 
 loop-again : tie.Need-loop-again Inv-loop μ-loop
-loop-again c = let l = c .before .before .before .before .before .before .before .before .before .loop in
-    rw (← l .inv, append-some (l .left) _ _ _ _ (c .before .before .before .before .before .before .before .before .loop-test .taken), ← c .before .before .before .before .before .before .before .code-entry .ensures, c .before .before .before .before .before .word .given .1, ← c .before .append-word .ensures, eq-eqb _ _ (c .if1 .left))
+loop-again c = let l = c .before .before .before .before .before .before .before .before .before .before .loop in
+    rw (← l .inv, append-some (l .left) _ _ _ _ (c .before .before .before .before .before .before .before .before .before .loop-test .taken), ← c .before .before .before .before .before .before .before .before .code-entry .ensures, c .before .before .before .before .before .before .word .given .1, ← c .before .before .append-word .ensures, c .enum-told2 .given .1)
 
 returns-4 : tie.Need-returns-4 Inv-loop μ-loop
 returns-4 c = let l = c .before .loop in rw (← l .inv, append-none (l .left) _ _ _ _ (c .loop-test .left))
@@ -70,11 +72,12 @@ code-line-spec =
     enum-told
     returns
     enum-known-r
-    row-of-requires
     returns-2
     enum-known-word
     append-word-requires
+    enum-known-r-2
     returns-3
+    enum-told-2
     loop-less
     loop-again
     returns-4)

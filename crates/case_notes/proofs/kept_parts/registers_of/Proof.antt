@@ -1,7 +1,7 @@
 use Prim.Native.Nat.{_-_, _≤_}
 use lib.ListN.{length, take, length-set}
 use lib.Seq.{take-all}
-use Rattle.case_kept.specs.Kept.{wordsAt}
+use Rattle.case_kept.specs.Kept.{keptWords}
 use Rattle.case_kept.specs.KeptLaws.{up-to-none, up-to-more}
 use borrow.Author.Needs.{needs}
 use native.Mathlib.Omega.{arith}
@@ -10,7 +10,7 @@ use Rattle.case_notes.proofs.kept_parts.registers_of.Statement.{stateme
 use Rattle.case_notes.proofs.kept_parts.registers_of.Tie as tie
 
 abbrev Inv-loop : tie.InvT-loop
-Inv-loop kept registers₀ i₀ registers i = (i ≤ 32) × (length registers ≡ 32) × (take i registers ≡ wordsAt i kept 24)
+Inv-loop kept registers₀ i₀ registers i = (i ≤ 32) × (length registers ≡ 32) × (take i registers ≡ keptWords i kept 24)
 
 abbrev μ-loop : tie.MeasureT-loop
 μ-loop kept registers₀ i₀ registers i = 32 - i

@@ -30,12 +30,9 @@ returns c = let l = c .before .before .before .before .loop in
 enum-known-r : tie.Need-enum-known-r Inv-loop μ-loop
 enum-known-r c = c .match .keys2
 
-row-of-requires : tie.Need-row-of-requires Inv-loop μ-loop
-row-of-requires c κs = tt
-
 returns-2 : tie.Need-returns-2 Inv-loop μ-loop
-returns-2 c = let l = c .before .before .before .before .before .before .loop in
-    rw (← l .inv, mark-some (l .left) _ _ _ (c .before .before .before .before .before .loop-test .taken), ← c .before .before .before .before .private-entry .ensures, c .before .before .r .given .1, c .row-of .ensures)
+returns-2 c = let l = c .before .before .before .before .before .loop in
+    rw (← l .inv, mark-some (l .left) _ _ _ (c .before .before .before .before .loop-test .taken), ← c .before .before .before .private-entry .ensures, c .before .r .given .1)
 
 enum-known-item : tie.Need-enum-known-item Inv-loop μ-loop
 enum-known-item c = c .match .keys3
@@ -65,7 +62,6 @@ mark-items-spec =
     enum-told
     returns
     enum-known-r
-    row-of-requires
     returns-2
     enum-known-item
     mark-requires

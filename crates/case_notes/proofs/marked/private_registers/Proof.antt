@@ -1,7 +1,7 @@
 use Prim.Native.Nat.{_-_, _≤_}
 use lib.ListN.{length, take, length-set}
 use lib.Seq.{take-all}
-use Rattle.case_kept.specs.Kept.{flagsAt}
+use Rattle.case_kept.specs.Kept.{keptFlags}
 use Rattle.case_kept.specs.KeptLaws.{up-to-none, up-to-more}
 use borrow.Author.Needs.{needs}
 use native.Mathlib.Omega.{arith}
@@ -10,7 +10,7 @@ use Rattle.case_notes.proofs.marked.private_registers.Statement.{statem
 use Rattle.case_notes.proofs.marked.private_registers.Tie as tie
 
 abbrev Inv-loop : tie.InvT-loop
-Inv-loop kept registers₀ i₀ registers i = (i ≤ 32) × (length registers ≡ 32) × (take i registers ≡ flagsAt i kept 128)
+Inv-loop kept registers₀ i₀ registers i = (i ≤ 32) × (length registers ≡ 32) × (take i registers ≡ keptFlags i kept 128)
 
 abbrev μ-loop : tie.MeasureT-loop
 μ-loop kept registers₀ i₀ registers i = 32 - i

@@ -1,65 +1,66 @@
+use native.Mathlib.Omega.{arith}
+use Prim.Native.Nat.{ℕ, _+_, _-_, min}
+use mathlib.Core.Path.{_≡_, ap, _∙_}
+use lib.ListN.{take, drop}
+use Rattle.text.specs.Page.{page, withText}
+use Rattle.case_report.specs.Changes.{wordChanges, memoryChanges}
 use borrow.Author.Needs.{needs}
-use Prim.Native.Nat.{_-_}
 use Rattle.case_report.proofs.changes.put_memory.Statement.{statement}
 use Rattle.case_report.proofs.changes.put_memory.Tie as tie
 
-abbrev Inv-loop : tie.InvT-loop
-Inv-loop label memory n end i₀ i = Unit {0}
+least-requires : tie.Need-least-requires
+least-requires c κs = search needs
 
-abbrev μ-loop : tie.MeasureT-loop
-μ-loop label memory n end i₀ i = end - i
+sub-put-words : tie.Need-sub-put-words
+sub-put-words c = search needs
 
-least-requires : tie.Need-least-requires Inv-loop μ-loop
-least-requires c κs = tt
+part-put-words-start : tie.Need-part-put-words-start
+part-put-words-start c = search needs
 
-loop-holds : tie.Need-loop-holds Inv-loop μ-loop
-loop-holds c = search needs
+part-put-words-end : tie.Need-part-put-words-end
+part-put-words-end c = search needs
 
-first-difference-requires : tie.Need-first-difference-requires Inv-loop μ-loop
-first-difference-requires c κs = tt
+add-put-words : tie.Need-add-put-words
+add-put-words c = search needs
 
-returns : tie.Need-returns Inv-loop μ-loop
-returns c = search needs
+sub-put-words-2 : tie.Need-sub-put-words-2
+sub-put-words-2 c = search needs
 
-mul-start : tie.Need-mul-start Inv-loop μ-loop
-mul-start c = search needs
+part-put-words-start-2 : tie.Need-part-put-words-start-2
+part-put-words-start-2 c = search needs
 
-add-least : tie.Need-add-least Inv-loop μ-loop
-add-least c = search needs
+part-put-words-end-2 : tie.Need-part-put-words-end-2
+part-put-words-end-2 c = search needs
 
-least-requires-2 : tie.Need-least-requires-2 Inv-loop μ-loop
-least-requires-2 c κs = tt
+put-words-requires : tie.Need-put-words-requires
+put-words-requires c κs = search needs
 
-put-change-requires : tie.Need-put-change-requires Inv-loop μ-loop
-put-change-requires c κs = tt
+same-length : tie.Need-same-length
+same-length c = search needs
 
-add-i : tie.Need-add-i Inv-loop μ-loop
-add-i c = search needs
-
-loop-less : tie.Need-loop-less Inv-loop μ-loop
-loop-less c = search needs
-
-loop-again : tie.Need-loop-again Inv-loop μ-loop
-loop-again c = search needs
-
-returns-2 : tie.Need-returns-2 Inv-loop μ-loop
-returns-2 c = search needs
+returns : tie.Need-returns
+unfolding memoryChanges
+returns c = let a = c .before .before .before .before .before .before .before .before .before .before .args in
+    let p = page (a .used) (a .out .now) in
+    let l = c .before .before .before .before .before .before .before .least in
+    let f : l .result - 0 ≡ min (a .n) 65536 = omega (arith, l .ensures .2) in
+    let g : 65536 + l .result - 65536 ≡ min (a .n) 65536 = omega (arith, l .ensures .2) in
+    c .before .before .put-words .ensures
+    ∙ ap (λ (k : ℕ). withText p (wordChanges (a .label .now) (take k (a .memory .now)) (take (65536 + l .result - 65536) (drop 65536 (a .memory .now))))) f
+    ∙ ap (λ (k : ℕ). withText p (wordChanges (a .label .now) (take (min (a .n) 65536) (a .memory .now)) (take k (drop 65536 (a .memory .now))))) g
 
 pub put-memory-spec : {M : Type 1} → statement M
 put-memory-spec =
     tie.close
     (tie.spec
-    Inv-loop
-    μ-loop
     least-requires
-    loop-holds
-    first-difference-requires
-    returns
-    mul-start
-    add-least
-    least-requires-2
-    put-change-requires
-    add-i
-    loop-less
-    loop-again
-    returns-2)
+    sub-put-words
+    part-put-words-start
+    part-put-words-end
+    add-put-words
+    sub-put-words-2
+    part-put-words-start-2
+    part-put-words-end-2
+    put-words-requires
+    same-length
+    returns)

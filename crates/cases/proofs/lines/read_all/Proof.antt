@@ -3,10 +3,10 @@ use Rattle.cases.proofs.lines.read_all.Statement.{statement}
 use Rattle.cases.proofs.lines.read_all.Tie as tie
 
 abbrev Inv-loop : tie.InvT-loop
-Inv-loop fd path piece₀ line₀ code₀ main₀ local₀ cache₀ kept₀ s₀ turns₀ piece line code main local cache kept s turns = Unit {0}
+Inv-loop fd path piece₀ line₀ code₀ main₀ local₀ cache₀ kept₀ out₀ s₀ turns₀ piece line code main local cache kept out s turns = Unit {0}
 
 abbrev μ-loop : tie.MeasureT-loop
-μ-loop fd path piece₀ line₀ code₀ main₀ local₀ cache₀ kept₀ s₀ turns₀ piece line code main local cache kept s turns = turns
+μ-loop fd path piece₀ line₀ code₀ main₀ local₀ cache₀ kept₀ out₀ s₀ turns₀ piece line code main local cache kept out s turns = turns
 
 no-input-requires : tie.Need-no-input-requires Inv-loop μ-loop
 no-input-requires c κs = tt
@@ -23,11 +23,17 @@ look-requires c κs = tt
 take-requires : tie.Need-take-requires Inv-loop μ-loop
 take-requires c κs = tt
 
-element-copy-out-if1 : tie.Need-element-copy-out-if1 Inv-loop μ-loop
-element-copy-out-if1 c = search needs
+write-out-requires : tie.Need-write-out-requires Inv-loop μ-loop
+write-out-requires c κs = tt
 
 returns : tie.Need-returns Inv-loop μ-loop
 returns c = search needs
+
+element-copy-out-if2 : tie.Need-element-copy-out-if2 Inv-loop μ-loop
+element-copy-out-if2 c = search needs
+
+returns-2 : tie.Need-returns-2 Inv-loop μ-loop
+returns-2 c = search needs
 
 loop-less : tie.Need-loop-less Inv-loop μ-loop
 loop-less c = search needs
@@ -35,8 +41,8 @@ loop-less c = search needs
 loop-again : tie.Need-loop-again Inv-loop μ-loop
 loop-again c = search needs
 
-returns-2 : tie.Need-returns-2 Inv-loop μ-loop
-returns-2 c = search needs
+returns-3 : tie.Need-returns-3 Inv-loop μ-loop
+returns-3 c = search needs
 
 pub read-all-spec : {M : Type 1} → statement M
 read-all-spec =
@@ -49,8 +55,10 @@ read-all-spec =
     sub-turns
     look-requires
     take-requires
-    element-copy-out-if1
+    write-out-requires
     returns
+    element-copy-out-if2
+    returns-2
     loop-less
     loop-again
-    returns-2)
+    returns-3)
