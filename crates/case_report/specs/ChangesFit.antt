@@ -1,16 +1,16 @@
 -- How long the lines on what an operation changed can get: the buffer of a report, which has 1,048,576 bytes, has room for all of them
 -- behind the answer and the state, so nothing of a report is left out.
 use Prim.Native.Nat.{ℕ, zero, suc, _+_, _*_, _/_, _%_, _^_, _≤_, _<_, min}
-use mathlib.Core.Path.{_≡_, refl, sym, ap, _∙_}
+use mathlib.Core.Path.{_≡_, refl}
 use mathlib.Core.Bool.{Bool, true, false, cond}
-use mathlib.Core.List.{List, [], _∷_, _++_}
+use mathlib.Core.List.{List, [], _∷_}
 use native.Mathlib.Nat.{pow-suc, mul-le-mul-right, le-trans}
 use native.Mathlib.Omega.{arith}
 use lib.ListN.{length, getD, length-append, length-take}
 use lib.Dec.{eqb}
 use borrow.Author.Tests.{eqb-false}
 use Rattle.text.specs.Field.{sameBytes}
-use Rattle.text.specs.Number.{glyph, decimalBefore, decimalText, hexBefore}
+use Rattle.text.specs.Number.{glyph, decimalBefore, hexBefore}
 use Rattle.case_words.specs.Names.{bytes}
 use Rattle.case_kept.specs.declared.extent.Extents.{Extents}
 use Rattle.case_report.specs.Form.{isHole, shown, filled}

@@ -1,5 +1,4 @@
 use native.Mathlib.Omega.{arith}
-use mathlib.Core.Path.{refl}
 use Rattle.case_report.specs.Form.{isHole}
 use borrow.Author.Needs.{needs}
 use Rattle.case_report.proofs.form.next_number.Statement.{statement}

@@ -1,5 +1,5 @@
-use borrow.Author.Tests.{eq-eqb, ne-eqb}
-use mathlib.Core.Path.{_≡_, sym, _∙_}
+use borrow.Author.Tests.{ne-eqb}
+use mathlib.Core.Path.{sym, _∙_}
 use Rattle.case_report.specs.Form.{shown}
 use Rattle.text.specs.PageLaws.{text-byte}
 use borrow.Author.Needs.{needs}
