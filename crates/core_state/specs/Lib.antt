@@ -2,3 +2,4 @@ pub mod State
 pub mod Writes
 pub mod Core
 pub mod CoreLaws
+pub mod WordLaws
