@@ -3,7 +3,7 @@ ghost use mathlib.Core.Path.{_≡_};
 ghost use mathlib.Core.Bool.{true};
 ghost use Rattle.settings.specs.Settings.{admits};
 ghost use Rattle.settings.specs.Setup.{buffers, found, left, lent, setup, setupOf};
-ghost use Rattle.core_state.specs.Core.{foundState};
+ghost use Rattle.core_state.specs.Core.{foundState, Kept};
 ghost use Rattle.bundle_model.specs.Execute.{handedBack};
 ghost use Rattle.run_model.specs.Loop.{goesOn, advanced};
 use crate::outcome::ended;
@@ -32,7 +32,7 @@ fn bundles(
     budget: u32,
 ) -> Advanced
     requires { ⌜ (admits g ≡ true) × (g ≡ lent (setupOf (now code) g) (buffers (now main) (now local) (now cache))) ⌝ }
-    ensures { λ r. ⌜ handedBack registers predicates r (left main local cache) ≡ goesOn (setupOf (now (code .entry)) g) budget (foundState registers predicates start) (found main local cache) ⌝ }
+    ensures { λ r. ⌜ Kept (handedBack registers predicates r (left main local cache) ≡ goesOn (setupOf (now (code .entry)) g) budget (foundState registers predicates start) (found main local cache)) start (r .core) ⌝ }
 {
     let mut core = start;
     let mut counts = no_counts();
@@ -81,7 +81,7 @@ pub fn advance(
     cache: &mut [u32],
     budget: u32,
 ) -> Advanced
-    ensures { λ r. ⌜ handedBack registers predicates r (left main local cache) ≡ advanced (setup (now (code .entry)) config) budget (foundState registers predicates core) (found main local cache) ⌝ }
+    ensures { λ r. ⌜ Kept (handedBack registers predicates r (left main local cache) ≡ advanced (setup (now (code .entry)) config) budget (foundState registers predicates core) (found main local cache)) core (r .core) ⌝ }
 {
     let g = config.settings(code, main.len(), local.len(), cache.len());
     match readiness(core, &*registers, &*predicates, g) {

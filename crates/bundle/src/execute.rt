@@ -6,7 +6,7 @@ ghost use Rattle.settings.specs.Settings.{admits};
 ghost use mathlib.Core.List.{List};
 ghost use Prim.Native.Nat.{ℕ};
 ghost use Rattle.settings.specs.Setup.{found, left, setupOf};
-ghost use Rattle.core_state.specs.Core.{foundState};
+ghost use Rattle.core_state.specs.Core.{foundState, Kept};
 ghost use Rattle.bundle_model.specs.Execute.{handedBack, executed};
 use crate::outcome::done;
 use crate::outcome::refused;
@@ -34,7 +34,7 @@ pub(crate) fn execute(
     cache: &mut [u32],
 ) -> Advanced
     requires { ⌜ (admits g ≡ true) × (g .main ≡ length (now main)) ⌝ }
-    ensures { λ r. ⌜ ((code : List ℕ) → handedBack registers predicates r (left main local cache) ≡ executed g (setupOf code g) (foundState registers predicates core) one two following (found main local cache)) ⌝ }
+    ensures { λ r. ⌜ Kept ((code : List ℕ) → handedBack registers predicates r (left main local cache) ≡ executed g (setupOf code g) (foundState registers predicates core) one two following (found main local cache)) core (r .core) ⌝ }
 {
     match carry_out(core, g, one, &mut *main, &mut *local, &mut *cache) {
         Carried::Refused(n) => refused(core, n),

@@ -24,7 +24,7 @@ pub(crate) fn no_counts() -> Counts
 
 // A refused bundle changes nothing and counts nothing.
 pub(crate) fn refused(core: Core, n: u32) -> Advanced
-    ensures { λ r. ⌜ ((rs : List ℕ) (ps : List Bool) → steppedAs rs ps r ≡ refusedWith (joined rs ps core) n) ⌝ }
+    ensures { λ r. ⌜ ((rs : List ℕ) (ps : List Bool) → steppedAs rs ps r ≡ refusedWith (joined rs ps core) n) × (r .core ≡ core) ⌝ }
 {
     Advanced {
         answer: Answer::Refused(n),
@@ -35,7 +35,7 @@ pub(crate) fn refused(core: Core, n: u32) -> Advanced
 
 // Where the code has ended all stays as it is, and nothing is counted.
 pub(crate) fn ended(core: Core) -> Advanced
-    ensures { λ r. ⌜ ((rs : List ℕ) (ps : List Bool) → steppedAs rs ps r ≡ endedWith (joined rs ps core)) ⌝ }
+    ensures { λ r. ⌜ ((rs : List ℕ) (ps : List Bool) → steppedAs rs ps r ≡ endedWith (joined rs ps core)) × (r .core ≡ core) ⌝ }
 {
     Advanced {
         answer: Answer::Ended,
@@ -45,7 +45,7 @@ pub(crate) fn ended(core: Core) -> Advanced
 }
 
 pub(crate) fn done(core: Core, cycles: u64, spilled: u32, filled: u32) -> Advanced
-    ensures { λ r. ⌜ ((rs : List ℕ) (ps : List Bool) → steppedAs rs ps r ≡ doneWith (joined rs ps core) cycles spilled filled) ⌝ }
+    ensures { λ r. ⌜ ((rs : List ℕ) (ps : List Bool) → steppedAs rs ps r ≡ doneWith (joined rs ps core) cycles spilled filled) × (r .core ≡ core) ⌝ }
 {
     Advanced {
         answer: Answer::Done,

@@ -4,7 +4,7 @@ ghost use mathlib.Core.Bool.{true};
 ghost use lib.ListN.{length};
 ghost use Rattle.settings.specs.Settings.{admits};
 ghost use Rattle.settings.specs.Setup.{found, left, setupOf};
-ghost use Rattle.core_state.specs.Core.{foundState};
+ghost use Rattle.core_state.specs.Core.{foundState, Kept};
 ghost use Rattle.bundle_model.specs.Counts.{Few};
 ghost use Rattle.bundle_model.specs.Bundle.{bundle};
 ghost use Rattle.bundle_model.specs.Execute.{handedBack};
@@ -40,7 +40,7 @@ impl Underway {
         cache: &mut [u32],
     ) -> Advanced
         requires { ⌜ (admits g ≡ true) × (g .main ≡ length (now main)) × (g .code ≡ length (now code)) × Few 4294967294 (self .counts) ⌝ }
-        ensures { λ r. ⌜ handedBack registers predicates r (left main local cache) ≡ counted (self .counts) (bundle g (setupOf (now (code .entry)) g) (foundState registers predicates (self .core)) (found main local cache)) ⌝ }
+        ensures { λ r. ⌜ Kept (handedBack registers predicates r (left main local cache) ≡ counted (self .counts) (bundle g (setupOf (now (code .entry)) g) (foundState registers predicates (self .core)) (found main local cache))) (self .core) (r .core) ⌝ }
     {
         let core = self.core;
         let before = self.counts;
@@ -77,7 +77,7 @@ fn bundle(
     cache: &mut [u32],
 ) -> Advanced
     requires { ⌜ (admits g ≡ true) × (g .main ≡ length (now main)) × (g .code ≡ length (now code)) ⌝ }
-    ensures { λ r. ⌜ handedBack registers predicates r (left main local cache) ≡ bundle g (setupOf (now (code .entry)) g) (foundState registers predicates core) (found main local cache) ⌝ }
+    ensures { λ r. ⌜ Kept (handedBack registers predicates r (left main local cache) ≡ bundle g (setupOf (now (code .entry)) g) (foundState registers predicates core) (found main local cache)) core (r .core) ⌝ }
 {
     let at = core.fetch;
     match fetch(code, at) {

@@ -5,13 +5,15 @@ ghost use mathlib.Core.List.{List};
 ghost use Prim.Native.Nat.{ℕ};
 ghost use Rattle.core_state.specs.State.{landed};
 ghost use Rattle.core_state.specs.Writes.{writeAlu};
-ghost use Rattle.core_state.specs.Core.{joined, waitingTransfer, foundState, leftState};
+ghost use Rattle.core_state.specs.Core.{joined, waitingTransfer, foundState, leftState, loadWords, Written};
 ghost use Rattle.bundle_model.specs.Bundle.{onward, cyclesOf, undelayedCycles};
 ghost use Rattle.bundle_model.specs.Execute.{writeDone};
+ghost use Rattle.bundle_writes.specs.Words.{onwardWords, loadAfter};
 use alu_effects::AluEffect;
 use core_state::Core;
-use core_state::LoadWords;
 use core_state::TransferWords;
+use core_state::WaitingLoad;
+use core_state::waiting::load_waits;
 use effects::Effect;
 use effects::Transfer;
 
@@ -25,7 +27,7 @@ fn write_one(
     st: u32,
     ss: u32,
 ) -> Core
-    ensures { λ r. ⌜ leftState registers predicates r ≡ writeDone one loaded st ss (foundState registers predicates core) ⌝ }
+    ensures { λ r. ⌜ Written (leftState registers predicates r ≡ writeDone one loaded st ss (foundState registers predicates core)) r (core .transfer) (loadAfter one loaded (core .load)) ⌝ }
 {
     match one {
         Effect::Alu(a) => core.write_alu(&mut *registers, &mut *predicates, a),
@@ -36,11 +38,7 @@ fn write_one(
             width: _,
             rd,
             address: _,
-        } => core.with_load(LoadWords {
-            waits: 1,
-            register: rd,
-            value: loaded,
-        }),
+        } => core.with_load(load_waits(rd, loaded)),
         Effect::Stack {
             control: _,
             words: _,
@@ -52,7 +50,7 @@ fn write_one(
 
 // The end of a bundle: its own transfer begins, or one that waits comes nearer.
 fn onward(core: Core, one: Effect, waiting: TransferWords, following: u32) -> Core
-    ensures { λ r. ⌜ ((rs : List ℕ) (ps : List Bool) → joined rs ps r ≡ onward one (waitingTransfer waiting) following (joined rs ps core)) ⌝ }
+    ensures { λ r. ⌜ Written ((rs : List ℕ) (ps : List Bool) → joined rs ps r ≡ onward one (waitingTransfer waiting) following (joined rs ps core)) r (onwardWords one waiting) (core .load) ⌝ }
 {
     if let Effect::Transfer { delayed, transfer } = one {
         return core.begin(delayed, transfer, following);
@@ -72,7 +70,7 @@ pub fn write(
     st: u32,
     ss: u32,
 ) -> Core
-    ensures { λ r. ⌜ leftState registers predicates r ≡ onward one (waitingTransfer (core .transfer)) following (writeAlu two (writeDone one loaded st ss (landed (foundState registers predicates core)))) ⌝ }
+    ensures { λ r. ⌜ Written (leftState registers predicates r ≡ onward one (waitingTransfer (core .transfer)) following (writeAlu two (writeDone one loaded st ss (landed (foundState registers predicates core))))) r (onwardWords one (core .transfer)) (loadAfter one loaded (loadWords WaitingLoad.Nothing)) ⌝ }
 {
     let waiting = core.transfer;
     let onto = core.land_load(&mut *registers);

@@ -1,10 +1,11 @@
 -- The state in three parts, for the contracts of the functions that are lent the registers and the predicates.
-use Prim.Native.Nat.{ℕ}
+use Prim.Native.Nat.{ℕ, _-_}
 use mathlib.Core.Bool.{Bool, cond}
 use mathlib.Core.List.{List}
+use mathlib.Core.Path.{_≡_}
 use denote.Ref.{RefT, now}
 use denote.Triple.Both.{Both}
-use lib.Dec.{eqb}
+use lib.Dec.{eqb, leb}
 use Rattle.effects.specs.declared.Transfer.{Transfer}
 use Rattle.effects.specs.declared.Transfer.the-variants.{Br, Call, Block}
 use Rattle.core_state.specs.declared.TransferWords.{TransferWords}
@@ -14,6 +15,7 @@ use Rattle.core_state.specs.declared.WaitingTransfer.the-variants as tra
 use Rattle.core_state.specs.declared.WaitingLoad.{WaitingLoad}
 use Rattle.core_state.specs.declared.WaitingLoad.the-variants as load
 use Rattle.core_state.specs.State.{State, state}
+use Rattle.core_state.specs.Writes.{delaySlots}
 use Rattle.core_state.specs.declared.Core.{Core}
 
 -- What waits, of its words.
@@ -25,6 +27,47 @@ waitingTransfer w = cond (eqb (w .kind) 0) transfer.Nothing (transfer.Waits (tra
 
 unfoldable pub waitingLoad : LoadWords → WaitingLoad
 waitingLoad l = cond (eqb (l .waits) 0) load.Nothing (load.Waits (l .register) (l .value))
+
+-- The words of what waits. Other words mean the same, since any kind from 3 on is a block and beside a kind of 0 no word counts: a
+-- contract that named only the meaning would leave the words open.
+abbrev pub fourWords : ℕ → ℕ → ℕ → ℕ → TransferWords
+fourWords kind target base wait = record { kind = kind; target = target; base = base; wait = wait }
+
+unfoldable pub transferWords : WaitingTransfer → TransferWords
+transferWords transfer.Nothing = fourWords 0 0 0 0
+transferWords (transfer.Waits (Br target) wait) = fourWords 1 target 0 wait
+transferWords (transfer.Waits (Call target) wait) = fourWords 2 target 0 wait
+transferWords (transfer.Waits (Block target base) wait) = fourWords 3 target base wait
+
+unfoldable pub loadWords : WaitingLoad → LoadWords
+loadWords load.Nothing = record { waits = 0; register = 0; value = 0 }
+loadWords (load.Waits r v) = record { waits = 1; register = r; value = v }
+
+-- The words of a transfer at the end of a bundle: one that waited, and one that begins.
+abbrev pub oneLess : TransferWords → TransferWords
+oneLess w = fourWords (w .kind) (w .target) (w .base) (w .wait - 1)
+
+unfoldable pub nearerWords : TransferWords → TransferWords
+nearerWords w = cond (eqb (w .kind) 0) w (cond (leb (w .wait) 1) (transferWords transfer.Nothing) (oneLess w))
+
+unfoldable pub begunWords : Bool → Transfer → TransferWords
+begunWords delayed t = cond delayed (transferWords (transfer.Waits t (delaySlots t))) (transferWords transfer.Nothing)
+
+-- In contracts, what a function says of the core that it gives: the state that it makes, and the words of what waits in it.
+pub record Written (Makes : Type 0) (c : Core) (w : TransferWords) (l : LoadWords) : Type 0 where
+  pub state : Makes
+  pub transfer : c .transfer ≡ w
+  pub load : c .load ≡ l
+
+-- A core whose words are those of what waits in it. Such a core is determined by its state.
+pub record Canonical (c : Core) : Type 0 where
+  pub transfer : transferWords (waitingTransfer (c .transfer)) ≡ c .transfer
+  pub load : loadWords (waitingLoad (c .load)) ≡ c .load
+
+-- In contracts, that a function keeps a core canonical, beside what it gives.
+pub record Kept (Given : Type 0) (c r : Core) : Type 0 where
+  pub given : Given
+  pub canonical : Canonical c → Canonical r
 
 -- A state of its registers, its predicates and the rest.
 abbrev pub joined : List ℕ → List Bool → Core → State

@@ -3,3 +3,4 @@ pub mod State
 pub mod Writes
 pub mod Core
 pub mod CoreLaws
+pub mod WordLaws

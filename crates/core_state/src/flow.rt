@@ -3,7 +3,7 @@ ghost use mathlib.Core.Path.{_≡_};
 ghost use mathlib.Core.Bool.{Bool};
 ghost use mathlib.Core.List.{List};
 ghost use Prim.Native.Nat.{ℕ};
-ghost use Rattle.core_state.specs.Core.{joined, waitingTransfer, foundState, leftState};
+ghost use Rattle.core_state.specs.Core.{joined, waitingTransfer, nearerWords, begunWords, Written, foundState, leftState};
 ghost use Rattle.core_state.specs.Writes.{writeAlu, delaySlots, nearer, begun};
 use crate::Core;
 use crate::TransferWords;
@@ -32,7 +32,7 @@ impl Core {
         predicates: &mut [bool; 8],
         e: AluEffect,
     ) -> Core
-        ensures { λ r. ⌜ leftState registers predicates r ≡ writeAlu e (foundState registers predicates self) ⌝ }
+        ensures { λ r. ⌜ Written (leftState registers predicates r ≡ writeAlu e (foundState registers predicates self)) r (self .transfer) (self .load) ⌝ }
     {
         match e {
             AluEffect::Nothing => self,
@@ -43,7 +43,7 @@ impl Core {
 
     // A transfer that waits comes one bundle nearer, and is carried out when it falls due.
     pub fn nearer(self, waiting: TransferWords, following: u32) -> Core
-        ensures { λ r. ⌜ ((rs : List ℕ) (ps : List Bool) → joined rs ps r ≡ nearer (waitingTransfer waiting) following (joined rs ps self)) ⌝ }
+        ensures { λ r. ⌜ Written ((rs : List ℕ) (ps : List Bool) → joined rs ps r ≡ nearer (waitingTransfer waiting) following (joined rs ps self)) r (nearerWords waiting) (self .load) ⌝ }
     {
         if waiting.kind == 0 {
             return self.go_on(following, waiting);
@@ -56,7 +56,7 @@ impl Core {
 
     // A transfer of this bundle: it waits for its delay slots, or is carried out at once.
     pub fn begin(self, delayed: bool, transfer: Transfer, following: u32) -> Core
-        ensures { λ r. ⌜ ((rs : List ℕ) (ps : List Bool) → joined rs ps r ≡ begun delayed transfer following (joined rs ps self)) ⌝ }
+        ensures { λ r. ⌜ Written ((rs : List ℕ) (ps : List Bool) → joined rs ps r ≡ begun delayed transfer following (joined rs ps self)) r (begunWords delayed transfer) (self .load) ⌝ }
     {
         if delayed {
             let wait = delay_slots(transfer);

@@ -3,7 +3,7 @@ ghost use mathlib.Core.Path.{_≡_};
 ghost use mathlib.Core.Bool.{Bool, true};
 ghost use mathlib.Core.List.{List, _∷_};
 ghost use Prim.Native.Nat.{ℕ, _/_};
-ghost use Rattle.core_state.specs.Core.{joined};
+ghost use Rattle.core_state.specs.Core.{joined, Written};
 ghost use Rattle.core_state.specs.State.{predicatesOf, withSpecial, withProduct, withStack};
 use crate::Core;
 use isa::Special;
@@ -33,7 +33,7 @@ fn predicates_of(v: u32) -> [bool; 8]
 
 impl Core {
     pub fn write_special(mut self, predicates: &mut [bool; 8], s: Special, v: u32) -> Core
-        ensures { λ r. ⌜ ((rs : List ℕ) → joined rs (now (predicates .exit)) r ≡ withSpecial (joined rs (now (predicates .entry)) self) s v) ⌝ }
+        ensures { λ r. ⌜ Written ((rs : List ℕ) → joined rs (now (predicates .exit)) r ≡ withSpecial (joined rs (now (predicates .entry)) self) s v) r (self .transfer) (self .load) ⌝ }
     {
         match s {
             Special::S0 => *predicates = predicates_of(v),
@@ -50,7 +50,7 @@ impl Core {
     }
 
     pub fn write_product(mut self, low: u32, high: u32) -> Core
-        ensures { λ r. ⌜ ((rs : List ℕ) (ps : List Bool) → joined rs ps r ≡ withProduct (joined rs ps self) low high) ⌝ }
+        ensures { λ r. ⌜ Written ((rs : List ℕ) (ps : List Bool) → joined rs ps r ≡ withProduct (joined rs ps self) low high) r (self .transfer) (self .load) ⌝ }
     {
         self.specials.sl = low;
         self.specials.sh = high;
@@ -58,7 +58,7 @@ impl Core {
     }
 
     pub fn write_stack(mut self, st: u32, ss: u32) -> Core
-        ensures { λ r. ⌜ ((rs : List ℕ) (ps : List Bool) → joined rs ps r ≡ withStack (joined rs ps self) st ss) ⌝ }
+        ensures { λ r. ⌜ Written ((rs : List ℕ) (ps : List Bool) → joined rs ps r ≡ withStack (joined rs ps self) st ss) r (self .transfer) (self .load) ⌝ }
     {
         self.specials.st = st;
         self.specials.ss = ss;

@@ -1,8 +1,8 @@
 // What waits, as words inside a bundle and as enums in a state.
 ghost use mathlib.Core.Path.{_≡_};
-ghost use Prim.Native.Nat.{_-_, _≤_};
+ghost use Prim.Native.Nat.{_≤_};
 ghost use Rattle.core_state.specs.State.{loadOk, waitOk, noneWaits};
-ghost use Rattle.core_state.specs.Core.{transferIn, waitingTransfer, waitingLoad};
+ghost use Rattle.core_state.specs.Core.{transferIn, waitingTransfer, waitingLoad, transferWords, loadWords, oneLess};
 use crate::LoadWords;
 use crate::TransferWords;
 use crate::WaitingLoad;
@@ -11,7 +11,7 @@ use effects::Transfer;
 
 // A transfer that waits this long.
 pub(crate) fn transfer_waits(t: Transfer, wait: u32) -> TransferWords
-    ensures { λ r. ⌜ waitingTransfer r ≡ WaitingTransfer.Waits t wait ⌝ }
+    ensures { λ r. ⌜ r ≡ transferWords (WaitingTransfer.Waits t wait) ⌝ }
 {
     match t {
         Transfer::Br { target } => TransferWords {
@@ -36,7 +36,7 @@ pub(crate) fn transfer_waits(t: Transfer, wait: u32) -> TransferWords
 }
 
 pub(crate) fn no_transfer() -> TransferWords
-    ensures { λ r. ⌜ waitingTransfer r ≡ WaitingTransfer.Nothing ⌝ }
+    ensures { λ r. ⌜ r ≡ transferWords WaitingTransfer.Nothing ⌝ }
 {
     TransferWords {
         kind: 0,
@@ -47,7 +47,7 @@ pub(crate) fn no_transfer() -> TransferWords
 }
 
 pub fn transfer_words(w: WaitingTransfer) -> TransferWords
-    ensures { λ r. ⌜ waitingTransfer r ≡ w ⌝ }
+    ensures { λ r. ⌜ r ≡ transferWords w ⌝ }
 {
     match w {
         WaitingTransfer::Nothing => no_transfer(),
@@ -80,10 +80,10 @@ pub fn waiting_transfer(w: TransferWords) -> WaitingTransfer
     WaitingTransfer::Waits { transfer, wait }
 }
 
-// A transfer with two bundles or more to wait comes one nearer.
+// A transfer comes one bundle nearer: its other words stay.
 pub(crate) fn one_less(w: TransferWords) -> TransferWords
-    requires { ⌜ (w .kind ≡ 0 → ⊥) × (2 ≤ w .wait) ⌝ }
-    ensures { λ r. ⌜ waitingTransfer r ≡ WaitingTransfer.Waits (transferIn w) (w .wait - 1) ⌝ }
+    requires { ⌜ 1 ≤ w .wait ⌝ }
+    ensures { λ r. ⌜ r ≡ oneLess w ⌝ }
 {
     TransferWords {
         kind: w.kind,
@@ -94,7 +94,7 @@ pub(crate) fn one_less(w: TransferWords) -> TransferWords
 }
 
 pub(crate) fn no_load() -> LoadWords
-    ensures { λ r. ⌜ waitingLoad r ≡ WaitingLoad.Nothing ⌝ }
+    ensures { λ r. ⌜ r ≡ loadWords WaitingLoad.Nothing ⌝ }
 {
     LoadWords {
         waits: 0,
@@ -103,16 +103,23 @@ pub(crate) fn no_load() -> LoadWords
     }
 }
 
+// A load of this value to this register waits.
+pub fn load_waits(register: u32, value: u32) -> LoadWords
+    ensures { λ r. ⌜ r ≡ loadWords (WaitingLoad.Waits register value) ⌝ }
+{
+    LoadWords {
+        waits: 1,
+        register,
+        value,
+    }
+}
+
 pub fn load_words(l: WaitingLoad) -> LoadWords
-    ensures { λ r. ⌜ waitingLoad r ≡ l ⌝ }
+    ensures { λ r. ⌜ r ≡ loadWords l ⌝ }
 {
     match l {
         WaitingLoad::Nothing => no_load(),
-        WaitingLoad::Waits { register, value } => LoadWords {
-            waits: 1,
-            register,
-            value,
-        },
+        WaitingLoad::Waits { register, value } => load_waits(register, value),
     }
 }
 

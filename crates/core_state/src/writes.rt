@@ -4,10 +4,12 @@ ghost use mathlib.Core.Bool.{Bool};
 ghost use mathlib.Core.List.{List};
 ghost use Prim.Native.Nat.{ℕ};
 ghost use Rattle.core_state.specs.State.{withRegister, withPredicate, withLoad, landed, goingOn, transferred};
-ghost use Rattle.core_state.specs.Core.{joined, waitingTransfer, waitingLoad};
+ghost use Rattle.core_state.specs.Core.{joined, waitingTransfer, waitingLoad, transferWords, loadWords, Written};
 use crate::Core;
 use crate::LoadWords;
 use crate::TransferWords;
+use crate::WaitingLoad;
+use crate::WaitingTransfer;
 use crate::waiting::no_load;
 use crate::waiting::no_transfer;
 use effects::Transfer;
@@ -15,7 +17,7 @@ use effects::Transfer;
 impl Core {
     // A register written; r0 stays zero.
     pub fn write_register(self, registers: &mut [u32; 32], r: u32, v: u32) -> Core
-        ensures { λ x. ⌜ ((ps : List Bool) → joined (now (registers .exit)) ps x ≡ withRegister (joined (now (registers .entry)) ps self) r v) ⌝ }
+        ensures { λ x. ⌜ Written ((ps : List Bool) → joined (now (registers .exit)) ps x ≡ withRegister (joined (now (registers .entry)) ps self) r v) x (self .transfer) (self .load) ⌝ }
     {
         registers::write_register(&mut *registers, r, v);
         self
@@ -23,7 +25,7 @@ impl Core {
 
     // A predicate written; p0 stays true.
     pub(crate) fn write_predicate(self, predicates: &mut [bool; 8], p: u32, v: bool) -> Core
-        ensures { λ x. ⌜ ((rs : List ℕ) → joined rs (now (predicates .exit)) x ≡ withPredicate (joined rs (now (predicates .entry)) self) p v) ⌝ }
+        ensures { λ x. ⌜ Written ((rs : List ℕ) → joined rs (now (predicates .exit)) x ≡ withPredicate (joined rs (now (predicates .entry)) self) p v) x (self .transfer) (self .load) ⌝ }
     {
         registers::write_predicate(&mut *predicates, p, v);
         self
@@ -31,7 +33,7 @@ impl Core {
 
     // The waiting load replaced.
     pub fn with_load(self, load: LoadWords) -> Core
-        ensures { λ x. ⌜ ((rs : List ℕ) (ps : List Bool) → joined rs ps x ≡ withLoad (joined rs ps self) (waitingLoad load)) ⌝ }
+        ensures { λ x. ⌜ Written ((rs : List ℕ) (ps : List Bool) → joined rs ps x ≡ withLoad (joined rs ps self) (waitingLoad load)) x (self .transfer) load ⌝ }
     {
         let specials = self.specials;
         let transfer = self.transfer;
@@ -47,7 +49,7 @@ impl Core {
     // The load waiting from the bundle before is written, and waits no more. The result is built anew on both ways: one that is
     // handed back as it came would be copied whole.
     pub fn land_load(self, registers: &mut [u32; 32]) -> Core
-        ensures { λ x. ⌜ ((ps : List Bool) → joined (now (registers .exit)) ps x ≡ landed (joined (now (registers .entry)) ps self)) ⌝ }
+        ensures { λ x. ⌜ Written ((ps : List Bool) → joined (now (registers .exit)) ps x ≡ landed (joined (now (registers .entry)) ps self)) x (self .transfer) (loadWords WaitingLoad.Nothing) ⌝ }
     {
         let load = self.load;
         if load.waits == 0 {
@@ -59,7 +61,7 @@ impl Core {
 
     // Going on at an address, with a transfer that waits or none.
     pub(crate) fn go_on(self, fetch: u32, transfer: TransferWords) -> Core
-        ensures { λ x. ⌜ ((rs : List ℕ) (ps : List Bool) → joined rs ps x ≡ goingOn (joined rs ps self) fetch (waitingTransfer transfer)) ⌝ }
+        ensures { λ x. ⌜ Written ((rs : List ℕ) (ps : List Bool) → joined rs ps x ≡ goingOn (joined rs ps self) fetch (waitingTransfer transfer)) x transfer (self .load) ⌝ }
     {
         let specials = self.specials;
         let load = self.load;
@@ -74,7 +76,7 @@ impl Core {
 
     // A transfer carried out at the end of a bundle, whose following address a call keeps, relative to the old base.
     pub fn transfer(mut self, transfer: Transfer, following: u32) -> Core
-        ensures { λ x. ⌜ ((rs : List ℕ) (ps : List Bool) → joined rs ps x ≡ transferred (joined rs ps self) transfer following) ⌝ }
+        ensures { λ x. ⌜ Written ((rs : List ℕ) (ps : List Bool) → joined rs ps x ≡ transferred (joined rs ps self) transfer following) x (transferWords WaitingTransfer.Nothing) (self .load) ⌝ }
     {
         match transfer {
             Transfer::Br { target } => self.go_on(target, no_transfer()),

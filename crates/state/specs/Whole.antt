@@ -1,11 +1,33 @@
 -- The state that a struct State holds, and what the functions of the state by value give.
+use Prim.Native.Nat.{ℕ}
+use mathlib.Core.Bool.{Bool}
+use mathlib.Core.List.{List}
+use mathlib.Core.Path.{_≡_, sym, _∙_}
 use Rattle.core_state.specs.State.{State, state}
+use Rattle.core_state.specs.declared.Core.{Core}
+use Rattle.core_state.specs.Core.{joined, transferWords, loadWords, Canonical}
+use Rattle.core_state.specs.WordLaws.{transfer-back, load-back, words-fixed, load-fixed, determined}
 use Rattle.bundle_model.specs.Bundle.{Stepped}
 use Rattle.state.specs.declared.State as struct
 use Rattle.state.specs.declared.Stepped as struct-step
 
 unfoldable pub stateOf : struct.State → State
 stateOf s = state (s .registers) (s .predicates) (s .specials) (s .fetch) (s .base) (s .transfer) (s .load)
+
+-- The core of a struct State, which is canonical and makes its state; and any canonical core that makes this state is the same.
+abbrev pub coreOf : struct.State → Core
+coreOf s =
+    record { specials = s .specials; fetch = s .fetch; base = s .base; transfer = transferWords (s .transfer); load = loadWords (s .load) }
+
+pub core-canonical : (s : struct.State) → Canonical (coreOf s)
+core-canonical s = record { transfer = words-fixed (s .transfer); load = load-fixed (s .load) }
+
+pub core-joined : (s : struct.State) → joined (s .registers) (s .predicates) (coreOf s) ≡ stateOf s
+unfolding stateOf
+core-joined s = λ i. state (s .registers) (s .predicates) (s .specials) (s .fetch) (s .base) (transfer-back (s .transfer) i) (load-back (s .load) i)
+
+pub core-determined : (s : struct.State) (rs : List ℕ) (ps : List Bool) (c : Core) → Canonical c → joined rs ps c ≡ stateOf s → c ≡ coreOf s
+core-determined s rs ps c k e = determined rs (s .registers) ps (s .predicates) c (coreOf s) k (core-canonical s) (e ∙ sym (core-joined s))
 
 abbrev pub steppedOf : struct-step.Stepped → Stepped
 steppedOf r = record { answer = r .answer; state = stateOf (r .state); counts = r .counts }

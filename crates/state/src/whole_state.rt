@@ -3,7 +3,7 @@ ghost use mathlib.Core.Path.{_≡_};
 ghost use Rattle.settings.specs.Setup.{setup, found, left};
 ghost use Rattle.core_state.specs.Core.{joined};
 ghost use Rattle.bundle_model.specs.Bundle.{full, step};
-ghost use Rattle.state.specs.Whole.{stateOf, steppedOf};
+ghost use Rattle.state.specs.Whole.{stateOf, coreOf, steppedOf};
 use crate::State;
 use crate::Stepped;
 use bundle::advance::advance;
@@ -17,7 +17,7 @@ use settings::Config;
 impl State {
     // The state beside registers and predicates.
     pub fn core(self) -> Core
-        ensures { λ x. ⌜ joined (self .registers) (self .predicates) x ≡ stateOf self ⌝ }
+        ensures { λ x. ⌜ x ≡ coreOf self ⌝ }
     {
         let specials = self.specials;
         let waiting = self.transfer;

@@ -1,4 +1,4 @@
-use Rattle.core_state.specs.Core.{joined, waitingTransfer}
+use Rattle.core_state.specs.Core.{joined, waitingTransfer, nearerWords}
 use Prim.Native.Nat.{ℕ}
 use mathlib.Core.List.{List, [], _∷_}
 use mathlib.Core.Path.{_≡_, refl, sym, ap, _∙_}
@@ -9,6 +9,8 @@ use Rattle.effects.specs.declared.Effect.the-variants.{Alu, Special, Product, L
 use Rattle.effects.proofs.Effect.{the-type}
 use Rattle.core_state.specs.declared.WaitingTransfer.{WaitingTransfer}
 use Rattle.core_state.specs.State.{State}
+use Rattle.core_state.specs.declared.TransferWords.{TransferWords}
+use Rattle.bundle_writes.specs.Words.{onwardWords}
 use Rattle.core_state.specs.Writes.{nearer}
 use Rattle.bundle_model.specs.Bundle.{onward}
 use borrow.Author.Needs.{needs}
@@ -29,6 +31,16 @@ goes-on waiting following onto (Stack c n m) h = refl
 goes-on waiting following onto (Transfer d t) h = absurd (miss others 6 tt h)
 goes-on waiting following onto Exception h = refl
 
+words-go-on : (w : TransferWords) (e : Effect) → OneOf others (tagOf the-type e) → nearerWords w ≡ onwardWords e w
+words-go-on w (Alu a) h = refl
+words-go-on w (Special d v) h = refl
+words-go-on w (Product l k) h = refl
+words-go-on w (Load k b r a) h = refl
+words-go-on w (Store k b a v) h = refl
+words-go-on w (Stack c n m) h = refl
+words-go-on w (Transfer d t) h = absurd (miss others 6 tt h)
+words-go-on w Exception h = refl
+
 enum-known-one : tie.Need-enum-known-one
 enum-known-one c = c .match .keys1
 
@@ -36,13 +48,23 @@ begin-requires : tie.Need-begin-requires
 begin-requires c κs = tt
 
 returns : tie.Need-returns
-returns c = λ rs ps. rw (c .before .before .one .given .1) (c .begin .ensures rs ps)
+returns c =
+    let w = c .begin .ensures in
+    let e = c .before .before .one .given .1 in
+    record { state = λ rs ps. rw e (w .state rs ps); transfer = rw e (w .transfer); load = w .load }
 
 nearer-requires : tie.Need-nearer-requires
 nearer-requires c κs = tt
 
 returns-2 : tie.Need-returns-2
-returns-2 c = λ rs ps. let a = c .before .before .args in c .nearer .ensures rs ps ∙ goes-on (waitingTransfer (a .waiting)) (a .following) (joined rs ps (a .core)) (a .one) (c .before .match .keys2)
+returns-2 c =
+    let a = c .before .before .args in
+    let w = c .nearer .ensures in
+    record {
+      state = λ rs ps. w .state rs ps ∙ goes-on (waitingTransfer (a .waiting)) (a .following) (joined rs ps (a .core)) (a .one) (c .before .match .keys2);
+      transfer = w .transfer ∙ words-go-on (a .waiting) (a .one) (c .before .match .keys2);
+      load = w .load;
+    }
 
 pub onward-spec : {M : Type 1} → statement M
 onward-spec = tie.close (tie.spec enum-known-one begin-requires returns nearer-requires returns-2)

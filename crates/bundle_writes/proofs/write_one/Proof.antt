@@ -7,7 +7,9 @@ use Rattle.effects.specs.declared.Effect.{Effect}
 use Rattle.effects.specs.declared.Effect.the-variants.{Alu, Special, Product, Load, Store, Stack, Transfer, Exception}
 use Rattle.effects.proofs.Effect.{the-type}
 use Rattle.core_state.specs.State.{State}
-use Rattle.core_state.specs.Core.{waitingLoad}
+use Rattle.core_state.specs.declared.LoadWords.{LoadWords}
+use Rattle.core_state.specs.WordLaws.{load-back}
+use Rattle.bundle_writes.specs.Words.{loadAfter}
 use Rattle.bundle_model.specs.Execute.{writeDone}
 use borrow.Author.Needs.{needs}
 use Rattle.bundle_writes.proofs.write_one.Statement.{statement}
@@ -27,6 +29,16 @@ nothing-written loaded st ss onto (Store k w a v) h = refl
 nothing-written loaded st ss onto (Stack c n m) h = absurd (miss others 5 tt h)
 nothing-written loaded st ss onto (Transfer d t) h = refl
 nothing-written loaded st ss onto Exception h = refl
+
+load-left : (loaded : ℕ) (l : LoadWords) (e : Effect) → OneOf others (tagOf the-type e) → l ≡ loadAfter e loaded l
+load-left loaded l (Alu a) h = refl
+load-left loaded l (Special d v) h = refl
+load-left loaded l (Product p k) h = refl
+load-left loaded l (Load k w r a) h = absurd (miss others 3 tt h)
+load-left loaded l (Store k w a v) h = refl
+load-left loaded l (Stack c n m) h = refl
+load-left loaded l (Transfer d t) h = refl
+load-left loaded l Exception h = refl
 
 enum-known-one : tie.Need-enum-known-one
 enum-known-one c = c .match .keys1
@@ -49,6 +61,9 @@ write-product-requires c κs = tt
 enum-known-one-4 : tie.Need-enum-known-one-4
 enum-known-one-4 c = c .match .keys4
 
+load-waits-requires : tie.Need-load-waits-requires
+load-waits-requires c κs = tt
+
 with-load-requires : tie.Need-with-load-requires
 with-load-requires c κs = tt
 
@@ -60,27 +75,45 @@ write-stack-requires c κs = tt
 
 returns : tie.Need-returns
 unfolding writeDone
-returns c = rw (c .before .before .before .before .one .given .1) (c .write-alu .ensures)
+returns c =
+    let w = c .write-alu .ensures in
+    let e = c .before .before .before .before .one .given .1 in
+    record { state = rw e (w .state); transfer = w .transfer; load = rw e (w .load) }
 
 returns-2 : tie.Need-returns-2
 unfolding writeDone
-returns-2 c = rw (c .before .before .before .one2 .given .1) (c .write-special .ensures _)
+returns-2 c =
+    let w = c .write-special .ensures in
+    let e = c .before .before .before .one2 .given .1 in
+    record { state = rw e (w .state _); transfer = w .transfer; load = rw e (w .load) }
 
 returns-3 : tie.Need-returns-3
 unfolding writeDone
-returns-3 c = rw (c .before .before .one3 .given .1) (c .write-product .ensures _ _)
+returns-3 c =
+    let w = c .write-product .ensures in
+    let e = c .before .before .one3 .given .1 in
+    record { state = rw e (w .state _ _); transfer = w .transfer; load = rw e (w .load) }
 
 returns-4 : tie.Need-returns-4
-unfolding writeDone waitingLoad
-returns-4 c = rw (c .before .before .one4 .given .1) (c .with-load .ensures _ _)
+unfolding writeDone
+returns-4 c =
+    let w = c .with-load .ensures in
+    let e = c .before .before .before .one4 .given .1 in
+    let l = c .before .load-waits .ensures in
+    record { state = rw e (w .state _ _ ∙ rw (l, load-back _)); transfer = w .transfer; load = rw e (w .load ∙ l) }
 
 returns-5 : tie.Need-returns-5
 unfolding writeDone
-returns-5 c = rw (c .before .enum-told .given .1) (c .write-stack .ensures _ _)
+returns-5 c =
+    let w = c .write-stack .ensures in
+    let e = c .before .enum-told .given .1 in
+    record { state = rw e (w .state _ _); transfer = w .transfer; load = rw e (w .load) }
 
 returns-6 : tie.Need-returns-6
 unfolding writeDone
-returns-6 c = nothing-written _ _ _ _ (c .before .args .one) (c .match .keys6)
+returns-6 c =
+    let a = c .before .args in
+    record { state = nothing-written _ _ _ _ (a .one) (c .match .keys6); transfer = refl; load = load-left _ _ (a .one) (c .match .keys6) }
 
 pub write-one-spec : {M : Type 1} → statement M
 write-one-spec =
@@ -93,6 +126,7 @@ write-one-spec =
     enum-known-one-3
     write-product-requires
     enum-known-one-4
+    load-waits-requires
     with-load-requires
     enum-told
     write-stack-requires

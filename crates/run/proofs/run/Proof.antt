@@ -2,7 +2,8 @@ use mathlib.Core.Path.{_≡_, sym, ap, _∙_}
 use lib.ListN.{length}
 use Rattle.settings.specs.Setup.{setup, buffers}
 use Rattle.core_state.specs.State.{State}
-use Rattle.state.specs.Whole.{stateOf}
+use Rattle.core_state.specs.Core.{joined}
+use Rattle.state.specs.Whole.{stateOf, core-joined}
 use Rattle.run_model.specs.Loop.{advanced, ending}
 use Rattle.run_model.specs.LoopLaws.{run-advanced}
 use Rattle.run.specs.Ran.{ends-as}
@@ -43,7 +44,7 @@ returns c =
     let regs : length (a .start .registers) ≡ 32 = search (needs, c .before .before .before .before .before .before .before .before .before .before .before .before .before .before .before .before .before .before .before .before .before .before .before .before .good .0) in
     let preds : length (a .start .predicates) ≡ 8 = search (needs, c .before .before .before .before .before .before .before .before .before .before .before .before .before .before .before .before .before .before .before .before .before .before .before .before .good .0) in (
       ends-as x (c .before .before .before .before .before .before .before .before .before .before .before .advance .result .answer) _ (c .at-end .result) _ _ _ _ (c .at-end .ensures) (c .before .before .has-ended .ensures _ _) (c .before .join .ensures)
-          ∙ ap (ending x) (c .before .before .before .before .before .before .before .before .before .before .before .advance .ensures ∙ ap (λ (s : State). advanced x (a .budget) s b) (c .before .before .before .before .before .before .before .before .before .before .before .before .before .before .before .before .before .core .ensures))
+          ∙ ap (ending x) (c .before .before .before .before .before .before .before .before .before .before .before .advance .ensures .given ∙ ap (λ (s : State). advanced x (a .budget) s b) (ap (joined (a .start .registers) (a .start .predicates)) (c .before .before .before .before .before .before .before .before .before .before .before .before .before .before .before .before .before .core .ensures) ∙ core-joined (a .start)))
           ∙ sym (run-advanced x (stateOf (a .start)) b (a .budget)),
       record { registers = regs; predicates = preds },
     )

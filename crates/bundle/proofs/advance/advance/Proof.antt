@@ -1,7 +1,7 @@
-use mathlib.Core.Path.{sym, ap, _∙_}
+use mathlib.Core.Path.{sym, ap, subst, _∙_}
 use Rattle.settings.specs.declared.Settings.{Settings}
 use Rattle.settings.specs.Setup.{buffers, lent, setup, setupOf}
-use Rattle.core_state.specs.Core.{joined}
+use Rattle.core_state.specs.Core.{joined, Canonical}
 use Rattle.bundle_model.specs.declared.Readiness.{Readiness}
 use Rattle.bundle_model.specs.Bundle.{readiness, readyOr}
 use Rattle.bundle_model.specs.BundleLaws.{ready-admits}
@@ -47,7 +47,7 @@ returns c =
     let s = joined (a .registers .now) (a .predicates .now) (a .core) in
     let q = ap (λ (y : Settings). readiness y s) (sym (c .before .before .before .before .before .before .before .settings .ensures)) ∙ sym (c .before .before .before .before .readiness .ensures) ∙ c .before .before .n .given .1 in
     let ready = sym (ap (λ (r : Readiness). readyOr r s b (goesOn x (a .budget) s b)) q) in
-    full-same _ _ _ (c .refused .ensures _ _) ∙ ready
+    record { given = full-same _ _ _ (c .refused .ensures .0 _ _) ∙ ready; canonical = subst Canonical (sym (c .refused .ensures .1)) }
 
 returns-2 : tie.Need-returns-2
 returns-2 c =
@@ -57,7 +57,7 @@ returns-2 c =
     let s = joined (a .registers .now) (a .predicates .now) (a .core) in
     let q = ap (λ (y : Settings). readiness y s) (sym (c .before .before .before .before .before .before .settings .ensures)) ∙ sym (c .before .before .before .readiness .ensures) ∙ c .before .enum-told .given .1 in
     let ready = sym (ap (λ (r : Readiness). readyOr r s b (goesOn x (a .budget) s b)) q) in
-    full-same _ _ _ (c .ended .ensures _ _) ∙ ready
+    record { given = full-same _ _ _ (c .ended .ensures .0 _ _) ∙ ready; canonical = subst Canonical (sym (c .ended .ensures .1)) }
 
 same-length : tie.Need-same-length
 same-length c = search needs
@@ -76,7 +76,7 @@ returns-3 c =
     let s = joined (a .registers .now) (a .predicates .now) (a .core) in
     let q = ap (λ (y : Settings). readiness y s) (sym (c .before .before .before .before .before .before .before .before .before .before .before .before .before .before .before .before .before .settings .ensures)) ∙ sym (c .before .before .before .before .before .before .before .before .before .before .before .before .before .before .readiness .ensures) ∙ c .before .before .before .before .before .before .before .before .before .before .before .before .enum-told2 .given .1 in
     let ready = sym (ap (λ (r : Readiness). readyOr r s b (goesOn x (a .budget) s b)) q) in
-    c .before .before .before .before .before .before .bundles .ensures ∙ ap (λ (y : Settings). goesOn (setupOf (a .code .now) y) (a .budget) s b) (c .before .before .before .before .before .before .before .before .before .before .before .before .before .before .before .before .before .settings .ensures) ∙ ready
+    record { given = c .before .before .before .before .before .before .bundles .ensures .given ∙ ap (λ (y : Settings). goesOn (setupOf (a .code .now) y) (a .budget) s b) (c .before .before .before .before .before .before .before .before .before .before .before .before .before .before .before .before .before .settings .ensures) ∙ ready; canonical = c .before .before .before .before .before .before .bundles .ensures .canonical }
 
 pub advance-spec : {M : Type 1} → statement M
 advance-spec =

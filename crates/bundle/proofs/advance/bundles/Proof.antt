@@ -11,7 +11,7 @@ use Rattle.settings.specs.declared.Settings.{Settings}
 use Rattle.settings.specs.Setup.{Buffers, buffers, lent, setupOf}
 use Rattle.answers.specs.Answer.{Returned}
 use Rattle.core_state.specs.State.{State}
-use Rattle.core_state.specs.Core.{joined}
+use Rattle.core_state.specs.Core.{joined, Canonical}
 use Rattle.bundle_model.specs.declared.Counts.{Counts}
 use Rattle.bundle_model.specs.declared.Answer.{Answer}
 use Rattle.bundle_model.specs.declared.Answer.the-variants.{Done, Ended, Refused}
@@ -42,6 +42,7 @@ Inv-loop registers₀ predicates₀ g code main₀ local₀ cache₀ budget core
     (left ≤ budget) × Few (budget - left) counts × (length main ≡ length main₀) × (length local ≡ length local₀) × (length cache ≡ length cache₀)
     × (counted counts (goesOn (setupOf code g) left (joined registers predicates core) (buffers main local cache))
     ≡ goesOn (setupOf code g) budget (joined registers₀ predicates₀ core₀) (buffers main₀ local₀ cache₀))
+    × (Canonical core₀ → Canonical core)
 
 abbrev μ-loop : tie.MeasureT-loop
 μ-loop registers₀ predicates₀ g code main₀ local₀ cache₀ budget core₀ counts₀ left₀ registers predicates main local cache core counts left =
@@ -51,7 +52,7 @@ no-counts-requires : tie.Need-no-counts-requires Inv-loop μ-loop
 no-counts-requires c κs = tt
 
 loop-holds : tie.Need-loop-holds Inv-loop μ-loop
-loop-holds c = (search needs, rw (c .no-counts .ensures) (few-none _), refl, refl, refl, rw (c .no-counts .ensures) (counted-none _))
+loop-holds c = (search needs, rw (c .no-counts .ensures) (few-none _), refl, refl, refl, rw (c .no-counts .ensures) (counted-none _), λ k. k)
 
 has-ended-requires : tie.Need-has-ended-requires Inv-loop μ-loop
 has-ended-requires c κs = tt
@@ -70,7 +71,7 @@ returns c =
     let a = c .before .before .before .before .before .before .before .before .before in
     let l = c .before .before .before .loop in
     let e = rw (ap (λ (y : Settings). y .code) (a .pre .1)) at (sym (c .before .has-ended .ensures (l .registers) (l .predicates)) ∙ c .if1 .taken) in
-    stopped-here (l .counts) _ _ _ ∙ sym (ap (counted (l .counts)) (goes-ended (setupOf (a .args .code .now) (a .args .g)) (l .left) (joined (l .registers) (l .predicates) (l .core)) _ (omega (arith, c .before .before .loop-test .taken)) e)) ∙ l .inv .5
+    record { given = stopped-here (l .counts) _ _ _ ∙ sym (ap (counted (l .counts)) (goes-ended (setupOf (a .args .code .now) (a .args .g)) (l .left) (joined (l .registers) (l .predicates) (l .core)) _ (omega (arith, c .before .before .loop-test .taken)) e)) ∙ l .inv .5; canonical = l .inv .6 }
 
 step-requires : tie.Need-step-requires Inv-loop μ-loop
 step-requires c κs =
@@ -99,7 +100,7 @@ returns-2 c =
     = a .pre .1 ∙ sym (lent-same (setupOf (a .args .code .now) (a .args .g)) (buffers (a .args .main .now) (a .args .local .now) (a .args .cache .now)) (buffers (l .main) (l .local) (l .cache)) (record { main = l .inv .2; local = l .inv .3; cache = l .inv .4 })) in
     let going = rw (ap (λ (y : Settings). y .code) (a .pre .1)) at (sym (c .before .before .before .before .before .before .before .before .before .before .before .before .before .before .has-ended .ensures (l .registers) (l .predicates)) ∙ c .before .before .before .before .before .before .before .before .before .before .before .before .before .if1 .left) in
     let more : 0 < l .left = omega (arith, c .before .before .before .before .before .before .before .before .before .before .before .before .before .before .before .loop-test .taken) in
-    turn-stops _ _ _ _ _ _ (r .ensures) same (l .left) more going (not-done (r .result .answer) (c .match .keys2)) ∙ l .inv .5
+    record { given = turn-stops _ _ _ _ _ _ (r .ensures .given) same (l .left) more going (not-done (r .result .answer) (c .match .keys2)) ∙ l .inv .5; canonical = λ k. r .ensures .canonical (l .inv .6 k) }
 
 sub-left : tie.Need-sub-left Inv-loop μ-loop
 sub-left c = omega (arith, c .before .before .before .before .before .before .before .before .before .before .before .before .before .before .before .before .before .before .loop-test .taken)
@@ -117,11 +118,12 @@ loop-again c =
     let going = rw (ap (λ (y : Settings). y .code) (a .pre .1)) at (sym (c .before .before .before .before .before .before .before .before .before .before .before .before .before .before .before .before .before .has-ended .ensures (l .registers) (l .predicates)) ∙ c .before .before .before .before .before .before .before .before .before .before .before .before .before .before .before .before .if1 .left) in
     let more : 0 < l .left = omega (arith, c .before .before .before .before .before .before .before .before .before .before .before .before .before .before .before .before .before .before .loop-test .taken) in (
       omega (arith, l .inv .0, more),
-      turn-few _ _ _ _ _ _ (r .ensures) same (l .left) more going _ (l .inv .0) (a .pre .0) (l .inv .1),
+      turn-few _ _ _ _ _ _ (r .ensures .given) same (l .left) more going _ (l .inv .0) (a .pre .0) (l .inv .1),
       r .kept .1 .1 .1 .1 .1 .0 ∙ l .inv .2,
       r .kept .1 .1 .1 .1 .1 .1 .0 ∙ l .inv .3,
       r .kept .1 .1 .1 .1 .1 .1 .1 .0 ∙ l .inv .4,
-      turn-goes-on _ _ _ _ _ _ (r .ensures) same (l .left) more going (ap returned (c .before .before .enum-told .given .1)) ∙ l .inv .5,
+      turn-goes-on _ _ _ _ _ _ (r .ensures .given) same (l .left) more going (ap returned (c .before .before .enum-told .given .1)) ∙ l .inv .5,
+      λ k. r .ensures .canonical (l .inv .6 k),
     )
 
 same-length-7 : tie.Need-same-length-7 Inv-loop μ-loop
@@ -136,7 +138,7 @@ same-length-9 c = c .before .loop .inv .4
 returns-3 : tie.Need-returns-3 Inv-loop μ-loop
 returns-3 c =
     let l = c .before .loop in
-    stopped-here (l .counts) _ _ _ ∙ sym (ap (counted (l .counts)) (goes-none (setupOf (c .before .before .before .before .before .before .before .args .code .now) (c .before .before .before .before .before .before .before .args .g)) (l .left) (joined (l .registers) (l .predicates) (l .core)) _ (omega (arith, c .loop-test .left)))) ∙ l .inv .5
+    record { given = stopped-here (l .counts) _ _ _ ∙ sym (ap (counted (l .counts)) (goes-none (setupOf (c .before .before .before .before .before .before .before .args .code .now) (c .before .before .before .before .before .before .before .args .g)) (l .left) (joined (l .registers) (l .predicates) (l .core)) _ (omega (arith, c .loop-test .left)))) ∙ l .inv .5; canonical = l .inv .6 }
 
 pub bundles-spec : {M : Type 1} → statement M
 bundles-spec =

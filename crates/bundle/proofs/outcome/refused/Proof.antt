@@ -1,3 +1,4 @@
+use mathlib.Core.Path.{refl}
 use Rattle.bundle.proofs.outcome.refused.Statement.{statement}
 use Rattle.bundle.proofs.outcome.refused.Tie as tie
 
@@ -5,7 +6,7 @@ no-counts-requires : tie.Need-no-counts-requires
 no-counts-requires c κs = tt
 
 returns : tie.Need-returns
-returns c = λ rs ps. rw (c .no-counts .ensures)
+returns c = (λ rs ps. rw (c .no-counts .ensures), refl)
 
 pub refused-spec : {M : Type 1} → statement M
 refused-spec = tie.close (tie.spec no-counts-requires returns)

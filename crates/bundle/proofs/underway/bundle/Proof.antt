@@ -1,9 +1,9 @@
-use mathlib.Core.Path.{sym, _∙_}
+use mathlib.Core.Path.{sym, subst, _∙_}
 use native.Mathlib.Omega.{arith}
 use Rattle.settings.specs.Setup.{setupOf}
 use Rattle.settings.specs.SettingsLaws.{code-small}
 use Rattle.fetch.specs.FetchLaws.{found-inside}
-use Rattle.core_state.specs.Core.{joined}
+use Rattle.core_state.specs.Core.{joined, Canonical}
 use Rattle.bundle_model.specs.BundleLaws.{bundle-refused, bundle-found}
 use Rattle.bundle_model.specs.ExecuteLaws.{full-same}
 use borrow.Author.Needs.{needs}
@@ -37,8 +37,10 @@ execute-requires c κs = (c .before .before .before .before .before .before .bef
 returns : tie.Need-returns
 returns c =
     let a = c .before .before .before .before .before .before .before .before .before .args in
-    rw (bundle-refused (a .g) (setupOf (a .code .now) (a .g)) (joined (a .registers .now) (a .predicates .now) (a .core)) _ _ (sym (c .before .before .before .before .fetch .ensures) ∙ c .before .before .n .given .1))
-    (full-same _ _ _ (c .refused .ensures _ _))
+    record {
+      given = rw (bundle-refused (a .g) (setupOf (a .code .now) (a .g)) (joined (a .registers .now) (a .predicates .now) (a .core)) _ _ (sym (c .before .before .before .before .fetch .ensures) ∙ c .before .before .n .given .1)) (full-same _ _ _ (c .refused .ensures .0 _ _));
+      canonical = subst Canonical (sym (c .refused .ensures .1));
+    }
 
 same-length : tie.Need-same-length
 same-length c = search needs
@@ -52,12 +54,16 @@ same-length-3 c = search needs
 returns-2 : tie.Need-returns-2
 returns-2 c =
     let a = c .before .before .before .before .before .before .before .before .before .before .before .before .before .before .before .before .before .before .before .before .before .before .before .before .before .before .before .before .before .before .args in
-    rw (
-      bundle-found (a .g) (setupOf (a .code .now) (a .g)) (joined (a .registers .now) (a .predicates .now) (a .core)) _ _ _ (sym (c .before .before .before .before .before .before .before .before .before .before .before .before .before .before .before .before .before .before .before .before .before .before .before .before .before .fetch .ensures) ∙ c .before .before .before .before .before .before .before .before .before .before .before .before .before .before .before .before .before .before .before .before .before .before .before .bundle .given .1),
-      ← c .before .before .before .before .before .before .before .before .before .before .before .before .before .before .before .before .before .slot-one .ensures,
-      ← c .before .before .before .before .before .before .before .before .before .before .before .before .slot-two .ensures _ _,
-    )
-    (c .before .before .before .before .before .before .execute .ensures _)
+    let e = c .before .before .before .before .before .before .execute .ensures in
+    record {
+      given = rw (
+        bundle-found (a .g) (setupOf (a .code .now) (a .g)) (joined (a .registers .now) (a .predicates .now) (a .core)) _ _ _ (sym (c .before .before .before .before .before .before .before .before .before .before .before .before .before .before .before .before .before .before .before .before .before .before .before .before .before .fetch .ensures) ∙ c .before .before .before .before .before .before .before .before .before .before .before .before .before .before .before .before .before .before .before .before .before .before .before .bundle .given .1),
+        ← c .before .before .before .before .before .before .before .before .before .before .before .before .before .before .before .before .before .slot-one .ensures,
+        ← c .before .before .before .before .before .before .before .before .before .before .before .before .slot-two .ensures _ _,
+      )
+          (e .given _);
+      canonical = e .canonical;
+    }
 
 pub bundle-spec : {M : Type 1} → statement M
 bundle-spec =

@@ -1,3 +1,4 @@
+use mathlib.Core.Path.{refl}
 use Rattle.core_state.specs.Writes.{writeAlu}
 use borrow.Author.Needs.{needs}
 use Rattle.core_state.proofs.Core.write_alu.Statement.{statement}
@@ -20,15 +21,15 @@ write-predicate-requires c κs = search needs
 
 returns : tie.Need-returns
 unfolding writeAlu
-returns c = rw (c .enum-told .given .1)
+returns c = record { state = rw (c .enum-told .given .1); transfer = refl; load = refl }
 
 returns-2 : tie.Need-returns-2
 unfolding writeAlu
-returns-2 c = rw (c .before .before .before .e .given .1) (c .write-register .ensures _)
+returns-2 c = let w = c .write-register .ensures in record { state = rw (c .before .before .before .e .given .1) (w .state _); transfer = w .transfer; load = w .load }
 
 returns-3 : tie.Need-returns-3
 unfolding writeAlu
-returns-3 c = rw (c .before .before .before .e2 .given .1) (c .write-predicate .ensures _)
+returns-3 c = let w = c .write-predicate .ensures in record { state = rw (c .before .before .before .e2 .given .1) (w .state _); transfer = w .transfer; load = w .load }
 
 pub write-alu-spec : {M : Type 1} → statement M
 write-alu-spec =

@@ -1,6 +1,6 @@
 use Prim.Native.Nat.{ℕ}
 use mathlib.Core.List.{List}
-use mathlib.Core.Path.{ap}
+use mathlib.Core.Path.{refl, ap}
 use Rattle.core_state.specs.State.{withRegister}
 use Rattle.core_state.specs.Core.{joined}
 use borrow.Author.Needs.{needs}
@@ -12,7 +12,7 @@ write-register-requires c κs = search needs
 
 returns : tie.Need-returns
 unfolding withRegister
-returns c ps = ap (λ (l : List ℕ). joined l ps (c .before .before .args .self)) (c .write-register .ensures)
+returns c = record { state = λ ps. ap (λ (l : List ℕ). joined l ps (c .before .before .args .self)) (c .write-register .ensures); transfer = refl; load = refl }
 
 pub write-register-spec : {M : Type 1} → statement M
 write-register-spec = tie.close (tie.spec write-register-requires returns)

@@ -1,3 +1,4 @@
+use mathlib.Core.Path.{refl}
 use Rattle.core_state.specs.State.{withSpecial}
 use Rattle.core_state.proofs.Core.write_special.Statement.{statement}
 use Rattle.core_state.proofs.Core.write_special.Tie as tie
@@ -34,39 +35,39 @@ enum-told-9 c = c .match .keys9
 
 returns : tie.Need-returns
 unfolding withSpecial
-returns c = λ rs. rw (c .before .enum-told .given .1, c .predicates-of .ensures)
+returns c = record { state = λ rs. rw (c .before .enum-told .given .1, c .predicates-of .ensures); transfer = refl; load = refl }
 
 returns-2 : tie.Need-returns-2
 unfolding withSpecial
-returns-2 c = λ rs. rw (c .before .enum-told2 .given .1)
+returns-2 c = record { state = λ rs. rw (c .before .enum-told2 .given .1); transfer = refl; load = refl }
 
 returns-3 : tie.Need-returns-3
 unfolding withSpecial
-returns-3 c = λ rs. rw (c .before .enum-told3 .given .1)
+returns-3 c = record { state = λ rs. rw (c .before .enum-told3 .given .1); transfer = refl; load = refl }
 
 returns-4 : tie.Need-returns-4
 unfolding withSpecial
-returns-4 c = λ rs. rw (c .before .enum-told4 .given .1)
+returns-4 c = record { state = λ rs. rw (c .before .enum-told4 .given .1); transfer = refl; load = refl }
 
 returns-5 : tie.Need-returns-5
 unfolding withSpecial
-returns-5 c = λ rs. rw (c .before .enum-told5 .given .1)
+returns-5 c = record { state = λ rs. rw (c .before .enum-told5 .given .1); transfer = refl; load = refl }
 
 returns-6 : tie.Need-returns-6
 unfolding withSpecial
-returns-6 c = λ rs. rw (c .before .enum-told6 .given .1)
+returns-6 c = record { state = λ rs. rw (c .before .enum-told6 .given .1); transfer = refl; load = refl }
 
 returns-7 : tie.Need-returns-7
 unfolding withSpecial
-returns-7 c = λ rs. rw (c .before .enum-told7 .given .1)
+returns-7 c = record { state = λ rs. rw (c .before .enum-told7 .given .1); transfer = refl; load = refl }
 
 returns-8 : tie.Need-returns-8
 unfolding withSpecial
-returns-8 c = λ rs. rw (c .before .enum-told8 .given .1)
+returns-8 c = record { state = λ rs. rw (c .before .enum-told8 .given .1); transfer = refl; load = refl }
 
 returns-9 : tie.Need-returns-9
 unfolding withSpecial
-returns-9 c = λ rs. rw (c .before .enum-told9 .given .1)
+returns-9 c = record { state = λ rs. rw (c .before .enum-told9 .given .1); transfer = refl; load = refl }
 
 pub write-special-spec : {M : Type 1} → statement M
 write-special-spec =

@@ -1,10 +1,10 @@
 use mathlib.Core.Path.{refl}
-use Rattle.core_state.specs.Core.{waitingTransfer}
+use Rattle.core_state.specs.Core.{transferWords}
 use Rattle.core_state.proofs.waiting.no_transfer.Statement.{statement}
 use Rattle.core_state.proofs.waiting.no_transfer.Tie as tie
 
 returns : tie.Need-returns
-unfolding waitingTransfer
+unfolding transferWords
 returns c = refl
 
 pub no-transfer-spec : {M : Type 1} → statement M

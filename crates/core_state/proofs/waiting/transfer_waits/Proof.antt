@@ -1,4 +1,4 @@
-use Rattle.core_state.specs.Core.{transferIn, waitingTransfer}
+use Rattle.core_state.specs.Core.{transferWords}
 use Rattle.core_state.proofs.waiting.transfer_waits.Statement.{statement}
 use Rattle.core_state.proofs.waiting.transfer_waits.Tie as tie
 
@@ -12,15 +12,15 @@ enum-known-t-3 : tie.Need-enum-known-t-3
 enum-known-t-3 c = c .match .keys3
 
 returns : tie.Need-returns
-unfolding waitingTransfer transferIn
+unfolding transferWords
 returns c = rw (c .before .t .given .1)
 
 returns-2 : tie.Need-returns-2
-unfolding waitingTransfer transferIn
+unfolding transferWords
 returns-2 c = rw (c .before .t2 .given .1)
 
 returns-3 : tie.Need-returns-3
-unfolding waitingTransfer transferIn
+unfolding transferWords
 returns-3 c = rw (c .before .t3 .given .1)
 
 pub transfer-waits-spec : {M : Type 1} → statement M

@@ -1,4 +1,3 @@
-use Rattle.state.specs.Whole.{stateOf}
 use Rattle.state.proofs.State.core.Statement.{statement}
 use Rattle.state.proofs.State.core.Tie as tie
 
@@ -9,7 +8,6 @@ load-words-requires : tie.Need-load-words-requires
 load-words-requires c κs = tt
 
 returns : tie.Need-returns
-unfolding stateOf
 returns c = rw (c .before .transfer-words .ensures, c .load-words .ensures)
 
 pub core-spec : {M : Type 1} → statement M

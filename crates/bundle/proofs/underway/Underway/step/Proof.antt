@@ -13,7 +13,7 @@ bundle-requires c κs = search needs
 
 sum-requires : tie.Need-sum-requires
 sum-requires c κs =
-    let few = subst (λ (o : Outcome). Few 1 (o .counts)) (sym (c .before .before .before .before .before .before .before .before .bundle .ensures)) (bundle-few _ _ _ _ (c .before .before .before .before .before .before .before .before .before .before .before .before .before .before .before .before .before .before .before .before .pre .0)) in
+    let few = subst (λ (o : Outcome). Few 1 (o .counts)) (sym (c .before .before .before .before .before .before .before .before .bundle .ensures .given)) (bundle-few _ _ _ _ (c .before .before .before .before .before .before .before .before .before .before .before .before .before .before .before .before .before .before .before .before .pre .0)) in
     few-fit 4294967295 _ (omega arith) (few-plus 4294967294 1 _ _ (c .before .before .before .before .before .before .before .before .before .before .before .before .before .before .before .before .before .before .before .before .pre .3) few)
 
 same-length : tie.Need-same-length
@@ -26,7 +26,7 @@ same-length-3 : tie.Need-same-length-3
 same-length-3 c = search needs
 
 returns : tie.Need-returns
-returns c = rw (c .sum .ensures) (ap (counted (c .before .before .before .before .before .before .before .before .before .before .before .before .before .before .before .before .before .before .before .before .before .args .self .counts)) (c .before .before .before .before .before .before .before .before .before .bundle .ensures))
+returns c = record { given = rw (c .sum .ensures) (ap (counted (c .before .before .before .before .before .before .before .before .before .before .before .before .before .before .before .before .before .before .before .before .before .args .self .counts)) (c .before .before .before .before .before .before .before .before .before .bundle .ensures .given)); canonical = c .before .before .before .before .before .before .before .before .before .bundle .ensures .canonical }
 
 pub step-spec : {M : Type 1} → statement M
 step-spec =

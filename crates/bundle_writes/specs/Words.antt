@@ -1,0 +1,53 @@
+-- The words of what waits after a bundle, and that they are those of what waits in it.
+use Prim.Native.Nat.{ℕ}
+use mathlib.Core.Path.{_≡_}
+use Rattle.effects.specs.declared.Effect.{Effect}
+use Rattle.effects.specs.declared.Effect.the-variants as effect
+use Rattle.effects.specs.Effect.{onEffect}
+use Rattle.core_state.specs.declared.TransferWords.{TransferWords}
+use Rattle.core_state.specs.declared.LoadWords.{LoadWords}
+use Rattle.core_state.specs.declared.WaitingLoad.the-variants as load
+use Rattle.core_state.specs.declared.Core.{Core}
+use Rattle.core_state.specs.Core.{waitingLoad, loadWords, nearerWords, begunWords, Canonical}
+use Rattle.core_state.specs.WordLaws.{Fixed, load-fixed, begun-fixed, nearer-fixed, canonical-with}
+
+-- Its own transfer begins, or the one that waits comes nearer.
+abbrev pub onwardWords : Effect → TransferWords → TransferWords
+onwardWords e w = let other = nearerWords w in onEffect other (λ c n m. other) begunWords e
+
+-- A load of slot one waits for the next bundle; any other effect leaves what waits.
+abbrev pub loadAfter : Effect → ℕ → LoadWords → LoadWords
+loadAfter (effect.Alu a) v l = l
+loadAfter (effect.Special d w) v l = l
+loadAfter (effect.Product p h) v l = l
+loadAfter (effect.Load k b r a) v l = loadWords (load.Waits r v)
+loadAfter (effect.Store k b a w) v l = l
+loadAfter (effect.Stack c n m) v l = l
+loadAfter (effect.Transfer d t) v l = l
+loadAfter effect.Exception v l = l
+
+onward-fixed : (e : Effect) (w : TransferWords) → Fixed w → Fixed (onwardWords e w)
+onward-fixed (effect.Alu a) w f = nearer-fixed w f
+onward-fixed (effect.Special d v) w f = nearer-fixed w f
+onward-fixed (effect.Product l h) w f = nearer-fixed w f
+onward-fixed (effect.Load k b r a) w f = nearer-fixed w f
+onward-fixed (effect.Store k b a v) w f = nearer-fixed w f
+onward-fixed (effect.Stack c n m) w f = nearer-fixed w f
+onward-fixed (effect.Transfer d t) w f = begun-fixed d t
+onward-fixed effect.Exception w f = nearer-fixed w f
+
+after-fixed : (e : Effect) (v : ℕ) → let l = loadAfter e v (loadWords load.Nothing) in loadWords (waitingLoad l) ≡ l
+after-fixed (effect.Alu a) v = load-fixed load.Nothing
+after-fixed (effect.Special d w) v = load-fixed load.Nothing
+after-fixed (effect.Product p h) v = load-fixed load.Nothing
+after-fixed (effect.Load k b r a) v = load-fixed (load.Waits r v)
+after-fixed (effect.Store k b a w) v = load-fixed load.Nothing
+after-fixed (effect.Stack c n m) v = load-fixed load.Nothing
+after-fixed (effect.Transfer d t) v = load-fixed load.Nothing
+after-fixed effect.Exception v = load-fixed load.Nothing
+
+-- A bundle keeps a core canonical.
+pub written-canonical : (e : Effect) (v : ℕ) (c r : Core) → r .transfer ≡ onwardWords e (c .transfer)
+    → r .load ≡ loadAfter e v (loadWords load.Nothing) → Canonical c → Canonical r
+written-canonical e v c r t l k =
+    canonical-with r (onwardWords e (c .transfer)) (loadAfter e v (loadWords load.Nothing)) t l (onward-fixed e (c .transfer) (k .transfer)) (after-fixed e v)
