@@ -10,7 +10,7 @@ ghost use Rattle.settings.specs.Setup.{found, left, setupOf};
 ghost use Rattle.memory.specs.Access.{storeScale, loadedValue, loadTests, stored, storeTests};
 ghost use Rattle.core_state.specs.State.{noneWaits};
 ghost use Rattle.core_state.specs.Core.{joined, waitingTransfer};
-ghost use Rattle.bundle_model.specs.Execute.{carriedAs, unlessRefused, carriedOut};
+ghost use Rattle.bundle_model.specs.Execute.{plainly, loading, carriedAs, unlessRefused, carriedOut};
 use crate::stack_moves::do_stack;
 use answers::Verdict;
 use bundle_model::Carried;
@@ -28,7 +28,7 @@ use settings::Settings;
 
 // An effect that reads and writes no store.
 fn nothing() -> Carried
-    ensures { λ r. ⌜ r ≡ Carried.Done 0 0 0 0 0 ⌝ }
+    ensures { λ r. ⌜ r ≡ plainly ⌝ }
 {
     Carried::Done {
         value: 0,
@@ -50,7 +50,7 @@ fn do_load(
     local: &[u8],
     cache: &[u32],
 ) -> Carried
-    ensures { λ r. ⌜ ((code : List ℕ) → carriedAs r (found main local cache) ≡ unlessRefused (verdict (loadTests g (setupOf code g) st ss kind width address)) (found main local cache) (carriedAs (Carried.Done (loadedValue (found main local cache) kind width address) 0 0 0 0) (found main local cache))) ⌝ }
+    ensures { λ r. ⌜ ((code : List ℕ) → carriedAs r (found main local cache) ≡ unlessRefused (verdict (loadTests g (setupOf code g) st ss kind width address)) (found main local cache) (carriedAs (loading (loadedValue (found main local cache) kind width address)) (found main local cache))) ⌝ }
 {
     if let Verdict::Refused(number) = judge_load(g, st, ss, kind, width, address) {
         return Carried::Refused(number);
@@ -76,7 +76,7 @@ fn do_store(
     local: &mut [u8],
     cache: &mut [u32],
 ) -> Carried
-    ensures { λ r. ⌜ ((code : List ℕ) → carriedAs r (left main local cache) ≡ unlessRefused (verdict (storeTests g (setupOf code g) st ss kind width address)) (found main local cache) (carriedAs (Carried.Done 0 0 0 0 0) (stored (found main local cache) kind (2 ^ storeScale width) address value))) ⌝ }
+    ensures { λ r. ⌜ ((code : List ℕ) → carriedAs r (left main local cache) ≡ unlessRefused (verdict (storeTests g (setupOf code g) st ss kind width address)) (found main local cache) (carriedAs plainly (stored (found main local cache) kind (2 ^ storeScale width) address value))) ⌝ }
 {
     if let Verdict::Refused(number) = judge_store(g, st, ss, kind, width, address) {
         return Carried::Refused(number);
@@ -95,7 +95,7 @@ fn do_store(
 
 // A transfer is refused while one waits.
 fn judge_transfer(core: Core) -> Carried
-    ensures { λ r. ⌜ r ≡ cond (not (noneWaits (waitingTransfer (core .transfer)))) (Carried.Refused 4) (Carried.Done 0 0 0 0 0) ⌝ }
+    ensures { λ r. ⌜ r ≡ cond (not (noneWaits (waitingTransfer (core .transfer)))) (Carried.Refused 4) plainly ⌝ }
 {
     let waiting = core.transfer;
     if !none_waits(waiting) {

@@ -56,6 +56,13 @@ pub record CarriedOut : Type 0 where
   pub carried : Carried
   pub buffers : Buffers
 
+-- Done with nothing to tell, and done with a value loaded.
+abbrev pub plainly : Carried
+plainly = carried.Done 0 0 0 0 0
+
+abbrev pub loading : ℕ → Carried
+loading v = carried.Done v 0 0 0 0
+
 abbrev pub carriedAs : Carried → Buffers → CarriedOut
 carriedAs c b = record { carried = c; buffers = b }
 

@@ -26,7 +26,7 @@ use Rattle.bundle_model.specs.Refusal.{effectTests}
 use Rattle.core_state.specs.Writes.{writeAlu}
 use Rattle.bundle_model.specs.declared.Carried.{Carried}
 use Rattle.bundle_model.specs.declared.Carried.the-variants as carried
-use Rattle.bundle_model.specs.Execute.{refusedWith, doneWith, executed, CarriedOut, carriedAs, unlessRefused, loadedBy, topBy, spillBy, carriedOut, writeDone, Moved}
+use Rattle.bundle_model.specs.Execute.{refusedWith, doneWith, executed, CarriedOut, plainly, carriedAs, unlessRefused, loadedBy, topBy, spillBy, carriedOut, writeDone, Moved}
 
 -- a stack instruction is refused as its plan is
 abbrev pub planVerdict : Plan → Verdict
@@ -67,7 +67,7 @@ stack-carried g x s c n m main local cache main′ cache′ st′ ss′ j k p e 
 
 -- a transfer, by whether one waits
 pub transfer-carried : (waits : Bool) (b : Buffers)
-    → carriedAs (cond waits (carried.Refused 4) (carried.Done 0 0 0 0 0)) b ≡ unlessRefused (cond waits (Refused 4) Fine) b (carriedAs (carried.Done 0 0 0 0 0) b)
+    → carriedAs (cond waits (carried.Refused 4) plainly) b ≡ unlessRefused (cond waits (Refused 4) Fine) b (carriedAs plainly b)
 transfer-carried true b = refl
 transfer-carried false b = refl
 

@@ -28,7 +28,7 @@ pub record Buffers : Type 0 where
 abbrev pub buffers : List ℕ → List ℕ → List ℕ → Buffers
 buffers m l c = record { main = m; local = l; cache = c }
 
--- In contracts, what a function lends on: as it is when the function is called, and when it returns.
+-- In contracts, what a function is lent: as it is when the function is called, and when it returns.
 abbrev pub Lent : Type 0
 Lent = Both (RefT (List ℕ)) (RefT (List ℕ))
 

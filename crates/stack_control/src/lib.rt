@@ -19,6 +19,19 @@ fn inside(lo: u32, hi: u32, from: u32, words: u32) -> bool
     (lo <= from) & ((from as u64) + 4 * (words as u64) <= (hi as u64))
 }
 
+// Whether the words that a stack instruction spills may be spilled, and whether those that it fills may be filled.
+fn spill_open(lo: u32, hi: u32, from: u32, words: u32) -> bool
+    ensures { λ r. ⌜ r ≡ inside lo hi from words ⌝ }
+{
+    inside(lo, hi, from, words)
+}
+
+fn fill_open(lo: u32, hi: u32, from: u32, words: u32) -> bool
+    ensures { λ r. ⌜ r ≡ inside lo hi from words ⌝ }
+{
+    inside(lo, hi, from, words)
+}
+
 // a - b, or 0 where b is greater.
 fn saturating_sub(a: u32, b: u64) -> u32
     ensures { λ r. ⌜ r ≡ a - b ⌝ }
@@ -53,7 +66,7 @@ fn sres(w: u32, lo: u32, hi: u32, st: u32, ss: u32, n: u32) -> Plan
     let top = st - 4 * n;
     let spilled = saturating_sub(ss - top, 4 * (w as u64)) / 4;
     let end = ss - 4 * spilled;
-    if inside(lo, hi, end, spilled) {
+    if spill_open(lo, hi, end, spilled) {
         return Plan::Moves {
             st: top,
             ss: end,
@@ -73,7 +86,7 @@ fn sens(w: u32, lo: u32, hi: u32, st: u32, ss: u32, n: u32) -> Plan
         return Plan::Refused(7);
     }
     let filled = saturating_sub(n, ((ss - st) / 4) as u64);
-    if inside(lo, hi, ss, filled) {
+    if fill_open(lo, hi, ss, filled) {
         return Plan::Moves {
             st,
             ss: ss + 4 * filled,
@@ -117,7 +130,7 @@ fn sspill(w: u32, lo: u32, hi: u32, st: u32, ss: u32, n: u32) -> Plan
 {
     let spilled = min(n, (ss - st) / 4);
     let end = ss - 4 * spilled;
-    if inside(lo, hi, end, spilled) {
+    if spill_open(lo, hi, end, spilled) {
         return Plan::Moves {
             st,
             ss: end,

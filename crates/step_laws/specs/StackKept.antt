@@ -1,22 +1,20 @@
--- What a bundle keeps of the buffers: their lengths, the bytes outside the stack area where it moves stack words and those inside
--- where it stores; and the window that a stack instruction leaves.
+-- What a bundle keeps of the buffers: their lengths, and the bytes outside the stack area where it moves stack words; and the window
+-- that a stack instruction leaves.
 use Prim.Native.Nat.{ℕ, _+_, _-_, _^_, _<_, _≤_}
-use mathlib.Core.Bool.{Bool, true, false, cond}
-use mathlib.Core.List.{List, _∷_, _++_}
+use mathlib.Core.Bool.{Bool, true, false}
+use mathlib.Core.List.{List, _++_}
 use mathlib.Core.Path.{_≡_, refl, sym, ap, subst, _∙_}
 use mathlib.Core.Logic.{_⊎_, inl, inr}
 use native.Mathlib.Omega.{arith}
 use native.Mathlib.Nat.{le-trans}
-use borrow.Author.Tests.{not-true, not-false}
+use borrow.Author.Tests.{not-false}
 use borrow.Rule.Slice.PartMut.{putMid, post-is, same-len-mid, mid-len, take-put, drop-put}
-use lib.Dec.{leb}
 use lib.ListN.{length, getD, take, drop, length-take, length-drop}
 use lib.Seq.{length-take-le, getD-take, getD-drop, take-at, drop-at, ext-getD}
-use Rattle.big_endian.specs.BytesLaws.{length-putNumber, byte-outside}
+use Rattle.big_endian.specs.BytesLaws.{length-putNumber}
 use Rattle.isa.specs.declared.AccessKind.{AccessKind}
 use Rattle.isa.specs.declared.AccessKind.the-variants as kind
 use Rattle.isa.specs.declared.LoadWidth.{LoadWidth}
-use Rattle.isa.specs.declared.StoreWidth.{StoreWidth}
 use Rattle.stack_cache.specs.declared.StackControl.{StackControl}
 use Rattle.stack_cache.specs.declared.Plan.the-variants.{Moves}
 use Rattle.stack_cache.specs.Stack.{spills, fills, spilled, topAfter, spillAfter, badWindow, inArea, spillOpen, fillOpen, every, movedOutside, planned}
@@ -33,15 +31,15 @@ use Rattle.effects.specs.declared.Effect.the-variants as effect
 use Rattle.answers.specs.declared.Verdict.the-variants as verdict
 use Rattle.answers.specs.Answer.{done}
 use Rattle.settings.specs.SettingsLaws.{area-ordered}
-use Rattle.settings.specs.SetupLaws.{stack-byte, stack-byte-not, untouched}
+use Rattle.settings.specs.SetupLaws.{stack-byte-not, untouched}
 use Rattle.answers.specs.TestLaws.{fine-applies, fine-both}
-use Rattle.memory.specs.Access.{stored, storeScale, mainOpen, mainWritable, accessOpen, accessTests}
+use Rattle.memory.specs.Access.{stored, storeScale, accessOpen, accessTests}
 use Rattle.bundle_model.specs.Refusal.{effectTests, bundleTests}
 use Rattle.bundle_model.specs.Bundle.{area, withArea, stackMoved, buffersAfter, writeOne, written, bundle, step}
 use Rattle.step_laws.specs.StepCases.{effectAt, judged, bundle-cases, bundle-fine, bundle-done-as, step-cases}
 use Rattle.step_laws.specs.KeptLaws.{writeAlu-cases, onward-cases}
 use Rattle.settings.specs.Setup.{Setup, Buffers, settings, lent, isStackByte}
-use Rattle.answers.specs.Test.{Test, verdict as verdictOf}
+use Rattle.answers.specs.Test.{verdict as verdictOf}
 use Rattle.fetch.specs.Fetch.{bundleAt, outsideCode, isUndecodable, fetchTests}
 
 -- Buffers of the same lengths.
@@ -261,27 +259,3 @@ bundle-window g x s b c n m e d h q =
 pub load-buffers : (g : Settings) (x : Setup) (s : State) (k : AccessKind) (w : LoadWidth) (r a : ℕ) (b : Buffers) → buffersAfter g x s (effect.Load k w r a) b ≡ b
 unfolding buffersAfter
 load-buffers g x s k w r a b = refl
-
--- A store of any kind that no test refuses.
-module _ (g : Settings) (x : Setup) (s : State) (k : AccessKind) (w : StoreWidth) (a v : ℕ) (b : Buffers) (p : Passed g x s (effect.Store k w a v)) where
-  -- A byte of the stack is none of the bytes that may be written.
-  apart : (i : ℕ) → mainWritable g x a (2 ^ storeScale w) ≡ true → isStackByte x i ≡ true → (i < a) ⊎ (a + 2 ^ storeScale w ≤ i)
-  unfolding mainOpen
-  apart i e q = untouched x i a (2 ^ storeScale w) (not-true _ (and-right (leb (a + 2 ^ storeScale w) (g .main)) _ e)) q
-
-  -- It leaves every byte of the stack as it was.
-  pub store-stack-byte : (i : ℕ) → isStackByte x i ≡ true → getD (buffersAfter g x s (effect.Store k w a v) b .main) i 0 ≡ getD (b .main) i 0
-  unfolding buffersAfter stored accessOpen
-  store-stack-byte i q = go k (passed-open (mainWritable g x a (2 ^ storeScale w)) g (s .specials .st) (s .specials .ss) k a (2 ^ storeScale w) p)
-    where
-      go : (k : AccessKind) → accessOpen (mainWritable g x a (2 ^ storeScale w)) g (s .specials .st) (s .specials .ss) k a (2 ^ storeScale w) ≡ true
-          → getD (stored b k (2 ^ storeScale w) a v .main) i 0 ≡ getD (b .main) i 0
-      go kind.Stack e = refl
-      go kind.Local e = refl
-      go kind.Cached e = byte-outside (2 ^ storeScale w) (b .main) a v i (apart i e q)
-      go kind.Main e = byte-outside (2 ^ storeScale w) (b .main) a v i (apart i e q)
-
-  -- It leaves the stack area as it was.
-  pub store-area : area (x .lo) (x .hi) (buffersAfter g x s (effect.Store k w a v) b .main) ≡ area (x .lo) (x .hi) (b .main)
-  unfolding buffersAfter
-  store-area = area-same (x .lo) (x .hi) _ (b .main) (stored-lengths b k (2 ^ storeScale w) a v .main) (λ i q r. store-stack-byte i (stack-byte x i q r))

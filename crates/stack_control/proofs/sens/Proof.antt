@@ -23,16 +23,16 @@ cast-saturating-sub c = search needs
 saturating-sub-requires : tie.Need-saturating-sub-requires
 saturating-sub-requires c κs = tt
 
-inside-requires : tie.Need-inside-requires
-inside-requires c κs = tt
+fill-open-requires : tie.Need-fill-open-requires
+fill-open-requires c κs = tt
 
 mul-t13 : tie.Need-mul-t13
 mul-t13 c = let s = c .before .before .before .before in
-    omega (arith, inside-end (s .args .lo) (s .args .hi) (s .args .ss) (c .before .before .saturating-sub .result) (sym (c .before .inside .ensures) ∙ c .if2 .taken) (s .fits .ss .fits) (s .fits .hi .fits))
+    omega (arith, inside-end (s .args .lo) (s .args .hi) (s .args .ss) (c .before .before .saturating-sub .result) (sym (c .before .fill-open .ensures) ∙ c .if2 .taken) (s .fits .ss .fits) (s .fits .hi .fits))
 
 add-t14 : tie.Need-add-t14
 add-t14 c = let s = c .before .before .before .before in
-    omega (arith, inside-end (s .args .lo) (s .args .hi) (s .args .ss) (c .before .before .saturating-sub .result) (sym (c .before .inside .ensures) ∙ c .if2 .taken) (s .fits .ss .fits) (s .fits .hi .fits))
+    omega (arith, inside-end (s .args .lo) (s .args .hi) (s .args .ss) (c .before .before .saturating-sub .result) (sym (c .before .fill-open .ensures) ∙ c .if2 .taken) (s .fits .ss .fits) (s .fits .hi .fits))
 
 returns-2 : tie.Need-returns-2
 unfolding spillCount fillCount ssAfter topAfter
@@ -40,7 +40,7 @@ returns-2 c = let s = c .before .before .before .before in
     let a = s .args in
     let g = accept-sens (a .w) (a .st) (a .ss) (a .n) (s .pre) (c .before .before .before .if1 .left) in
     let r = c .before .before .saturating-sub .ensures in
-    let f = rw r at (sym (c .before .inside .ensures) ∙ c .if2 .taken) in
+    let f = rw r at (sym (c .before .fill-open .ensures) ∙ c .if2 .taken) in
     rw r (sym (planned-moves Sens (a .w) (a .lo) (a .hi) (a .st) (a .ss) (a .n) g (s .fits .ss .fits) (s .fits .hi .fits) refl f))
 
 returns-3 : tie.Need-returns-3
@@ -49,7 +49,7 @@ returns-3 c = let s = c .before .before .before .before in
     let a = s .args in
     let g = accept-sens (a .w) (a .st) (a .ss) (a .n) (s .pre) (c .before .before .before .if1 .left) in
     let r = c .before .before .saturating-sub .ensures in
-    let f = rw r at (sym (c .before .inside .ensures) ∙ c .if2 .left) in
+    let f = rw r at (sym (c .before .fill-open .ensures) ∙ c .if2 .left) in
     sym (planned-outside Sens (a .w) (a .lo) (a .hi) (a .st) (a .ss) (a .n) g (s .fits .ss .fits) (s .fits .hi .fits) (rw f))
 
 pub sens-spec : {M : Type 1} → statement M
@@ -60,7 +60,7 @@ sens-spec =
     sub-saturating-sub
     cast-saturating-sub
     saturating-sub-requires
-    inside-requires
+    fill-open-requires
     mul-t13
     add-t14
     returns-2

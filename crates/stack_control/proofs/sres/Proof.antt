@@ -40,8 +40,8 @@ mul-end c = search needs
 sub-end : tie.Need-sub-end
 sub-end c = search needs
 
-inside-requires : tie.Need-inside-requires
-inside-requires c κs = tt
+spill-open-requires : tie.Need-spill-open-requires
+spill-open-requires c κs = tt
 
 returns-3 : tie.Need-returns-3
 unfolding spillCount fillCount ssAfter topAfter
@@ -49,7 +49,7 @@ returns-3 c = let s = c .before .before .before .before .before in
     let a = s .args in
     let g = accept-sres (a .w) (a .st) (a .ss) (a .n) (s .pre) (c .before .before .before .before .if1 .left) (c .before .before .before .if2 .left) in
     let r = c .before .before .saturating-sub .ensures in
-    let f = rw r at (sym (c .before .inside .ensures) ∙ c .if3 .taken) in
+    let f = rw r at (sym (c .before .spill-open .ensures) ∙ c .if3 .taken) in
     rw r (sym (planned-moves Sres (a .w) (a .lo) (a .hi) (a .st) (a .ss) (a .n) g (s .fits .ss .fits) (s .fits .hi .fits) f refl))
 
 returns-4 : tie.Need-returns-4
@@ -58,7 +58,7 @@ returns-4 c = let s = c .before .before .before .before .before in
     let a = s .args in
     let g = accept-sres (a .w) (a .st) (a .ss) (a .n) (s .pre) (c .before .before .before .before .if1 .left) (c .before .before .before .if2 .left) in
     let r = c .before .before .saturating-sub .ensures in
-    let f = rw r at (sym (c .before .inside .ensures) ∙ c .if3 .left) in
+    let f = rw r at (sym (c .before .spill-open .ensures) ∙ c .if3 .left) in
     sym (planned-outside Sres (a .w) (a .lo) (a .hi) (a .st) (a .ss) (a .n) g (s .fits .ss .fits) (s .fits .hi .fits) (rw f))
 
 pub sres-spec : {M : Type 1} → statement M
@@ -75,6 +75,6 @@ sres-spec =
     saturating-sub-requires
     mul-end
     sub-end
-    inside-requires
+    spill-open-requires
     returns-3
     returns-4)

@@ -19,8 +19,8 @@ mul-end c = search needs
 sub-end : tie.Need-sub-end
 sub-end c = search needs
 
-inside-requires : tie.Need-inside-requires
-inside-requires c κs = tt
+spill-open-requires : tie.Need-spill-open-requires
+spill-open-requires c κs = tt
 
 returns : tie.Need-returns
 unfolding spillCount fillCount ssAfter topAfter
@@ -28,7 +28,7 @@ returns c = let s = c .before .before .before in
     let a = s .args in
     let g = accept-sspill (a .w) (a .st) (a .ss) (a .n) (s .pre) in
     let r = c .before .before .min .ensures in
-    let f = rw r at (sym (c .before .inside .ensures) ∙ c .if1 .taken) in
+    let f = rw r at (sym (c .before .spill-open .ensures) ∙ c .if1 .taken) in
     rw r (sym (planned-moves Sspill (a .w) (a .lo) (a .hi) (a .st) (a .ss) (a .n) g (s .fits .ss .fits) (s .fits .hi .fits) f refl))
 
 returns-2 : tie.Need-returns-2
@@ -37,9 +37,9 @@ returns-2 c = let s = c .before .before .before in
     let a = s .args in
     let g = accept-sspill (a .w) (a .st) (a .ss) (a .n) (s .pre) in
     let r = c .before .before .min .ensures in
-    let f = rw r at (sym (c .before .inside .ensures) ∙ c .if1 .left) in
+    let f = rw r at (sym (c .before .spill-open .ensures) ∙ c .if1 .left) in
     sym (planned-outside Sspill (a .w) (a .lo) (a .hi) (a .st) (a .ss) (a .n) g (s .fits .ss .fits) (s .fits .hi .fits) (rw f))
 
 pub sspill-spec : {M : Type 1} → statement M
 sspill-spec =
-    tie.close (tie.spec sub-min min-requires mul-end sub-end inside-requires returns returns-2)
+    tie.close (tie.spec sub-min min-requires mul-end sub-end spill-open-requires returns returns-2)

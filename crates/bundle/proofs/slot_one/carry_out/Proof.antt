@@ -12,9 +12,8 @@ use Rattle.settings.specs.declared.Settings.{Settings}
 use Rattle.answers.specs.Test.{verdict}
 use Rattle.settings.specs.Setup.{Setup, Buffers}
 use Rattle.core_state.specs.State.{State, noneWaits}
-use Rattle.bundle_model.specs.declared.Carried.the-variants.{Done}
 use Rattle.bundle_model.specs.Bundle.{buffersAfter}
-use Rattle.bundle_model.specs.Execute.{carriedAs, carriedOut}
+use Rattle.bundle_model.specs.Execute.{plainly, carriedAs, carriedOut}
 use Rattle.bundle_model.specs.ExecuteLaws.{transfer-carried}
 use borrow.Author.Needs.{needs}
 use Rattle.bundle.proofs.slot_one.carry_out.Statement.{statement}
@@ -24,7 +23,7 @@ use Rattle.bundle.proofs.slot_one.carry_out.Tie as tie
 abbrev others : List ℕ
 others = 0 ∷ 1 ∷ 2 ∷ []
 
-plain : (g : Settings) (x : Setup) (s : State) (b : Buffers) (e : Effect) → OneOf others (tagOf the-type e) → carriedAs (Done 0 0 0 0 0) b ≡ carriedOut g x s e b
+plain : (g : Settings) (x : Setup) (s : State) (b : Buffers) (e : Effect) → OneOf others (tagOf the-type e) → carriedAs plainly b ≡ carriedOut g x s e b
 unfolding carriedOut buffersAfter verdict
 plain g x s b (Alu a) h = refl
 plain g x s b (Special d v) h = refl
