@@ -10,7 +10,7 @@ use Rattle.case_words.specs.declared.SpecialName.{SpecialName}
 use Rattle.case_words.specs.declared.SpecialName.the-variants as SpecialName
 use Rattle.case_kept.specs.Indices.{MAIN, LOCAL, WORDS, LO, HI, ENTRY, FETCH, BASE, SPECIALS, TRANSFER, BR, CALL, BLOCK, LOAD, REGISTERS, PREDICATES, GIVEN}
 use Rattle.case_kept.specs.Kept.{isSet, put, flag}
-use Rattle.case_notes.specs.KeptParts.{withTransfer, withLoad}
+use Rattle.case_notes.specs.Waiting.{withTransfer, withLoad}
 use Rattle.case_notes.specs.declared.Judged.{Judged}
 use Rattle.case_notes.specs.declared.Judged.the-variants as Judged
 

@@ -1,5 +1,5 @@
 -- Open first: Description.antt, then DescriptionLine.antt and Marking.antt.
-pub mod KeptParts
+pub mod Waiting
 pub mod Description
 pub mod Marking
 pub mod MarkingLaws

@@ -2,8 +2,8 @@
 ghost use mathlib.Core.Path.{_≡_};
 ghost use Rattle.case_notes.specs.Description.{noted, isGiven, markGiven, give as giveAt, numberOnce, lengthOnce, transferOnce, specialIndex, register, predicate, special, given};
 use crate::Judged;
-use crate::kept_parts::keep_load;
-use crate::kept_parts::keep_transfer;
+use crate::waiting::keep_load;
+use crate::waiting::keep_transfer;
 use case_file::Line;
 use case_file::Reason;
 use case_kept::kept::BASE;

@@ -1,8 +1,8 @@
 // What a case says: its description and its marking, put among the kept numbers. Nothing here reads, writes or does a bundle.
 pub mod description;
 pub mod description_line;
-pub mod kept_parts;
 pub mod marked;
+pub mod waiting;
 
 use case_file::Reason;
 

@@ -5,3 +5,4 @@ pub mod Changes
 pub mod ChangesLaws
 pub mod ChangesFit
 pub mod Mistake
+pub mod Reasons

@@ -3,4 +3,5 @@ pub mod changes;
 pub mod form;
 pub mod mistake;
 pub mod output;
+mod reasons;
 pub mod state_lines;

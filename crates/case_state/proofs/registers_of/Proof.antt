@@ -6,8 +6,8 @@ use Rattle.case_kept.specs.KeptLaws.{up-to-none, up-to-more}
 use borrow.Author.Needs.{needs}
 use native.Mathlib.Omega.{arith}
 use mathlib.Core.Path.{_≡_, refl, sym, _∙_}
-use Rattle.case_notes.proofs.kept_parts.registers_of.Statement.{statement}
-use Rattle.case_notes.proofs.kept_parts.registers_of.Tie as tie
+use Rattle.case_state.proofs.registers_of.Statement.{statement}
+use Rattle.case_state.proofs.registers_of.Tie as tie
 
 abbrev Inv-loop : tie.InvT-loop
 Inv-loop kept registers₀ i₀ registers i = (i ≤ 32) × (length registers ≡ 32) × (take i registers ≡ keptWords i kept 24)

@@ -1,21 +1,18 @@
-// Parts of the state of a case among the kept numbers.
+// Parts of a state among the kept numbers of a case.
 ghost use mathlib.Core.Path.{_≡_};
-ghost use Rattle.case_notes.specs.KeptParts.{withTransfer, withLoad, withTarget, registersOf, specialsOf, listOf, withWords, withPredicates};
+ghost use Rattle.case_state.specs.KeptState.{withTarget, registersOf, specialsOf, listOf, withWords, withPredicates};
 use alu_effects::Specials;
 use case_kept::kept::BLOCK;
 use case_kept::kept::BR;
 use case_kept::kept::CALL;
 use case_kept::kept::Kept;
-use case_kept::kept::LOAD;
-use case_kept::kept::LOADED;
 use case_kept::kept::PREDICATES;
 use case_kept::kept::REGISTERS;
 use case_kept::kept::SPECIALS;
-use case_kept::kept::TARGET;
-use case_kept::kept::TRANSFER;
 use case_kept::kept::keep_after;
 use case_kept::kept::keep_flag;
 use case_kept::kept::word;
+use case_notes::waiting::keep_transfer;
 use effects::Transfer;
 
 pub fn registers_of(kept: &Kept) -> [u32; 32]
@@ -71,16 +68,6 @@ pub fn listed(s: Specials) -> [u32; 8]
     [s.sl, s.sh, s.ss, s.st, s.srb, s.sro, s.sxb, s.sxo]
 }
 
-// A waiting transfer by the number of its kind, with the numbers of its line.
-pub fn keep_transfer(kept: &mut Kept, kind: u64, a: u32, b: u32, c: u32)
-    ensures { λ _. ⌜ now (kept .exit) ≡ withTransfer (now (kept .entry)) kind a b c ⌝ }
-{
-    kept[TRANSFER] = kind;
-    kept[TARGET] = a as u64;
-    kept[TARGET + 1] = b as u64;
-    kept[TARGET + 2] = c as u64;
-}
-
 pub fn keep_target(kept: &mut Kept, t: Transfer, wait: u32)
     ensures { λ _. ⌜ now (kept .exit) ≡ withTarget (now (kept .entry)) t wait ⌝ }
 {
@@ -89,12 +76,4 @@ pub fn keep_target(kept: &mut Kept, t: Transfer, wait: u32)
         Transfer::Call { target } => keep_transfer(&mut *kept, CALL, target, wait, 0),
         Transfer::Block { target, base } => keep_transfer(&mut *kept, BLOCK, target, base, wait),
     }
-}
-
-pub fn keep_load(kept: &mut Kept, register: u32, value: u32)
-    ensures { λ _. ⌜ now (kept .exit) ≡ withLoad (now (kept .entry)) register value ⌝ }
-{
-    kept[LOAD] = 1;
-    kept[LOADED] = register as u64;
-    kept[LOADED + 1] = value as u64;
 }

@@ -1,4 +1,4 @@
--- Parts of the state of a case among the kept numbers.
+-- Parts of a state among the kept numbers of a case.
 use Prim.Native.Nat.{ℕ, _+_}
 use mathlib.Core.Bool.{Bool, false}
 use mathlib.Core.List.{List, [], _∷_}
@@ -6,16 +6,9 @@ use lib.ListN.{length, getD}
 use Rattle.alu_effects.specs.declared.Specials.{Specials}
 use Rattle.effects.specs.declared.Transfer.{Transfer}
 use Rattle.effects.specs.declared.Transfer.the-variants as Transfer
-use Rattle.case_kept.specs.Indices.{SPECIALS, TRANSFER, BR, CALL, BLOCK, TARGET, LOAD, LOADED, REGISTERS, PREDICATES}
-use Rattle.case_kept.specs.Kept.{keptWord, put, flag, keptWords, putEach}
-
--- A waiting transfer: its kind, and the numbers of its line in their order. A line of two numbers has 0 for the third.
-abbrev pub withTransfer : List ℕ → ℕ → ℕ → ℕ → ℕ → List ℕ
-withTransfer kept kind a b c = put (put (put (put kept TRANSFER kind) TARGET a) (TARGET + 1) b) (TARGET + 2) c
-
--- A waiting load: that there is one, its register and its value.
-abbrev pub withLoad : List ℕ → ℕ → ℕ → List ℕ
-withLoad kept register value = put (put (put kept LOAD 1) LOADED register) (LOADED + 1) value
+use Rattle.case_kept.specs.Indices.{SPECIALS, BR, CALL, BLOCK, REGISTERS, PREDICATES}
+use Rattle.case_kept.specs.Kept.{keptWord, flag, keptWords, putEach}
+use Rattle.case_notes.specs.Waiting.{withTransfer}
 
 -- A transfer as its line in a file has it: TARGET and WAIT, or TARGET, BASE and WAIT.
 abbrev pub withTarget : List ℕ → Transfer → ℕ → List ℕ

@@ -1,5 +1,5 @@
-use Rattle.case_notes.proofs.kept_parts.keep_target.Statement.{statement}
-use Rattle.case_notes.proofs.kept_parts.keep_target.Tie as tie
+use Rattle.case_state.proofs.keep_target.Statement.{statement}
+use Rattle.case_state.proofs.keep_target.Tie as tie
 
 enum-known-t : tie.Need-enum-known-t
 enum-known-t c = c .match .keys1

@@ -1,6 +1,6 @@
 use borrow.Author.Needs.{needs}
-use Rattle.case_notes.proofs.kept_parts.specials_of.Statement.{statement}
-use Rattle.case_notes.proofs.kept_parts.specials_of.Tie as tie
+use Rattle.case_state.proofs.specials_of.Statement.{statement}
+use Rattle.case_state.proofs.specials_of.Tie as tie
 
 word-requires : tie.Need-word-requires
 word-requires c κs = tt

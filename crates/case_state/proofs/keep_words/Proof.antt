@@ -5,8 +5,8 @@ use Rattle.case_kept.specs.KeptLaws.{put-none, put-more}
 use borrow.Author.Needs.{needs}
 use native.Mathlib.Omega.{arith}
 use mathlib.Core.Path.{_≡_, refl, _∙_}
-use Rattle.case_notes.proofs.kept_parts.keep_words.Statement.{statement}
-use Rattle.case_notes.proofs.kept_parts.keep_words.Tie as tie
+use Rattle.case_state.proofs.keep_words.Statement.{statement}
+use Rattle.case_state.proofs.keep_words.Tie as tie
 
 abbrev Inv-loop : tie.InvT-loop
 Inv-loop kept₀ first words i₀ kept i = (i ≤ length words) × (kept ≡ putEach first i (λ j. getD words j 0) kept₀)

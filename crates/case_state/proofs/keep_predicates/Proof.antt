@@ -6,8 +6,8 @@ use Rattle.case_kept.specs.KeptLaws.{put-none, put-more}
 use borrow.Author.Needs.{needs}
 use native.Mathlib.Omega.{arith}
 use mathlib.Core.Path.{_≡_, refl, _∙_}
-use Rattle.case_notes.proofs.kept_parts.keep_predicates.Statement.{statement}
-use Rattle.case_notes.proofs.kept_parts.keep_predicates.Tie as tie
+use Rattle.case_state.proofs.keep_predicates.Statement.{statement}
+use Rattle.case_state.proofs.keep_predicates.Tie as tie
 
 abbrev Inv-loop : tie.InvT-loop
 Inv-loop kept₀ predicates i₀ kept i = (i ≤ 8) × (kept ≡ putEach 56 i (λ j. flag (getD predicates j false)) kept₀)

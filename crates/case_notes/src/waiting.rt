@@ -1,0 +1,26 @@
+// What waits in a case, among the kept numbers.
+ghost use mathlib.Core.Path.{_≡_};
+ghost use Rattle.case_notes.specs.Waiting.{withTransfer, withLoad};
+use case_kept::kept::Kept;
+use case_kept::kept::LOAD;
+use case_kept::kept::LOADED;
+use case_kept::kept::TARGET;
+use case_kept::kept::TRANSFER;
+
+// A waiting transfer by the number of its kind, with the numbers of its line.
+pub fn keep_transfer(kept: &mut Kept, kind: u64, a: u32, b: u32, c: u32)
+    ensures { λ _. ⌜ now (kept .exit) ≡ withTransfer (now (kept .entry)) kind a b c ⌝ }
+{
+    kept[TRANSFER] = kind;
+    kept[TARGET] = a as u64;
+    kept[TARGET + 1] = b as u64;
+    kept[TARGET + 2] = c as u64;
+}
+
+pub fn keep_load(kept: &mut Kept, register: u32, value: u32)
+    ensures { λ _. ⌜ now (kept .exit) ≡ withLoad (now (kept .entry)) register value ⌝ }
+{
+    kept[LOAD] = 1;
+    kept[LOADED] = register as u64;
+    kept[LOADED + 1] = value as u64;
+}
