@@ -1,23 +1,22 @@
 // An operation line of an open case.
 use crate::check_code::do_check;
-use crate::operation::do_run;
-use crate::operation::do_step;
+use crate::operation::Operation;
+use crate::operation::do_operation;
 use case_file::Line;
 use case_kept::buffers::Bytes;
 use case_kept::buffers::Cache;
 use case_kept::buffers::Memory;
 use case_kept::kept::Kept;
 
-// What an operation line asks for.
-enum Operation {
-    Check,
-    Step,
-    Run(u32),
+fn is_check(said: Line) -> bool {
+    match said {
+        Line::Check => true,
+        _ => false,
+    }
 }
 
 fn operation_of(said: Line) -> Operation {
     match said {
-        Line::Check => Operation::Check,
         Line::Run(n) => Operation::Run(n),
         _ => Operation::Step,
     }
@@ -32,24 +31,16 @@ pub(crate) fn perform(
     kept: &mut Kept,
     out: &mut [u8],
 ) -> usize {
-    match operation_of(said) {
-        Operation::Check => do_check(code, &*kept, &mut *out),
-        Operation::Step => do_step(
-            code,
-            &mut *main,
-            &mut *local,
-            &mut *cache,
-            &mut *kept,
-            &mut *out,
-        ),
-        Operation::Run(n) => do_run(
-            n,
-            code,
-            &mut *main,
-            &mut *local,
-            &mut *cache,
-            &mut *kept,
-            &mut *out,
-        ),
+    if is_check(said) {
+        return do_check(code, &*kept, &mut *out);
     }
+    do_operation(
+        operation_of(said),
+        code,
+        &mut *main,
+        &mut *local,
+        &mut *cache,
+        &mut *kept,
+        &mut *out,
+    )
 }
