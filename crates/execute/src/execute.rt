@@ -21,7 +21,7 @@ use effects::Effect;
 use settings::Settings;
 
 // A decoded bundle, whose slots have these effects, done or refused.
-pub(crate) fn execute(
+pub fn execute(
     core: Core,
     registers: &mut [u32; 32],
     predicates: &mut [bool; 8],
