@@ -1,20 +1,19 @@
 -- Parts of a state among the kept numbers of a case.
 use Prim.Native.Nat.{ℕ, _+_}
-use mathlib.Core.Bool.{Bool, false}
+use mathlib.Core.Bool.{Bool, false, cond}
 use mathlib.Core.List.{List, [], _∷_}
 use lib.ListN.{length, getD}
+use lib.Dec.{eqb}
 use Rattle.alu_effects.specs.declared.Specials.{Specials}
 use Rattle.effects.specs.declared.Transfer.{Transfer}
 use Rattle.effects.specs.declared.Transfer.the-variants as Transfer
-use Rattle.case_kept.specs.Indices.{SPECIALS, BR, CALL, BLOCK, REGISTERS, PREDICATES}
-use Rattle.case_kept.specs.Kept.{keptWord, flag, keptWords, putEach}
-use Rattle.case_notes.specs.Waiting.{withTransfer}
-
--- A transfer as its line in a file has it: TARGET and WAIT, or TARGET, BASE and WAIT.
-abbrev pub withTarget : List ℕ → Transfer → ℕ → List ℕ
-withTarget kept (Transfer.Br target) wait = withTransfer kept BR target wait 0
-withTarget kept (Transfer.Call target) wait = withTransfer kept CALL target wait 0
-withTarget kept (Transfer.Block target base) wait = withTransfer kept BLOCK target base wait
+use Rattle.core_state.specs.declared.WaitingTransfer.{WaitingTransfer}
+use Rattle.core_state.specs.declared.WaitingTransfer.the-variants as WaitingTransfer
+use Rattle.core_state.specs.declared.WaitingLoad.{WaitingLoad}
+use Rattle.core_state.specs.declared.WaitingLoad.the-variants as WaitingLoad
+use Rattle.case_kept.specs.Indices.{SPECIALS, TRANSFER, TARGET, BR, CALL, BLOCK, LOAD, LOADED, REGISTERS, PREDICATES}
+use Rattle.case_kept.specs.Kept.{keptNumber, keptWord, isSet, put, flag, keptWords, putEach}
+use Rattle.case_notes.specs.Waiting.{withTransfer, withLoad}
 
 abbrev pub registersOf : List ℕ → List ℕ
 registersOf kept = keptWords 32 kept REGISTERS
@@ -40,3 +39,31 @@ withWords kept first words = putEach first (length words) (λ i. getD words i 0)
 
 abbrev pub withPredicates : List ℕ → List Bool → List ℕ
 withPredicates kept predicates = putEach PREDICATES 8 (λ i. flag (getD predicates i false)) kept
+
+-- A waiting transfer by the number of its kind, and the numbers of its line.
+unfoldable pub transferWith : ℕ → ℕ → ℕ → ℕ → WaitingTransfer
+transferWith kind a b c =
+    cond (eqb kind BR) (WaitingTransfer.Waits (Transfer.Br a) b)
+    (cond (eqb kind CALL) (WaitingTransfer.Waits (Transfer.Call a) b)
+    (cond (eqb kind BLOCK) (WaitingTransfer.Waits (Transfer.Block a b) c) WaitingTransfer.Nothing))
+
+abbrev pub transferOf : List ℕ → WaitingTransfer
+transferOf kept = transferWith (keptNumber kept TRANSFER) (keptWord kept TARGET) (keptWord kept (TARGET + 1)) (keptWord kept (TARGET + 2))
+
+abbrev pub loadOf : List ℕ → WaitingLoad
+loadOf kept = cond (isSet kept LOAD) (WaitingLoad.Waits (keptWord kept LOADED) (keptWord kept (LOADED + 1))) WaitingLoad.Nothing
+
+-- A transfer as its line in a file has it: TARGET and WAIT, or TARGET, BASE and WAIT.
+abbrev pub withTarget : List ℕ → Transfer → ℕ → List ℕ
+withTarget kept (Transfer.Br target) wait = withTransfer kept BR target wait 0
+withTarget kept (Transfer.Call target) wait = withTransfer kept CALL target wait 0
+withTarget kept (Transfer.Block target base) wait = withTransfer kept BLOCK target base wait
+
+-- Where nothing waits only the kind says so.
+abbrev pub withWaiting : List ℕ → WaitingTransfer → List ℕ
+withWaiting kept WaitingTransfer.Nothing = put kept TRANSFER 0
+withWaiting kept (WaitingTransfer.Waits t wait) = withTarget kept t wait
+
+abbrev pub withWaitingLoad : List ℕ → WaitingLoad → List ℕ
+withWaitingLoad kept WaitingLoad.Nothing = put kept LOAD 0
+withWaitingLoad kept (WaitingLoad.Waits register value) = withLoad kept register value

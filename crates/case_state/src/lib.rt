@@ -1,18 +1,27 @@
 // Parts of a state among the kept numbers of a case.
 ghost use mathlib.Core.Path.{_≡_};
-ghost use Rattle.case_state.specs.KeptState.{withTarget, registersOf, specialsOf, listOf, withWords, withPredicates};
+ghost use Rattle.case_state.specs.KeptState.{registersOf, specialsOf, listOf, withWords, withPredicates, transferWith, transferOf, loadOf, withTarget, withWaiting, withWaitingLoad};
 use alu_effects::Specials;
 use case_kept::kept::BLOCK;
 use case_kept::kept::BR;
 use case_kept::kept::CALL;
 use case_kept::kept::Kept;
+use case_kept::kept::LOAD;
+use case_kept::kept::LOADED;
 use case_kept::kept::PREDICATES;
 use case_kept::kept::REGISTERS;
 use case_kept::kept::SPECIALS;
+use case_kept::kept::TARGET;
+use case_kept::kept::TRANSFER;
+use case_kept::kept::is_set;
 use case_kept::kept::keep_after;
 use case_kept::kept::keep_flag;
+use case_kept::kept::number;
 use case_kept::kept::word;
+use case_notes::waiting::keep_load;
 use case_notes::waiting::keep_transfer;
+use core_state::WaitingLoad;
+use core_state::WaitingTransfer;
 use effects::Transfer;
 
 pub fn registers_of(kept: &Kept) -> [u32; 32]
@@ -68,12 +77,74 @@ pub fn listed(s: Specials) -> [u32; 8]
     [s.sl, s.sh, s.ss, s.st, s.srb, s.sro, s.sxb, s.sxo]
 }
 
-pub fn keep_target(kept: &mut Kept, t: Transfer, wait: u32)
+// A transfer of a kind with the numbers of its line.
+fn transfer_with(kind: u64, a: u32, b: u32, c: u32) -> WaitingTransfer
+    ensures { λ r. ⌜ r ≡ transferWith kind a b c ⌝ }
+{
+    match kind {
+        BR => WaitingTransfer::Waits {
+            transfer: Transfer::Br { target: a },
+            wait: b,
+        },
+        CALL => WaitingTransfer::Waits {
+            transfer: Transfer::Call { target: a },
+            wait: b,
+        },
+        BLOCK => WaitingTransfer::Waits {
+            transfer: Transfer::Block { target: a, base: b },
+            wait: c,
+        },
+        _ => WaitingTransfer::Nothing,
+    }
+}
+
+pub fn transfer_of(kept: &Kept) -> WaitingTransfer
+    ensures { λ r. ⌜ r ≡ transferOf (now (kept .entry)) ⌝ }
+{
+    transfer_with(
+        number(kept, TRANSFER),
+        word(kept, TARGET),
+        word(kept, TARGET + 1),
+        word(kept, TARGET + 2),
+    )
+}
+
+pub fn load_of(kept: &Kept) -> WaitingLoad
+    ensures { λ r. ⌜ r ≡ loadOf (now (kept .entry)) ⌝ }
+{
+    if is_set(kept, LOAD) {
+        return WaitingLoad::Waits {
+            register: word(kept, LOADED),
+            value: word(kept, LOADED + 1),
+        };
+    }
+    WaitingLoad::Nothing
+}
+
+fn keep_target(kept: &mut Kept, t: Transfer, wait: u32)
     ensures { λ _. ⌜ now (kept .exit) ≡ withTarget (now (kept .entry)) t wait ⌝ }
 {
     match t {
         Transfer::Br { target } => keep_transfer(&mut *kept, BR, target, wait, 0),
         Transfer::Call { target } => keep_transfer(&mut *kept, CALL, target, wait, 0),
         Transfer::Block { target, base } => keep_transfer(&mut *kept, BLOCK, target, base, wait),
+    }
+}
+
+pub fn keep_waiting(kept: &mut Kept, w: WaitingTransfer)
+    ensures { λ _. ⌜ now (kept .exit) ≡ withWaiting (now (kept .entry)) w ⌝ }
+{
+    match w {
+        WaitingTransfer::Nothing => kept[TRANSFER] = 0,
+        WaitingTransfer::Waits { transfer, wait } => keep_target(&mut *kept, transfer, wait),
+    }
+}
+
+pub fn keep_waiting_load(kept: &mut Kept, w: WaitingLoad)
+    ensures { λ _. ⌜ now (kept .exit) ≡ withWaitingLoad (now (kept .entry)) w ⌝ }
+{
+    match w {
+        WaitingLoad::Nothing => kept[LOAD] = 0,
+        WaitingLoad::Waits { register, value } => keep_load(&mut *kept, register, value),
     }
 }
