@@ -1,17 +1,8 @@
--- The reasons as a table with a row for each, and laws of rows, one byte at a time.
-use Prim.Native.Nat.{ℕ, zero, suc, _+_, _-_, _≤_, _<_}
-use Prim.Native.Char.{code}
+-- The reasons as a table with a row for each.
+use Prim.Native.Nat.{ℕ}
 use mathlib.Core.Path.{_≡_, refl}
-use mathlib.Core.Bool.{cond}
-use mathlib.Core.List.{List, [], _∷_, _++_}
-use native.Mathlib.Numerals.{add-one}
-use native.Mathlib.Omega.{arith}
-use lib.ListN.{length, drop, getD, drop-of-length-le}
-use lib.Seq.{drop-cons}
-use lib.Dec.{eqb}
-use borrow.Author.Tests.{ne-eqb}
-use Rattle.text.specs.Page.{Page, withByte, withText}
-use Rattle.case_words.specs.Names.{bytes}
+use mathlib.Core.List.{List, [], _∷_}
+use Rattle.text.specs.Table.{table, rowText}
 use Rattle.case_file.specs.declared.Reason.{Reason}
 use Rattle.case_file.specs.declared.Reason.the-variants as Reason
 use Rattle.case_report.specs.Mistake.{inWords, reasonText}
@@ -39,12 +30,6 @@ numberOf Reason.TooMuchMemory = 17
 numberOf Reason.PlaceOutside = 18
 numberOf Reason.UnseenByte = 19
 
--- A row of a table whose rows each end with a line end.
-unfoldable pub rowText : List ℕ → ℕ → List ℕ
-rowText [] row = []
-rowText (b ∷ t) zero = cond (eqb b (code "\n")) [] (b ∷ rowText t 0)
-rowText (b ∷ t) (suc row) = cond (eqb b (code "\n")) (rowText t row) (rowText t (suc row))
-
 -- All reasons, in the order of their rows.
 unfoldable pub reasons : List Reason
 reasons =
@@ -70,16 +55,13 @@ reasons =
     ∷ Reason.UnseenByte
     ∷ []
 
-unfoldable pub rows : List Reason → List ℕ
-rows [] = []
-rows (r ∷ rs) = bytes (inWords r) ++ (code "\n" ∷ rows rs)
-
-unfoldable pub table : List ℕ
-table = rows reasons
+unfoldable pub texts : List Reason → List (List ℕ)
+texts [] = []
+texts (r ∷ rs) = reasonText r ∷ texts rs
 
 -- Each reason's row has its words.
-pub reason-row : (r : Reason) → rowText table (numberOf r) ≡ reasonText r
-unfolding inWords reasonText rowText table rows reasons
+pub reason-row : (r : Reason) → rowText (table (texts reasons)) (numberOf r) ≡ reasonText r
+unfolding inWords reasonText rowText table texts reasons
 reason-row Reason.UnknownWord = refl
 reason-row Reason.FieldMissing = refl
 reason-row Reason.FieldTooMany = refl
@@ -100,30 +82,3 @@ reason-row Reason.TooMuchCode = refl
 reason-row Reason.TooMuchMemory = refl
 reason-row Reason.PlaceOutside = refl
 reason-row Reason.UnseenByte = refl
-
-pub row-over : (t : List ℕ) (row i : ℕ) → length t ≤ i → rowText (drop i t) row ≡ []
-unfolding rowText
-row-over t row i h = rw (drop-of-length-le t {i = i} h)
-
--- A line end ends the row, or is one row less.
-pub row-ends : (t : List ℕ) (row i : ℕ) → i < length t → getD t i 0 ≡ 10 → row ≡ 0 → rowText (drop i t) row ≡ []
-unfolding rowText
-row-ends t row i h e z = rw (z, drop-cons t i 0 h, e)
-
-pub row-next : (t : List ℕ) (row i : ℕ) → i < length t → getD t i 0 ≡ 10 → (row ≡ 0 → ⊥) → rowText (drop (i + 1) t) (row - 1) ≡ rowText (drop i t) row
-unfolding rowText
-row-next t zero i h e z = absurd (z refl)
-row-next t (suc row) i h e z =
-    let less : suc row - 1 ≡ row = omega arith in
-    rw (drop-cons t i 0 h, add-one i, e, less)
-
--- Any other byte is one of the row, or passed over.
-pub row-byte : (p : Page) (t : List ℕ) (row i : ℕ) → i < length t → (getD t i 0 ≡ 10 → ⊥) → row ≡ 0
-    → withText (withByte p (getD t i 0)) (rowText (drop (i + 1) t) row) ≡ withText p (rowText (drop i t) row)
-unfolding rowText withText
-row-byte p t row i h e z = rw (z, drop-cons t i 0 h, add-one i, ne-eqb (getD t i 0) 10 e)
-
-pub row-past : (t : List ℕ) (row i : ℕ) → i < length t → (getD t i 0 ≡ 10 → ⊥) → (row ≡ 0 → ⊥) → rowText (drop (i + 1) t) row ≡ rowText (drop i t) row
-unfolding rowText
-row-past t zero i h e z = absurd (z refl)
-row-past t (suc row) i h e z = rw (drop-cons t i 0 h, add-one i, ne-eqb (getD t i 0) 10 e)

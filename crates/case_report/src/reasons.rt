@@ -2,9 +2,9 @@
 ghost use mathlib.Core.Path.{_≡_};
 ghost use Rattle.text.specs.Page.{page, withText};
 ghost use Rattle.case_report.specs.Mistake.{reasonText};
-ghost use Rattle.case_report.specs.Reasons.{numberOf, rowText};
+ghost use Rattle.case_report.specs.Reasons.{numberOf};
 use case_file::Reason;
-use text::page::put_byte;
+use text::table::put_row;
 
 // The row of a reason.
 fn number_of(r: Reason) -> u32
@@ -32,28 +32,6 @@ fn number_of(r: Reason) -> u32
         Reason::PlaceOutside => 18,
         Reason::UnseenByte => 19,
     }
-}
-
-// A row of a table of lines.
-fn put_row(out: &mut [u8], used: usize, table: &[u8], row: u32) -> usize
-    ensures { λ n. ⌜ page n (now (out .exit)) ≡ withText (page used (now (out .entry))) (rowText (now (table .entry)) row) ⌝ }
-{
-    let mut at = used;
-    let mut left = row;
-    let mut i = 0;
-    while i < table.len() {
-        let b = table[i];
-        if b == b'\n' {
-            if left == 0 {
-                return at;
-            }
-            left -= 1;
-        } else if left == 0 {
-            at = put_byte(&mut *out, at, b);
-        }
-        i += 1;
-    }
-    at
 }
 
 pub(crate) fn put_reason(out: &mut [u8], used: usize, r: Reason) -> usize

@@ -1,10 +1,10 @@
 // The words that a line can start with, and the names that it can hold.
 ghost use mathlib.Core.Path.{_≡_};
-ghost use lib.ListN.{drop};
-ghost use Rattle.case_words.specs.Names.{lookUp, keywords, keywordOf, transferKindOf, specialNameOf, numbered, otherItems, itemOf};
+ghost use Rattle.case_words.specs.Names.{lookUp, keywords, keywordOf, transferKinds, transferKindOf, specialNames, specialNameOf, numbered, otherItems, itemOf};
+ghost use Rattle.case_words.specs.RowLaws.{meaningAt};
 use text::Number;
-use text::fields::same;
 use text::numbers::decimal;
+use text::table::row_of;
 
 // The first word of a line.
 pub enum Keyword {
@@ -74,129 +74,83 @@ pub enum Item {
     Unknown,
 }
 
-// The keywords of places and of operations.
-fn place_or_operation(s: &[u8]) -> Keyword
-    ensures { λ r. ⌜ r ≡ lookUp (drop 14 keywords) Keyword.Unknown (now (s .entry)) ⌝ }
+// What the row of a keyword means.
+fn keyword_at(row: usize) -> Keyword
+    ensures { λ r. ⌜ r ≡ meaningAt keywords Keyword.Unknown row ⌝ }
 {
-    if same(s, b"mainword") {
-        return Keyword::NumberAndWord(NumberAndWord::MainWord);
+    match row {
+        0 => Keyword::Case,
+        1 => Keyword::Code,
+        2 => Keyword::OneNumber(OneNumber::Main),
+        3 => Keyword::OneNumber(OneNumber::Local),
+        4 => Keyword::Stack,
+        5 => Keyword::Private,
+        6 => Keyword::OneNumber(OneNumber::Entry),
+        7 => Keyword::OneNumber(OneNumber::Fetch),
+        8 => Keyword::OneNumber(OneNumber::Base),
+        9 => Keyword::NumberAndWord(NumberAndWord::Reg),
+        10 => Keyword::Pred,
+        11 => Keyword::Special,
+        12 => Keyword::Transfer,
+        13 => Keyword::NumberAndWord(NumberAndWord::Load),
+        14 => Keyword::NumberAndWord(NumberAndWord::MainWord),
+        15 => Keyword::NumberAndWord(NumberAndWord::LocalWord),
+        16 => Keyword::NumberAndWord(NumberAndWord::CacheWord),
+        17 => Keyword::OneNumber(OneNumber::Run),
+        18 => Keyword::Step,
+        19 => Keyword::Check,
+        _ => Keyword::Unknown,
     }
-    if same(s, b"localword") {
-        return Keyword::NumberAndWord(NumberAndWord::LocalWord);
-    }
-    if same(s, b"cacheword") {
-        return Keyword::NumberAndWord(NumberAndWord::CacheWord);
-    }
-    if same(s, b"run") {
-        return Keyword::OneNumber(OneNumber::Run);
-    }
-    if same(s, b"step") {
-        return Keyword::Step;
-    }
-    if same(s, b"check") {
-        return Keyword::Check;
-    }
-    Keyword::Unknown
-}
-
-// The keywords of the state and those after them.
-fn state_keyword(s: &[u8]) -> Keyword
-    ensures { λ r. ⌜ r ≡ lookUp (drop 6 keywords) Keyword.Unknown (now (s .entry)) ⌝ }
-{
-    if same(s, b"entry") {
-        return Keyword::OneNumber(OneNumber::Entry);
-    }
-    if same(s, b"fetch") {
-        return Keyword::OneNumber(OneNumber::Fetch);
-    }
-    if same(s, b"base") {
-        return Keyword::OneNumber(OneNumber::Base);
-    }
-    if same(s, b"reg") {
-        return Keyword::NumberAndWord(NumberAndWord::Reg);
-    }
-    if same(s, b"pred") {
-        return Keyword::Pred;
-    }
-    if same(s, b"special") {
-        return Keyword::Special;
-    }
-    if same(s, b"transfer") {
-        return Keyword::Transfer;
-    }
-    if same(s, b"load") {
-        return Keyword::NumberAndWord(NumberAndWord::Load);
-    }
-    place_or_operation(s)
 }
 
 pub fn first_word(s: &[u8]) -> Keyword
     ensures { λ r. ⌜ r ≡ keywordOf (now (s .entry)) ⌝ }
 {
-    if same(s, b"case") {
-        return Keyword::Case;
+    keyword_at(row_of(
+        b"case\ncode\nmain\nlocal\nstack\nprivate\n\
+entry\nfetch\nbase\nreg\npred\nspecial\ntransfer\nload\n\
+mainword\nlocalword\ncacheword\nrun\nstep\ncheck\n",
+        s,
+    ))
+}
+
+fn transfer_kind_at(row: usize) -> TransferKind
+    ensures { λ r. ⌜ r ≡ meaningAt transferKinds TransferKind.Unknown row ⌝ }
+{
+    match row {
+        0 => TransferKind::Br,
+        1 => TransferKind::Call,
+        2 => TransferKind::Block,
+        _ => TransferKind::Unknown,
     }
-    if same(s, b"code") {
-        return Keyword::Code;
-    }
-    if same(s, b"main") {
-        return Keyword::OneNumber(OneNumber::Main);
-    }
-    if same(s, b"local") {
-        return Keyword::OneNumber(OneNumber::Local);
-    }
-    if same(s, b"stack") {
-        return Keyword::Stack;
-    }
-    if same(s, b"private") {
-        return Keyword::Private;
-    }
-    state_keyword(s)
 }
 
 pub fn transfer_kind(s: &[u8]) -> TransferKind
     ensures { λ r. ⌜ r ≡ transferKindOf (now (s .entry)) ⌝ }
 {
-    if same(s, b"br") {
-        return TransferKind::Br;
+    transfer_kind_at(row_of(b"br\ncall\nblock\n", s))
+}
+
+fn special_name_at(row: usize) -> SpecialName
+    ensures { λ r. ⌜ r ≡ meaningAt specialNames SpecialName.Unknown row ⌝ }
+{
+    match row {
+        0 => SpecialName::Sl,
+        1 => SpecialName::Sh,
+        2 => SpecialName::Ss,
+        3 => SpecialName::St,
+        4 => SpecialName::Srb,
+        5 => SpecialName::Sro,
+        6 => SpecialName::Sxb,
+        7 => SpecialName::Sxo,
+        _ => SpecialName::Unknown,
     }
-    if same(s, b"call") {
-        return TransferKind::Call;
-    }
-    if same(s, b"block") {
-        return TransferKind::Block;
-    }
-    TransferKind::Unknown
 }
 
 pub fn special_name(s: &[u8]) -> SpecialName
     ensures { λ r. ⌜ r ≡ specialNameOf (now (s .entry)) ⌝ }
 {
-    if same(s, b"sl") {
-        return SpecialName::Sl;
-    }
-    if same(s, b"sh") {
-        return SpecialName::Sh;
-    }
-    if same(s, b"ss") {
-        return SpecialName::Ss;
-    }
-    if same(s, b"st") {
-        return SpecialName::St;
-    }
-    if same(s, b"srb") {
-        return SpecialName::Srb;
-    }
-    if same(s, b"sro") {
-        return SpecialName::Sro;
-    }
-    if same(s, b"sxb") {
-        return SpecialName::Sxb;
-    }
-    if same(s, b"sxo") {
-        return SpecialName::Sxo;
-    }
-    SpecialName::Unknown
+    special_name_at(row_of(b"sl\nsh\nss\nst\nsrb\nsro\nsxb\nsxo\n", s))
 }
 
 // A letter and a decimal number up to greatest.
@@ -221,25 +175,23 @@ fn numbered(s: &[u8], letter: u8, greatest: u32) -> Number
     }
 }
 
+fn other_item_at(row: usize) -> Item
+    ensures { λ r. ⌜ r ≡ meaningAt otherItems Item.Unknown row ⌝ }
+{
+    match row {
+        0 => Item::Sl,
+        1 => Item::Sh,
+        2 => Item::Main,
+        3 => Item::Local,
+        4 => Item::Stack,
+        _ => Item::Unknown,
+    }
+}
+
 fn other_item(s: &[u8]) -> Item
     ensures { λ r. ⌜ r ≡ lookUp otherItems Item.Unknown (now (s .entry)) ⌝ }
 {
-    if same(s, b"sl") {
-        return Item::Sl;
-    }
-    if same(s, b"sh") {
-        return Item::Sh;
-    }
-    if same(s, b"main") {
-        return Item::Main;
-    }
-    if same(s, b"local") {
-        return Item::Local;
-    }
-    if same(s, b"stack") {
-        return Item::Stack;
-    }
-    Item::Unknown
+    other_item_at(row_of(b"sl\nsh\nmain\nlocal\nstack\n", s))
 }
 
 pub fn marking_item(s: &[u8]) -> Item

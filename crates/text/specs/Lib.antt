@@ -6,3 +6,5 @@ pub mod FieldLaws
 pub mod DecimalLaws
 pub mod Page
 pub mod PageLaws
+pub mod Table
+pub mod TableLaws

@@ -1,8 +1,9 @@
-// Text: the fields of a line, the numbers that are read from them, and texts and digits put into a buffer.
+// Text: the fields of a line, the numbers that are read from them, tables of words, and texts and digits put into a buffer.
 mod digits;
 pub mod fields;
 pub mod numbers;
 pub mod page;
+pub mod table;
 
 // A part of a line, from start up to, not including, end.
 pub struct Field {

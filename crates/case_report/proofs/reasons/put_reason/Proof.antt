@@ -3,8 +3,9 @@ use mathlib.Core.Path.{refl, ap, _∙_}
 use Prim.Native.Nat.{ℕ}
 use mathlib.Core.List.{List}
 use Rattle.text.specs.Page.{page, withText}
-use Rattle.case_report.specs.Mistake.{inWords}
-use Rattle.case_report.specs.Reasons.{rowText, table, reason-row, rows, reasons}
+use Rattle.text.specs.Table.{table, rowText}
+use Rattle.case_report.specs.Mistake.{inWords, reasonText}
+use Rattle.case_report.specs.Reasons.{texts, reasons, reason-row}
 use Rattle.case_report.proofs.reasons.put_reason.Statement.{statement}
 use Rattle.case_report.proofs.reasons.put_reason.Tie as tie
 
@@ -21,9 +22,9 @@ same-length : tie.Need-same-length
 same-length c = search needs
 
 returns : tie.Need-returns
-unfolding table rows reasons inWords
+unfolding table texts reasons inWords reasonText
 returns c = let a = c .before .before .before .before .before .before .before .args in
-    c .before .before .put-row .ensures ∙ ap (λ (s : List ℕ). withText (page (a .used) (a .out .now)) s) (ap (λ (n : ℕ). rowText table n) (c .before .before .before .number-of .ensures) ∙ reason-row (a .r))
+    c .before .before .put-row .ensures ∙ ap (λ (s : List ℕ). withText (page (a .used) (a .out .now)) s) (ap (λ (n : ℕ). rowText (table (texts reasons)) n) (c .before .before .before .number-of .ensures) ∙ reason-row (a .r))
 
 pub put-reason-spec : {M : Type 1} → statement M
 put-reason-spec =

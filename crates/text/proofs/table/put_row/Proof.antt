@@ -4,11 +4,12 @@ use mathlib.Core.Path.{_≡_, refl, sym, ap, _∙_}
 use mathlib.Core.List.{List}
 use mathlib.Core.Logic.{⊎-elim}
 use lib.ListN.{length, drop}
 use Rattle.text.specs.Page.{Page, page, withText}
 use Rattle.text.specs.PageLaws.{text-none}
-use Rattle.case_report.specs.Reasons.{rowText, row-over, row-ends, row-next, row-byte, row-past}
-use Rattle.case_report.proofs.reasons.put_row.Statement.{statement}
-use Rattle.case_report.proofs.reasons.put_row.Tie as tie
+use Rattle.text.specs.Table.{rowText}
+use Rattle.text.specs.TableLaws.{row-over, row-ends, row-next, row-byte, row-past}
+use Rattle.text.proofs.table.put_row.Statement.{statement}
+use Rattle.text.proofs.table.put_row.Tie as tie
 
 abbrev Inv-loop : tie.InvT-loop
 Inv-loop out₀ used table row at₀ left₀ i₀ out at left i = (length out ≡ length out₀) × (withText (page at out) (rowText (drop i table) left) ≡ withText (page used out₀) (rowText table row))
