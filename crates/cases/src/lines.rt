@@ -1,8 +1,11 @@
 // Lines of the file, one after the other. What a line has to report is put at the front of a buffer, of which each function answers
 // how much is used, and is written out before the next line is read.
+use crate::check_code::do_check;
+use crate::check_code::is_check;
 use crate::opening::open_case;
 use crate::opening::start_case;
-use crate::perform::perform;
+use crate::operation::do_operation;
+use crate::operation::operation_of;
 use bytes::scan::find;
 use case_file::Line;
 use case_file::Reason;
@@ -93,35 +96,6 @@ fn fail_here(kept: &mut Kept, r: Reason, out: &mut [u8]) -> usize {
     fail(&mut *out, 0, &mut *kept, line, r)
 }
 
-fn judged(kept: &mut Kept, j: Judged, out: &mut [u8]) -> usize {
-    match j {
-        Judged::Fine => 0,
-        Judged::Mistake(r) => fail_here(&mut *kept, r, &mut *out),
-    }
-}
-
-// Where the case is described, it is opened, refused or found mistaken.
-fn ready(
-    code: &Bytes,
-    main: &mut Memory,
-    local: &mut Memory,
-    cache: &mut Cache,
-    kept: &mut Kept,
-    out: &mut [u8],
-) -> usize {
-    if kept[PHASE] == DESCRIBED {
-        return open_case(
-            code,
-            &mut *main,
-            &mut *local,
-            &mut *cache,
-            &mut *kept,
-            &mut *out,
-        );
-    }
-    0
-}
-
 // An operation line: the first of a case opens it, which is reported only where it is refused. After a refused opening nothing is
 // done.
 fn operation_line(
@@ -133,7 +107,7 @@ fn operation_line(
     kept: &mut Kept,
     out: &mut [u8],
 ) -> usize {
-    let used = ready(
+    let used = open_case(
         code,
         &mut *main,
         &mut *local,
@@ -141,18 +115,47 @@ fn operation_line(
         &mut *kept,
         &mut *out,
     );
-    if kept[PHASE] == OPEN {
-        return perform(
-            said,
-            code,
-            &mut *main,
-            &mut *local,
-            &mut *cache,
-            &mut *kept,
-            &mut *out,
-        );
+    if kept[PHASE] != OPEN {
+        return used;
     }
-    used
+    if is_check(said) {
+        return do_check(code, &*kept, &mut *out);
+    }
+    do_operation(
+        operation_of(said),
+        code,
+        &mut *main,
+        &mut *local,
+        &mut *cache,
+        &mut *kept,
+        &mut *out,
+    )
+}
+
+// A line of the case's description.
+fn description_line(
+    said: Line,
+    line: &[u8],
+    code: &mut Bytes,
+    main: &mut Memory,
+    local: &mut Memory,
+    cache: &mut Cache,
+    kept: &mut Kept,
+    out: &mut [u8],
+) -> usize {
+    let j = describe(
+        said,
+        line,
+        &mut *code,
+        &mut *main,
+        &mut *local,
+        &mut *cache,
+        &mut *kept,
+    );
+    match j {
+        Judged::Fine => 0,
+        Judged::Mistake(r) => fail_here(&mut *kept, r, &mut *out),
+    }
 }
 
 // The next line, without its line end.
@@ -188,18 +191,16 @@ fn take_line(
             &mut *kept,
             &mut *out,
         ),
-        Kind::Description => {
-            let j = describe(
-                said,
-                line,
-                &mut *code,
-                &mut *main,
-                &mut *local,
-                &mut *cache,
-                &mut *kept,
-            );
-            judged(&mut *kept, j, &mut *out)
-        }
+        Kind::Description => description_line(
+            said,
+            line,
+            &mut *code,
+            &mut *main,
+            &mut *local,
+            &mut *cache,
+            &mut *kept,
+            &mut *out,
+        ),
     }
 }
 

@@ -5,7 +5,6 @@ mod kept_state;
 mod lines;
 mod opening;
 mod operation;
-mod perform;
 mod report;
 
 use libc::STDERR_FILENO;

@@ -175,6 +175,9 @@ pub(crate) fn open_case(
     kept: &mut Kept,
     out: &mut [u8],
 ) -> usize {
+    if kept[PHASE] != DESCRIBED {
+        return 0;
+    }
     match first_outside(&*kept) {
         Outside::Line(n) => fail(&mut *out, 0, &mut *kept, n, Reason::PlaceOutside),
         Outside::Nowhere => open(

@@ -4,6 +4,7 @@ use crate::kept_state::state_of;
 use crate::report::put_counts;
 use bundle_model::Answer;
 use bundle_model::Counts;
+use case_file::Line;
 use case_kept::buffers::Bytes;
 use case_kept::buffers::Cache;
 use case_kept::buffers::Memory;
@@ -28,6 +29,14 @@ ghost use lib.ListN.{length};
 pub(crate) enum Operation {
     Step,
     Run(u32),
+}
+
+// What an operation line that is no check asks for.
+pub(crate) fn operation_of(said: Line) -> Operation {
+    match said {
+        Line::Run(n) => Operation::Run(n),
+        _ => Operation::Step,
+    }
 }
 
 // How an operation ended.
