@@ -6,6 +6,9 @@ ghost use Rattle.settings.specs.Setup.{buffers, found, left, lent, setup, setup
 ghost use Rattle.core_state.specs.Core.{foundState, Kept};
 ghost use Rattle.bundle_model.specs.Execute.{handedBack};
 ghost use Rattle.run_model.specs.Loop.{goesOn, advanced};
+use crate::outcome::ended;
+use crate::outcome::no_counts;
+use crate::outcome::refused;
 use crate::ready::readiness;
 use crate::underway::Underway;
 use bundle_model::Advanced;
@@ -13,9 +16,6 @@ use bundle_model::Answer;
 use bundle_model::Readiness;
 use core_state::Core;
 use core_state::judged::has_ended;
-use execute::outcome::ended;
-use execute::outcome::no_counts;
-use execute::outcome::refused;
 use settings::Config;
 use settings::Settings;
 

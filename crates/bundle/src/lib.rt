@@ -1,6 +1,10 @@
-// Bundles one by one, from the one that is fetched: what a step and a run do. The state is by value, and its registers and predicates are
-// lent.
+// Bundles done or refused, one by one: what a step and a run do. A state is a `Core` by value, with its registers and predicates lent
+// beside it.
 // Open first: advance.rt, then underway.rt.
 pub mod advance;
+mod execute;
+mod outcome;
 mod ready;
+mod slot_one;
+mod stack_moves;
 mod underway;

@@ -8,7 +8,7 @@ use core_state::judged::has_ended;
 use core_state::judged::is_well_formed;
 use settings::Settings;
 
-// What is judged before a bundle is tried: the settings, the state, and whether it has ended.
+// Judged in this order, as the refusals have it.
 pub(crate) fn readiness(
     core: Core,
     registers: &[u32; 32],

@@ -6,3 +6,4 @@ pub mod ChangesLaws
 pub mod ChangesFit
 pub mod Mistake
 pub mod Reasons
+pub mod ReasonLaws

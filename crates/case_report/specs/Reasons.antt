@@ -1,11 +1,9 @@
 -- The reasons as a table with a row for each.
 use Prim.Native.Nat.{ℕ}
-use mathlib.Core.Path.{_≡_, refl}
 use mathlib.Core.List.{List, [], _∷_}
-use Rattle.text.specs.Table.{table, rowText}
 use Rattle.case_file.specs.declared.Reason.{Reason}
 use Rattle.case_file.specs.declared.Reason.the-variants as Reason
-use Rattle.case_report.specs.Mistake.{inWords, reasonText}
+use Rattle.case_report.specs.Mistake.{reasonText}
 
 -- The row of a reason.
 abbrev pub numberOf : Reason → ℕ
@@ -58,27 +56,3 @@ reasons =
 unfoldable pub texts : List Reason → List (List ℕ)
 texts [] = []
 texts (r ∷ rs) = reasonText r ∷ texts rs
-
--- Each reason's row has its words.
-pub reason-row : (r : Reason) → rowText (table (texts reasons)) (numberOf r) ≡ reasonText r
-unfolding inWords reasonText rowText table texts reasons
-reason-row Reason.UnknownWord = refl
-reason-row Reason.FieldMissing = refl
-reason-row Reason.FieldTooMany = refl
-reason-row Reason.NotANumber = refl
-reason-row Reason.NotAWord = refl
-reason-row Reason.NotAName = refl
-reason-row Reason.NotABit = refl
-reason-row Reason.NoSuchRegister = refl
-reason-row Reason.NoSuchPredicate = refl
-reason-row Reason.NoSuchSpecial = refl
-reason-row Reason.NoSuchTransfer = refl
-reason-row Reason.NoSuchItem = refl
-reason-row Reason.LineTooLong = refl
-reason-row Reason.BeforeFirstCase = refl
-reason-row Reason.AfterOperation = refl
-reason-row Reason.Repeated = refl
-reason-row Reason.TooMuchCode = refl
-reason-row Reason.TooMuchMemory = refl
-reason-row Reason.PlaceOutside = refl
-reason-row Reason.UnseenByte = refl

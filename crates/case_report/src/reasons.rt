@@ -7,7 +7,7 @@ use case_file::Reason;
 use text::table::put_row;
 
 // The row of a reason.
-fn number_of(r: Reason) -> u32
+fn number_of(r: Reason) -> usize
     ensures { λ n. ⌜ n ≡ numberOf r ⌝ }
 {
     match r {

@@ -24,6 +24,7 @@ use core_state::WaitingLoad;
 use core_state::WaitingTransfer;
 use effects::Transfer;
 
+// The state that is kept, part by part.
 pub fn registers_of(kept: &Kept) -> [u32; 32]
     ensures { λ r. ⌜ r ≡ registersOf (now (kept .entry)) ⌝ }
 {
@@ -51,6 +52,7 @@ pub fn specials_of(kept: &Kept) -> Specials
     }
 }
 
+// Words, as registers or special registers, from an index on.
 pub fn keep_words(kept: &mut Kept, first: usize, words: &[u32])
     ensures { λ _. ⌜ now (kept .exit) ≡ withWords (now (kept .entry)) first (now (words .entry)) ⌝ }
 {
@@ -71,6 +73,7 @@ pub fn keep_predicates(kept: &mut Kept, predicates: [bool; 8])
     }
 }
 
+// The special registers in the order in which they are kept.
 pub fn listed(s: Specials) -> [u32; 8]
     ensures { λ r. ⌜ r ≡ listOf s ⌝ }
 {
@@ -121,6 +124,7 @@ pub fn load_of(kept: &Kept) -> WaitingLoad
     WaitingLoad::Nothing
 }
 
+// A transfer as its line in a file has it.
 fn keep_target(kept: &mut Kept, t: Transfer, wait: u32)
     ensures { λ _. ⌜ now (kept .exit) ≡ withTarget (now (kept .entry)) t wait ⌝ }
 {
@@ -131,6 +135,7 @@ fn keep_target(kept: &mut Kept, t: Transfer, wait: u32)
     }
 }
 
+// Where nothing waits only the kind, or the flag, is put.
 pub fn keep_waiting(kept: &mut Kept, w: WaitingTransfer)
     ensures { λ _. ⌜ now (kept .exit) ≡ withWaiting (now (kept .entry)) w ⌝ }
 {

@@ -1,5 +1,5 @@
 -- The words that a case file can hold, each with its meaning, and the items of a marking.
-use Prim.Native.Nat.{ℕ}
+use Prim.Native.Nat.{ℕ, _+_}
 use Prim.Native.Char.{code}
 use Prim.Native.String as Text
 use mathlib.Core.Bool.{Bool, true, false, cond}
@@ -9,6 +9,7 @@ use Rattle.text.specs.declared.Number.{Number}
 use Rattle.text.specs.declared.Number.the-variants.{Value, Bad}
 use Rattle.text.specs.Field.{sameBytes}
 use Rattle.text.specs.Number.{decimalOf}
+use Rattle.text.specs.Table.{isRow}
 use Rattle.case_words.specs.declared.Keyword.{Keyword}
 use Rattle.case_words.specs.declared.Keyword.the-variants as Keyword
 use Rattle.case_words.specs.declared.OneNumber.the-variants as OneNumber
@@ -29,6 +30,22 @@ bytes (Text._∷_ c w) = code c ∷ bytes w
 unfoldable pub lookUp : {A : Type 0} → List (Text.String × A) → A → List ℕ → A
 lookUp [] other s = other
 lookUp ((w, a) ∷ rows) other s = cond (sameBytes s (bytes w)) a (lookUp rows other s)
+
+-- The same by a number: the words of the rows as a table, and the meaning in the row of a number, where the first row has the number n.
+unfoldable pub words : {A : Type 0} → List (Text.String × A) → List (List ℕ)
+words [] = []
+words ((w, a) ∷ rows) = bytes w ∷ words rows
+
+unfoldable pub areRows : {A : Type 0} → List (Text.String × A) → Bool
+areRows [] = true
+areRows ((w, a) ∷ rows) = cond (isRow (bytes w)) (areRows rows) false
+
+unfoldable pub meaningFrom : {A : Type 0} → ℕ → List (Text.String × A) → A → ℕ → A
+meaningFrom n [] other row = other
+meaningFrom n ((w, a) ∷ rows) other row = cond (eqb row n) a (meaningFrom (n + 1) rows other row)
+
+abbrev pub meaningAt : {A : Type 0} → List (Text.String × A) → A → ℕ → A
+meaningAt rows other row = meaningFrom 0 rows other row
 
 -- The first words of the lines.
 unfoldable pub keywords : List (Text.String × Keyword)

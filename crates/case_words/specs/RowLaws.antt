@@ -12,24 +12,7 @@ use borrow.Author.Tests.{eq-eqb, ne-eqb}
 use Rattle.text.specs.Field.{sameBytes}
 use Rattle.text.specs.Table.{table, isRow, rowFrom, rowOf}
 use Rattle.text.specs.TableLaws.{row-first}
-use Rattle.case_words.specs.Names.{bytes, lookUp}
-
--- The words of a list of rows.
-unfoldable pub words : {A : Type 0} → List (Text.String × A) → List (List ℕ)
-words [] = []
-words ((w, a) ∷ rows) = bytes w ∷ words rows
-
-unfoldable pub areRows : {A : Type 0} → List (Text.String × A) → Bool
-areRows [] = true
-areRows ((w, a) ∷ rows) = cond (isRow (bytes w)) (areRows rows) false
-
--- The meaning in a row, by its number, where the first row has the number n.
-unfoldable pub meaningFrom : {A : Type 0} → ℕ → List (Text.String × A) → A → ℕ → A
-meaningFrom n [] other row = other
-meaningFrom n ((w, a) ∷ rows) other row = cond (eqb row n) a (meaningFrom (n + 1) rows other row)
-
-abbrev pub meaningAt : {A : Type 0} → List (Text.String × A) → A → ℕ → A
-meaningAt rows other row = meaningFrom 0 rows other row
+use Rattle.case_words.specs.Names.{bytes, lookUp, words, areRows, meaningFrom, meaningAt}
 
 both : (x y : Bool) → cond x y false ≡ true → (x ≡ true) × (y ≡ true)
 both true y h = (refl, h)

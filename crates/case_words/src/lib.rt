@@ -1,7 +1,7 @@
 // The words that a line can start with, and the names that it can hold.
 ghost use mathlib.Core.Path.{_≡_};
-ghost use Rattle.case_words.specs.Names.{lookUp, keywords, keywordOf, transferKinds, transferKindOf, specialNames, specialNameOf, numbered, otherItems, itemOf};
-ghost use Rattle.case_words.specs.RowLaws.{meaningAt};
+ghost use Rattle.case_words.specs.Names.{lookUp, meaningAt, keywords, keywordOf, transferKinds, transferKindOf, specialNames, specialNameOf};
+ghost use Rattle.case_words.specs.Names.{numbered, otherItems, itemOf};
 use text::Number;
 use text::numbers::decimal;
 use text::table::row_of;

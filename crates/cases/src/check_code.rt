@@ -1,5 +1,4 @@
 // The check of a case's code under its marking.
-use case_file::Line;
 use case_kept::buffers::Bytes;
 use case_kept::buffers::least;
 use case_kept::extent::Extents;
@@ -12,13 +11,6 @@ use single_path::Checked;
 use single_path::Marking;
 use single_path::Rule;
 use text::page::put;
-
-pub(crate) fn is_check(said: Line) -> bool {
-    match said {
-        Line::Check => true,
-        _ => false,
-    }
-}
 
 fn letter(r: Rule) -> u8 {
     match r {

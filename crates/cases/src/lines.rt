@@ -1,11 +1,10 @@
 // Lines of the file, one after the other. What a line has to report is put at the front of a buffer, of which each function answers
 // how much is used, and is written out before the next line is read.
 use crate::check_code::do_check;
-use crate::check_code::is_check;
 use crate::opening::open_case;
 use crate::opening::start_case;
+use crate::operation::Operation;
 use crate::operation::do_operation;
-use crate::operation::operation_of;
 use bytes::scan::find;
 use case_file::Line;
 use case_file::Reason;
@@ -32,12 +31,18 @@ use case_report::mistake::fail;
 use case_report::output::write_out;
 use std::num::wrapping_add_u64;
 
+// What an operation line asks for.
+enum Asked {
+    Check,
+    Operation(Operation),
+}
+
 // What a line is to the case.
 enum Kind {
     Empty,
     Mistake(Reason),
     Start(usize),
-    Operation,
+    Operation(Asked),
     Description,
 }
 
@@ -46,9 +51,9 @@ fn kind_of(said: Line) -> Kind {
         Line::Empty => Kind::Empty,
         Line::Mistake(r) => Kind::Mistake(r),
         Line::Case { name } => Kind::Start(name),
-        Line::Run(_) => Kind::Operation,
-        Line::Step => Kind::Operation,
-        Line::Check => Kind::Operation,
+        Line::Run(n) => Kind::Operation(Asked::Operation(Operation::Run(n))),
+        Line::Step => Kind::Operation(Asked::Operation(Operation::Step)),
+        Line::Check => Kind::Operation(Asked::Check),
         _ => Kind::Description,
     }
 }
@@ -57,11 +62,11 @@ fn kind_of(said: Line) -> Kind {
 // described, and no line of a case before the first.
 fn kind_in(phase: u64, kind: Kind) -> Kind {
     match kind {
-        Kind::Operation => {
+        Kind::Operation(asked) => {
             if phase == NO_CASE {
                 return Kind::Mistake(Reason::BeforeFirstCase);
             }
-            Kind::Operation
+            Kind::Operation(asked)
         }
         Kind::Description => {
             if phase == NO_CASE {
@@ -99,7 +104,7 @@ fn fail_here(kept: &mut Kept, r: Reason, out: &mut [u8]) -> usize {
 // An operation line: the first of a case opens it, which is reported only where it is refused. After a refused opening nothing is
 // done.
 fn operation_line(
-    said: Line,
+    asked: Asked,
     code: &Bytes,
     main: &mut Memory,
     local: &mut Memory,
@@ -118,18 +123,18 @@ fn operation_line(
     if kept[PHASE] != OPEN {
         return used;
     }
-    if is_check(said) {
-        return do_check(code, &*kept, &mut *out);
+    match asked {
+        Asked::Check => do_check(code, &*kept, &mut *out),
+        Asked::Operation(o) => do_operation(
+            o,
+            code,
+            &mut *main,
+            &mut *local,
+            &mut *cache,
+            &mut *kept,
+            &mut *out,
+        ),
     }
-    do_operation(
-        operation_of(said),
-        code,
-        &mut *main,
-        &mut *local,
-        &mut *cache,
-        &mut *kept,
-        &mut *out,
-    )
 }
 
 // A line of the case's description.
@@ -182,8 +187,8 @@ fn take_line(
             &mut *kept,
             &mut *out,
         ),
-        Kind::Operation => operation_line(
-            said,
+        Kind::Operation(asked) => operation_line(
+            asked,
             &*code,
             &mut *main,
             &mut *local,

@@ -1,4 +1,6 @@
 // How a case starts, and how its state is opened at its first operation.
+ghost use Prim.Native.Nat.{_≤_};
+ghost use lib.ListN.{length};
 use case_file::Reason;
 use case_kept::buffers::Bytes;
 use case_kept::buffers::Cache;
@@ -39,8 +41,6 @@ use state::State;
 use text::fields::next_field;
 use text::page::put;
 use text::page::put_byte;
-ghost use Prim.Native.Nat.{_≤_};
-ghost use lib.ListN.{length};
 
 fn put_name(out: &mut [u8], line: &[u8], name: usize) -> usize {
     let f = next_field(line, name);

@@ -1,10 +1,11 @@
 // Operations that go on from a state, on the parts of the buffers that a case has, and their reports.
+ghost use Prim.Native.Nat.{_≤_};
+ghost use lib.ListN.{length};
 use crate::kept_state::keep_state;
 use crate::kept_state::state_of;
 use crate::report::put_counts;
 use bundle_model::Answer;
 use bundle_model::Counts;
-use case_file::Line;
 use case_kept::buffers::Bytes;
 use case_kept::buffers::Cache;
 use case_kept::buffers::Memory;
@@ -22,21 +23,11 @@ use settings::Config;
 use state::State;
 use state::Stepped;
 use text::page::put;
-ghost use Prim.Native.Nat.{_≤_};
-ghost use lib.ListN.{length};
 
 // A step, or a run with a budget.
 pub(crate) enum Operation {
     Step,
     Run(u32),
-}
-
-// What an operation line that is no check asks for.
-pub(crate) fn operation_of(said: Line) -> Operation {
-    match said {
-        Line::Run(n) => Operation::Run(n),
-        _ => Operation::Step,
-    }
 }
 
 // How an operation ended.

@@ -1,7 +1,7 @@
--- Laws of tables: what a word's row is, and rows one byte at a time.
+-- Laws of tables: which row a text is, and rows one byte at a time.
 use Prim.Native.Nat.{ℕ, zero, suc, _+_, _-_, _≤_, _<_}
 use Prim.Native.Char.{code}
-use mathlib.Core.Path.{_≡_, refl, sym, ap, _∙_}
+use mathlib.Core.Path.{_≡_, refl, ap, _∙_}
 use mathlib.Core.Bool.{Bool, true, false, cond, _&&_, false≢true}
 use mathlib.Core.List.{List, [], _∷_, _++_}
 use mathlib.Core.Option.{Option, some, none}
@@ -9,13 +9,13 @@ use native.Mathlib.Numerals.{add-one}
 use native.Mathlib.Omega.{arith}
 use lib.ListN.{length, drop, getD, drop-of-length-le}
 use lib.Seq.{drop-cons}
-use lib.Dec.{eqb, leb}
-use borrow.Author.Tests.{ne-eqb, eq-eqb, le-leb, lt-leb, leb-true, leb-false, eqb-true, eqb-false}
+use lib.Dec.{eqb, leb, ltb}
+use borrow.Author.Tests.{ne-eqb, le-leb, lt-leb, ltb-true, ltb-false, leb-true, leb-false, eqb-true, eqb-false}
 use Rattle.text.specs.Field.{sameBytes}
 use Rattle.text.specs.Page.{Page, withByte, withText}
-use Rattle.text.specs.Table.{isRow, rowText, met, isMet, rowFrom}
+use Rattle.text.specs.Table.{isRow, rowText, met, isMet, rowFrom, leftAt, metTo}
 
--- Whether what is left is a word.
+-- Whether what is left is a row.
 abbrev leftIs : Option (List ℕ) → List ℕ → Bool
 leftIs none w = false
 leftIs (some s) w = sameBytes s w
@@ -36,7 +36,7 @@ met-is (some (c ∷ s)) b w = go (eqb c b)
     go true = refl
     go false = refl
 
--- The first row of a table is the word that is left, or a row later is.
+-- The first row of a table is the text that is left, or a later row is, or none.
 pub row-first : (w t s : List ℕ) (left : Option (List ℕ)) → isRow w ≡ true
     → rowFrom (w ++ (code "\n" ∷ t)) s left ≡ cond (leftIs left w) 0 (suc (rowFrom t s (some s)))
 unfolding rowFrom isRow
@@ -49,10 +49,6 @@ row-first (b ∷ w) t s left h = go (eqb b (code "\n")) h (λ (k : isRow w ≡ t
         ≡ cond (leftIs left (b ∷ w)) 0 (suc (rowFrom t s (some s)))
     go true h later = absurd (false≢true h)
     go false h later = later h ∙ ap (λ (x : Bool). cond x 0 (suc (rowFrom t s (some s)))) (met-is left b w)
-
--- What is left of a word, by how many bytes were met: one more than it has where a byte differed.
-abbrev pub leftAt : List ℕ → ℕ → Option (List ℕ)
-leftAt s j = cond (leb j (length s)) (some (drop j s)) none
 
 pub left-all : (s : List ℕ) → leftAt s 0 ≡ some s
 left-all s = rw (le-leb 0 (length s) (omega arith))
@@ -67,22 +63,23 @@ left-met s j = go (leb j (length s)) refl (eqb j (length s)) refl
     go false e true f = absurd (omega (arith, leb-false j (length s) e, eqb-true j (length s) f))
     go false e false f = refl
 
--- A byte that is the next of the word, one that is not, and one past its end.
-pub met-next : (s : List ℕ) (j b : ℕ) → j < length s → getD s j 0 ≡ b → leftAt s (j + 1) ≡ met (leftAt s j) b
+-- A byte that is the next of the text, one that is not, and one past its end.
+pub met-to : (s : List ℕ) (j b : ℕ) → leftAt s (metTo s j b) ≡ met (leftAt s j) b
 unfolding met
-met-next s j b h e = rw (le-leb (j + 1) (length s) (omega arith), le-leb j (length s) (omega arith), drop-cons s j 0 h, add-one j, eq-eqb (getD s j 0) b e)
-
-pub met-other : (s : List ℕ) (j b : ℕ) → j < length s → (getD s j 0 ≡ b → ⊥) → leftAt s (length s + 1) ≡ met (leftAt s j) b
-unfolding met
-met-other s j b h e = rw (lt-leb (length s + 1) (length s) (omega arith), le-leb j (length s) (omega arith), drop-cons s j 0 h, ne-eqb (getD s j 0) b e)
-
-pub met-past : (s : List ℕ) (j b : ℕ) → length s ≤ j → leftAt s (length s + 1) ≡ met (leftAt s j) b
-unfolding met
-met-past s j b h = rw (lt-leb (length s + 1) (length s) (omega arith), drop-of-length-le s {i = j} h) (go (leb j (length s)))
+met-to s j b = go (ltb j (length s)) refl
   where
-    go : (x : Bool) → none ≡ met (cond x (some []) none) b
-    go true = refl
-    go false = refl
+    next : (x : Bool) → eqb (getD s j 0) b ≡ x → j < length s → leftAt s (cond x (j + 1) (length s + 1)) ≡ met (leftAt s j) b
+    next true e h = rw (le-leb (j + 1) (length s) (omega arith), le-leb j (length s) (omega arith), drop-cons s j 0 h, add-one j, e)
+    next false e h = rw (lt-leb (length s + 1) (length s) (omega arith), le-leb j (length s) (omega arith), drop-cons s j 0 h, e)
+
+    past : (x : Bool) → none ≡ met (cond x (some []) none) b
+    past true = refl
+    past false = refl
+
+    go : (x : Bool) → ltb j (length s) ≡ x
+        → leftAt s (cond x (cond (eqb (getD s j 0) b) (j + 1) (length s + 1)) (length s + 1)) ≡ met (leftAt s j) b
+    go true e = next (eqb (getD s j 0) b) refl (ltb-true j (length s) e)
+    go false e = rw (lt-leb (length s + 1) (length s) (omega arith), drop-of-length-le s {i = j} (ltb-false j (length s) e)) (past (leb j (length s)))
 
 -- The scan, one byte at a time.
 pub scan-over : (t s : List ℕ) (left : Option (List ℕ)) (i : ℕ) → length t ≤ i → rowFrom (drop i t) s left ≡ 0

@@ -1,12 +1,11 @@
-// Tables of words in a text: rows that each end with a line end.
+// Tables of texts: rows that each end with a line end.
 ghost use mathlib.Core.Path.{_≡_};
 ghost use Rattle.text.specs.Page.{page, withText};
-ghost use Rattle.text.specs.Table.{rowText, met, rowOf};
-ghost use Rattle.text.specs.TableLaws.{leftAt};
+ghost use Rattle.text.specs.Table.{rowText, rowOf, metTo};
 use crate::page::put_byte;
 
-// The row of a number.
-pub fn put_row(out: &mut [u8], used: usize, table: &[u8], row: u32) -> usize
+// The row of a number; nothing where there is none.
+pub fn put_row(out: &mut [u8], used: usize, table: &[u8], row: usize) -> usize
     ensures { λ n. ⌜ page n (now (out .exit)) ≡ withText (page used (now (out .entry))) (rowText (now (table .entry)) row) ⌝ }
 {
     let mut at = used;
@@ -27,9 +26,9 @@ pub fn put_row(out: &mut [u8], used: usize, table: &[u8], row: u32) -> usize
     at
 }
 
-// How many bytes of a word are met with one byte more of a row: one more than it has where they differ.
+// How many bytes of a text are met with one byte more of a row: one more than it has where they differ.
 fn matched(s: &[u8], j: usize, b: u8) -> usize
-    ensures { λ r. ⌜ leftAt (now (s .entry)) r ≡ met (leftAt (now (s .entry)) j) b ⌝ }
+    ensures { λ r. ⌜ r ≡ metTo (now (s .entry)) j b ⌝ }
 {
     if s.len() <= j {
         return s.len() + 1;
@@ -40,7 +39,7 @@ fn matched(s: &[u8], j: usize, b: u8) -> usize
     j + 1
 }
 
-// The number of the first row that is a word; the number of rows where none is.
+// The number of the first row that is a text; the number of rows where none is.
 pub fn row_of(table: &[u8], s: &[u8]) -> usize
     ensures { λ r. ⌜ r ≡ rowOf (now (table .entry)) (now (s .entry)) ⌝ }
 {

@@ -3,8 +3,8 @@ use mathlib.Core.Path.{refl, ap, _∙_}
 use borrow.Author.Needs.{needs}
 use Rattle.text.specs.Table.{table, isRow}
 use Rattle.case_words.specs.declared.Keyword.the-variants as Keyword
-use Rattle.case_words.specs.Names.{keywords}
-use Rattle.case_words.specs.RowLaws.{words, areRows, meaningAt, look-up-row}
+use Rattle.case_words.specs.Names.{words, areRows, meaningAt, keywords}
+use Rattle.case_words.specs.RowLaws.{look-up-row}
 use Rattle.case_words.proofs.first_word.Statement.{statement}
 use Rattle.case_words.proofs.first_word.Tie as tie
 

@@ -1,6 +1,5 @@
 use borrow.Author.Tests.{ne-eqb}
-use Rattle.case_words.specs.Names.{keywords}
-use Rattle.case_words.specs.RowLaws.{meaningFrom}
+use Rattle.case_words.specs.Names.{meaningFrom, keywords}
 use Rattle.case_words.proofs.keyword_at.Statement.{statement}
 use Rattle.case_words.proofs.keyword_at.Tie as tie
 

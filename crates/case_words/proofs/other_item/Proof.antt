@@ -3,8 +3,8 @@ use mathlib.Core.Path.{refl, ap, _∙_}
 use borrow.Author.Needs.{needs}
 use Rattle.text.specs.Table.{table, isRow}
 use Rattle.case_words.specs.declared.Item.the-variants as Item
-use Rattle.case_words.specs.Names.{otherItems}
-use Rattle.case_words.specs.RowLaws.{words, areRows, meaningAt, look-up-row}
+use Rattle.case_words.specs.Names.{words, areRows, meaningAt, otherItems}
+use Rattle.case_words.specs.RowLaws.{look-up-row}
 use Rattle.case_words.proofs.other_item.Statement.{statement}
 use Rattle.case_words.proofs.other_item.Tie as tie
 

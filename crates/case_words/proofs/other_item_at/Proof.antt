@@ -1,6 +1,5 @@
 use borrow.Author.Tests.{ne-eqb}
-use Rattle.case_words.specs.Names.{otherItems}
-use Rattle.case_words.specs.RowLaws.{meaningFrom}
+use Rattle.case_words.specs.Names.{meaningFrom, otherItems}
 use Rattle.case_words.proofs.other_item_at.Statement.{statement}
 use Rattle.case_words.proofs.other_item_at.Tie as tie
 

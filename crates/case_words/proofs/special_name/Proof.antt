@@ -3,8 +3,8 @@ use mathlib.Core.Path.{refl, ap, _∙_}
 use borrow.Author.Needs.{needs}
 use Rattle.text.specs.Table.{table, isRow}
 use Rattle.case_words.specs.declared.SpecialName.the-variants as SpecialName
-use Rattle.case_words.specs.Names.{specialNames}
-use Rattle.case_words.specs.RowLaws.{words, areRows, meaningAt, look-up-row}
+use Rattle.case_words.specs.Names.{words, areRows, meaningAt, specialNames}
+use Rattle.case_words.specs.RowLaws.{look-up-row}
 use Rattle.case_words.proofs.special_name.Statement.{statement}
 use Rattle.case_words.proofs.special_name.Tie as tie
 

@@ -1,6 +1,5 @@
 use borrow.Author.Tests.{ne-eqb}
-use Rattle.case_words.specs.Names.{specialNames}
-use Rattle.case_words.specs.RowLaws.{meaningFrom}
+use Rattle.case_words.specs.Names.{meaningFrom, specialNames}
 use Rattle.case_words.proofs.special_name_at.Statement.{statement}
 use Rattle.case_words.proofs.special_name_at.Tie as tie
 

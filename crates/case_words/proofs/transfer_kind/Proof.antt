@@ -3,8 +3,8 @@ use mathlib.Core.Path.{refl, ap, _∙_}
 use borrow.Author.Needs.{needs}
 use Rattle.text.specs.Table.{table, isRow}
 use Rattle.case_words.specs.declared.TransferKind.the-variants as TransferKind
-use Rattle.case_words.specs.Names.{transferKinds}
-use Rattle.case_words.specs.RowLaws.{words, areRows, meaningAt, look-up-row}
+use Rattle.case_words.specs.Names.{words, areRows, meaningAt, transferKinds}
+use Rattle.case_words.specs.RowLaws.{look-up-row}
 use Rattle.case_words.proofs.transfer_kind.Statement.{statement}
 use Rattle.case_words.proofs.transfer_kind.Tie as tie
 

@@ -1,6 +1,5 @@
 use borrow.Author.Tests.{ne-eqb}
-use Rattle.case_words.specs.Names.{transferKinds}
-use Rattle.case_words.specs.RowLaws.{meaningFrom}
+use Rattle.case_words.specs.Names.{meaningFrom, transferKinds}
 use Rattle.case_words.proofs.transfer_kind_at.Statement.{statement}
 use Rattle.case_words.proofs.transfer_kind_at.Tie as tie
 

@@ -5,7 +5,8 @@ use mathlib.Core.List.{List}
 use Rattle.text.specs.Page.{page, withText}
 use Rattle.text.specs.Table.{table, rowText}
 use Rattle.case_report.specs.Mistake.{inWords, reasonText}
-use Rattle.case_report.specs.Reasons.{texts, reasons, reason-row}
+use Rattle.case_report.specs.Reasons.{texts, reasons}
+use Rattle.case_report.specs.ReasonLaws.{reason-row}
 use Rattle.case_report.proofs.reasons.put_reason.Statement.{statement}
 use Rattle.case_report.proofs.reasons.put_reason.Tie as tie
 

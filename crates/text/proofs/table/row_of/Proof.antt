@@ -1,15 +1,14 @@
 use native.Mathlib.Omega.{arith}
 use native.Mathlib.Nat.{zero-add, add-zero}
-use Prim.Native.Nat.{ℕ, suc, _+_, _-_, _≤_}
-use mathlib.Core.Path.{_≡_, refl, sym, ap, _∙_}
-use mathlib.Core.Bool.{true, false}
+use Prim.Native.Nat.{ℕ, _+_, _-_, _≤_}
+use mathlib.Core.Path.{_≡_, sym, ap, _∙_}
 use mathlib.Core.List.{List}
 use mathlib.Core.Logic.{⊎-elim}
 use mathlib.Core.Option.{Option, some}
 use lib.ListN.{length, drop, getD}
 use borrow.Author.Tests.{eq-eqb, ne-eqb}
-use Rattle.text.specs.Table.{rowFrom, met}
-use Rattle.text.specs.TableLaws.{leftAt, left-all, left-met, scan-over, scan-found, scan-next, scan-byte}
+use Rattle.text.specs.Table.{rowFrom, leftAt}
+use Rattle.text.specs.TableLaws.{met-to, left-all, left-met, scan-over, scan-found, scan-next, scan-byte}
 use Rattle.text.proofs.table.row_of.Statement.{statement}
 use Rattle.text.proofs.table.row_of.Tie as tie
 
@@ -57,7 +56,7 @@ loop-again c = let l = c .before .before .before .loop in
     rw (w .2, w .3, left-all s) (omega (arith, l .inv .0), omega (arith, e, l .inv .1)))
     (λ w.
     let e = scan-byte t s left (l .i) h (w .0 .left) in
-    rw (w .2, w .3, w .1 .ensures) (omega (arith, l .inv .0), ap (λ (n : ℕ). l .row + n) (sym e) ∙ l .inv .1))
+    rw (w .2, w .3, w .1 .ensures, met-to s (l .j) (getD t (l .i) 0)) (omega (arith, l .inv .0), ap (λ (n : ℕ). l .row + n) (sym e) ∙ l .inv .1))
     (c .if1 .came)
 
 returns-2 : tie.Need-returns-2 Inv-loop μ-loop

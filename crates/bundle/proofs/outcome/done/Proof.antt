@@ -1,7 +1,7 @@
 use mathlib.Core.Path.{refl}
 use borrow.Author.Needs.{needs}
-use Rattle.execute.proofs.outcome.done.Statement.{statement}
-use Rattle.execute.proofs.outcome.done.Tie as tie
+use Rattle.bundle.proofs.outcome.done.Statement.{statement}
+use Rattle.bundle.proofs.outcome.done.Tie as tie
 
 wide-requires : tie.Need-wide-requires
 wide-requires c κs = tt

@@ -3,8 +3,8 @@ use Prim.Native.Nat.{_-_}
 use borrow.Rule.Slice.PartMut.{post-is, put-same}
 use Rattle.stack_cache.specs.Stack.{below, above, spilled, filled}
 use borrow.Author.Needs.{needs}
-use Rattle.execute.proofs.stack_moves.move_words.Statement.{statement}
-use Rattle.execute.proofs.stack_moves.move_words.Tie as tie
+use Rattle.bundle.proofs.stack_moves.move_words.Statement.{statement}
+use Rattle.bundle.proofs.stack_moves.move_words.Tie as tie
 
 sub-spill : tie.Need-sub-spill
 sub-spill c = search needs

@@ -4,8 +4,8 @@ use Rattle.core_state.specs.Core.{joined, Canonical}
 use Rattle.bundle_model.specs.ExecuteLaws.{executed-refused, executed-done}
 use Rattle.bundle_writes.specs.Words.{written-canonical}
 use borrow.Author.Needs.{needs}
-use Rattle.execute.proofs.execute.execute.Statement.{statement}
-use Rattle.execute.proofs.execute.execute.Tie as tie
+use Rattle.bundle.proofs.execute.execute.Statement.{statement}
+use Rattle.bundle.proofs.execute.execute.Tie as tie
 
 carry-out-requires : tie.Need-carry-out-requires
 carry-out-requires c κs = search needs

@@ -1,4 +1,4 @@
-// A decoded bundle done or refused.
+// What is left of a bundle once its effects are known: slot one is carried out, then the state is written, then it is counted.
 ghost use mathlib.Core.Path.{_≡_};
 ghost use mathlib.Core.Bool.{true};
 ghost use lib.ListN.{length};
@@ -21,7 +21,7 @@ use effects::Effect;
 use settings::Settings;
 
 // A decoded bundle, whose slots have these effects, done or refused.
-pub fn execute(
+pub(crate) fn execute(
     core: Core,
     registers: &mut [u32; 32],
     predicates: &mut [bool; 8],

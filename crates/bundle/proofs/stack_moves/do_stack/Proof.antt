@@ -9,8 +9,8 @@ use Rattle.core_state.specs.Core.{joined}
 use Rattle.bundle_model.specs.Execute.{carriedOut}
 use Rattle.bundle_model.specs.ExecuteLaws.{stack-tests, one-way, stack-carried}
 use borrow.Author.Needs.{needs}
-use Rattle.execute.proofs.stack_moves.do_stack.Statement.{statement}
-use Rattle.execute.proofs.stack_moves.do_stack.Tie as tie
+use Rattle.bundle.proofs.stack_moves.do_stack.Statement.{statement}
+use Rattle.bundle.proofs.stack_moves.do_stack.Tie as tie
 
 returns : tie.Need-returns
 unfolding carriedOut

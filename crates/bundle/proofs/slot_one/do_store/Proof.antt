@@ -1,6 +1,6 @@
 use borrow.Author.Needs.{needs}
-use Rattle.execute.proofs.slot_one.do_store.Statement.{statement}
-use Rattle.execute.proofs.slot_one.do_store.Tie as tie
+use Rattle.bundle.proofs.slot_one.do_store.Statement.{statement}
+use Rattle.bundle.proofs.slot_one.do_store.Tie as tie
 
 judge-store-requires : tie.Need-judge-store-requires
 judge-store-requires c κs = tt

@@ -1,6 +1,6 @@
 use borrow.Author.Needs.{needs}
-use Rattle.execute.proofs.slot_one.judge_transfer.Statement.{statement}
-use Rattle.execute.proofs.slot_one.judge_transfer.Tie as tie
+use Rattle.bundle.proofs.slot_one.judge_transfer.Statement.{statement}
+use Rattle.bundle.proofs.slot_one.judge_transfer.Tie as tie
 
 none-waits-requires : tie.Need-none-waits-requires
 none-waits-requires c κs = tt

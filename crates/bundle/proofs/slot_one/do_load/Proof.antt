@@ -1,6 +1,6 @@
 use borrow.Author.Needs.{needs}
-use Rattle.execute.proofs.slot_one.do_load.Statement.{statement}
-use Rattle.execute.proofs.slot_one.do_load.Tie as tie
+use Rattle.bundle.proofs.slot_one.do_load.Statement.{statement}
+use Rattle.bundle.proofs.slot_one.do_load.Tie as tie
 
 judge-load-requires : tie.Need-judge-load-requires
 judge-load-requires c κs = tt

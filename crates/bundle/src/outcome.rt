@@ -1,4 +1,4 @@
-// What a bundle gives.
+// What is given of a bundle that is refused or done, where the code has ended, and how counts are summed.
 ghost use mathlib.Core.Path.{_≡_};
 ghost use mathlib.Core.Bool.{Bool};
 ghost use mathlib.Core.List.{List};
@@ -11,7 +11,7 @@ use bundle_model::Answer;
 use bundle_model::Counts;
 use core_state::Core;
 
-pub fn no_counts() -> Counts
+pub(crate) fn no_counts() -> Counts
     ensures { λ r. ⌜ r ≡ noCounts ⌝ }
 {
     Counts {
@@ -23,7 +23,7 @@ pub fn no_counts() -> Counts
 }
 
 // A refused bundle changes nothing and counts nothing.
-pub fn refused(core: Core, n: u32) -> Advanced
+pub(crate) fn refused(core: Core, n: u32) -> Advanced
     ensures { λ r. ⌜ ((rs : List ℕ) (ps : List Bool) → steppedAs rs ps r ≡ refusedWith (joined rs ps core) n) × (r .core ≡ core) ⌝ }
 {
     Advanced {
@@ -34,7 +34,7 @@ pub fn refused(core: Core, n: u32) -> Advanced
 }
 
 // Where the code has ended all stays as it is, and nothing is counted.
-pub fn ended(core: Core) -> Advanced
+pub(crate) fn ended(core: Core) -> Advanced
     ensures { λ r. ⌜ ((rs : List ℕ) (ps : List Bool) → steppedAs rs ps r ≡ endedWith (joined rs ps core)) × (r .core ≡ core) ⌝ }
 {
     Advanced {
@@ -60,7 +60,7 @@ pub(crate) fn done(core: Core, cycles: u64, spilled: u32, filled: u32) -> Advanc
 }
 
 // The counts of bundles done one after the other.
-pub fn sum(c: Counts, d: Counts) -> Counts
+pub(crate) fn sum(c: Counts, d: Counts) -> Counts
     requires { ⌜ Fit (plus c d) ⌝ }
     ensures { λ r. ⌜ r ≡ plus c d ⌝ }
 {

@@ -16,8 +16,8 @@ use Rattle.bundle_model.specs.Bundle.{buffersAfter}
 use Rattle.bundle_model.specs.Execute.{plainly, carriedAs, carriedOut}
 use Rattle.bundle_model.specs.ExecuteLaws.{transfer-carried}
 use borrow.Author.Needs.{needs}
-use Rattle.execute.proofs.slot_one.carry_out.Statement.{statement}
-use Rattle.execute.proofs.slot_one.carry_out.Tie as tie
+use Rattle.bundle.proofs.slot_one.carry_out.Statement.{statement}
+use Rattle.bundle.proofs.slot_one.carry_out.Tie as tie
 
 -- The effects that are not told apart by name.
 abbrev others : List ℕ
