@@ -1,6 +1,6 @@
 -- "Doing a bundle": the writes in their order, the counts, and one bundle as a whole.
 use Prim.Native.Nat.{ℕ, _-_, _^_}
-use mathlib.Core.Bool.{Bool, not, cond}
+use mathlib.Core.Bool.{not, cond}
 use mathlib.Core.List.{List, _++_}
 use lib.ListN.{length, take, drop}
 use Rattle.answers.specs.declared.Verdict.{Verdict}

@@ -1,14 +1,14 @@
 -- The theorem at work, in a case without a stopping event: a program with a branch, a store under a private guard into private memory, and
 -- a stack frame that spills. One run stores, the other does not; their memories and r1 differ; and they keep even pace to the end.
 use Prim.Native.Nat.{ℕ, zero, suc}
-use mathlib.Core.Bool.{Bool, true, false, false≢true}
+use mathlib.Core.Bool.{true, false, false≢true}
 use mathlib.Core.List.{List, [], _∷_}
 use mathlib.Core.Logic.{_⊎_, inl, inr}
 use mathlib.Core.Option.{some}
 use mathlib.Core.Path.{_≡_, refl, sym, ap, subst, _∙_}
 use native.Mathlib.Omega.{arith}
 use lib.ListN.{getD, getElem?, replicate}
-use Rattle.answers.specs.Answer.{Returned, done, ended, refused}
+use Rattle.answers.specs.Answer.{done, ended}
 use Rattle.settings.specs.Setup.{Buffers, buffers, isStackByte}
 use Rattle.core_state.specs.State.{State}
 use Rattle.core_state.specs.declared.WaitingLoad.the-variants as load

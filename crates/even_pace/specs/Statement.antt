@@ -1,7 +1,6 @@
 -- Demand 3 as a statement, for every code, settings, marking and budget, and every two runs.
 use Prim.Native.Nat.{ℕ}
 use mathlib.Core.Bool.{true}
-use mathlib.Core.List.{List}
 use mathlib.Core.Path.{_≡_}
 use Rattle.core_state.specs.State.{State, Shaped, wellFormed}
 use Rattle.run_model.specs.Run.{run, tries}

@@ -1,13 +1,12 @@
 -- Even pace of what the functions `check` and `run` return, from their contracts; and states of which even pace speaks.
 use Prim.Native.Nat.{ℕ}
 use mathlib.Core.Bool.{Bool, true, false, not, cond, _||_}
-use mathlib.Core.List.{List}
 use mathlib.Core.Option.{some}
 use mathlib.Core.Path.{_≡_, refl, sym, ap, subst, _∙_}
 use lib.Dec.{leb}
 use lib.ListN.{length, getElem?, replicate}
 use Rattle.word.specs.Word.{isMultipleOf4}
-use Rattle.answers.specs.Answer.{Returned, accepted as accepts, refused}
+use Rattle.answers.specs.Answer.{accepted as accepts, refused}
 use Rattle.settings.specs.Settings.{admits}
 use Rattle.settings.specs.Setup.{Setup, Buffers, lent}
 use Rattle.core_state.specs.State.{State, Shaped, predicatesOf, wellFormed, fresh}
@@ -17,7 +16,7 @@ use Rattle.run_model.specs.Run.{run, Tried, tries}
 use Rattle.run_model.specs.RunLaws.{run-shaped, run-well-formed}
 use Rattle.state.specs.declared.State as struct
 use Rattle.state.specs.Whole.{stateOf}
-use Rattle.state.specs.Open.{Open, openOf, opening}
+use Rattle.state.specs.Open.{openOf, opening}
 use Rattle.run.specs.declared.Ran.{Ran}
 use Rattle.run.specs.Ran.{whole}
 use Rattle.marking.specs.declared.Marking.{Marking}

@@ -21,7 +21,7 @@ use Rattle.step_laws.specs.StackKept.{bundle-lengths, lent-same}
 use Rattle.step_laws.specs.CountLaws.{bundle-few}
 use Rattle.step_laws.specs.WellLaws.{bundle-well-formed}
 use Rattle.settings.specs.SettingsLaws.{area-ordered}
-use Rattle.run_model.specs.Run.{ifDone, counted, stopped, run}
+use Rattle.run_model.specs.Run.{ifDone, counted, run}
 use Rattle.run_model.specs.RunLaws.{counted-counted}
 use Rattle.run_model.specs.Loop.{goesOn, advanced, ending}
 

@@ -1,7 +1,7 @@
 -- The counts of a bundle: 4 cycles, and 512 words moved each way, at most.
 use Prim.Native.Nat.{ℕ, zero, suc, _-_, _*_, _/_, _≤_, min}
 use mathlib.Core.Bool.{Bool, true, false, cond}
-use mathlib.Core.List.{List, [], _∷_}
+use mathlib.Core.List.{[], _∷_}
 use mathlib.Core.Path.{_≡_, refl}
 use native.Mathlib.Omega.{arith}
 use native.Mathlib.Nat.{le-trans}

@@ -1,7 +1,6 @@
 -- A bundle and a step by their cases: without Done nothing changes.
 use Prim.Native.Nat.{ℕ}
 use mathlib.Core.Bool.{Bool, true, false, not, cond}
-use mathlib.Core.List.{List}
 use mathlib.Core.Path.{_≡_, refl, ap, _∙_}
 use lib.ListN.{length}
 use Rattle.settings.specs.declared.Settings.{Settings}

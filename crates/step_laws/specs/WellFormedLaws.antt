@@ -1,40 +1,24 @@
 -- The parts of a well-formed state, and what a bundle writes onto one.
-use Prim.Native.Nat.{ℕ, suc, _+_, _<_}
-use mathlib.Core.Bool.{Bool, true, false, cond, _&&_}
-use mathlib.Core.List.{List}
+use Prim.Native.Nat.{ℕ, suc}
+use mathlib.Core.Bool.{true, false, _&&_}
 use mathlib.Core.Path.{_≡_, refl, ap, _∙_}
 use native.Mathlib.Omega.{arith}
-use borrow.Author.Tests.{le-leb, eq-eqb, eqb-true}
+use borrow.Author.Tests.{eq-eqb, eqb-true}
 use lib.Dec.{eqb}
 use lib.ListN.{getD}
 use lib.Seq.{getD-set-other}
-use Rattle.big_endian.specs.Bytes.{wordAt}
-use Rattle.big_endian.specs.BytesLaws.{number-bound}
-use Rattle.isa.specs.declared.Operation.{Operation}
-use Rattle.isa.specs.declared.Operation.the-variants as operation
-use Rattle.isa.specs.declared.Instruction.{Instruction}
-use Rattle.isa.specs.declared.StackOperation.the-variants.{Sres, Sens, Sfree, Sspill}
-use Rattle.isa.specs.declared.Bundle.{Bundle}
-use Rattle.isa.specs.declared.Bundle.the-variants.{Undecodable, One, Two, Long}
-use Rattle.decoder_laws.specs.Ranges.{OperationInRange, InstructionInRange, InRange}
-use Rattle.decoder_laws.specs.RangeLaws.{decode-in-range}
 use Rattle.word.specs.BoolLaws.{and-left, and-right}
 use Rattle.settings.specs.declared.Settings.{Settings}
-use Rattle.core_state.specs.State.{State, startOf, landing, landed, loadOk, waitOk, wellFormed}
+use Rattle.core_state.specs.State.{State, landing, landed, loadOk, waitOk, wellFormed}
 use Rattle.core_state.specs.declared.WaitingLoad.{WaitingLoad}
 use Rattle.core_state.specs.declared.WaitingLoad.the-variants as load
 use Rattle.alu_effects.specs.declared.AluEffect.{AluEffect}
-use Rattle.alu_effects.specs.declared.AluEffect.the-variants as alu
 use Rattle.effects.specs.declared.Effect.{Effect}
 use Rattle.effects.specs.declared.Effect.the-variants as effect
 use Rattle.memory.specs.Access.{loadedValue}
-use Rattle.effects.specs.Effect.{Start, slotOne, slotOneEffect, effectOf, stackEffect}
-use Rattle.alu_effects.specs.AluEffects.{holds}
-use Rattle.bundle_model.specs.Bundle.{writeOne, written, bundle, step}
-use Rattle.step_laws.specs.StepCases.{effectAt, stateAfter, bundle-cases, step-cases}
+use Rattle.bundle_model.specs.Bundle.{writeOne, written}
 use Rattle.step_laws.specs.KeptLaws.{withSpecial-cases, writeAlu-cases, onward-cases, Lasting, written-lasts}
-use Rattle.settings.specs.Setup.{Buffers, lent, Setup}
-use Rattle.fetch.specs.Fetch.{bundleAt}
+use Rattle.settings.specs.Setup.{Buffers}
 
 -- The parts of a well-formed state.
 pub record WellFormed (s : State) : Type 0 where

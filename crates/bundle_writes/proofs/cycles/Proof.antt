@@ -1,13 +1,12 @@
 use Prim.Native.Nat.{ℕ}
 use mathlib.Core.List.{List, [], _∷_}
-use mathlib.Core.Path.{_≡_, refl, sym, ap, _∙_}
+use mathlib.Core.Path.{_≡_, refl}
 use denote.Enum.Declared.{tagOf}
 use types.Run.{OneOf, miss}
 use Rattle.effects.specs.declared.Effect.{Effect}
 use Rattle.effects.specs.declared.Effect.the-variants.{Alu, Special, Product, Load, Store, Stack, Transfer, Exception}
 use Rattle.effects.proofs.Effect.{the-type}
 use Rattle.bundle_model.specs.Bundle.{cyclesOf}
-use borrow.Author.Needs.{needs}
 use Rattle.bundle_writes.proofs.cycles.Statement.{statement}
 use Rattle.bundle_writes.proofs.cycles.Tie as tie
 

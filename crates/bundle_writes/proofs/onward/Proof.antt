@@ -1,7 +1,7 @@
 use Rattle.core_state.specs.Core.{joined, waitingTransfer, nearerWords}
 use Prim.Native.Nat.{ℕ}
 use mathlib.Core.List.{List, [], _∷_}
-use mathlib.Core.Path.{_≡_, refl, sym, ap, _∙_}
+use mathlib.Core.Path.{_≡_, refl, _∙_}
 use denote.Enum.Declared.{tagOf}
 use types.Run.{OneOf, miss}
 use Rattle.effects.specs.declared.Effect.{Effect}
@@ -13,7 +13,6 @@ use Rattle.core_state.specs.declared.TransferWords.{TransferWords}
 use Rattle.bundle_writes.specs.Words.{onwardWords}
 use Rattle.core_state.specs.Writes.{nearer}
 use Rattle.bundle_model.specs.Bundle.{onward}
-use borrow.Author.Needs.{needs}
 use Rattle.bundle_writes.proofs.onward.Statement.{statement}
 use Rattle.bundle_writes.proofs.onward.Tie as tie
 

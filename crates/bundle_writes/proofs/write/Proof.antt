@@ -9,7 +9,6 @@ use Rattle.core_state.specs.Core.{waitingTransfer}
 use Rattle.bundle_model.specs.Bundle.{onward}
 use Rattle.bundle_model.specs.Execute.{writeDone}
 use Rattle.bundle_writes.specs.Words.{loadAfter}
-use borrow.Author.Needs.{needs}
 use Rattle.bundle_writes.proofs.write.Statement.{statement}
 use Rattle.bundle_writes.proofs.write.Tie as tie
 

@@ -1,6 +1,6 @@
 use Prim.Native.Nat.{ℕ}
 use mathlib.Core.List.{List, [], _∷_}
-use mathlib.Core.Path.{_≡_, refl, sym, ap, _∙_}
+use mathlib.Core.Path.{_≡_, refl, _∙_}
 use denote.Enum.Declared.{tagOf}
 use types.Run.{OneOf, miss}
 use Rattle.effects.specs.declared.Effect.{Effect}
@@ -11,7 +11,6 @@ use Rattle.core_state.specs.declared.LoadWords.{LoadWords}
 use Rattle.core_state.specs.WordLaws.{load-back}
 use Rattle.bundle_writes.specs.Words.{loadAfter}
 use Rattle.bundle_model.specs.Execute.{writeDone}
-use borrow.Author.Needs.{needs}
 use Rattle.bundle_writes.proofs.write_one.Statement.{statement}
 use Rattle.bundle_writes.proofs.write_one.Tie as tie
 

@@ -1,5 +1,4 @@
 use mathlib.Core.Bool.{true≢false}
-use Prim.Native.Nat.{_<_}
 use mathlib.Core.Path.{refl, sym, _∙_}
 use native.Mathlib.Omega.{arith}
 use borrow.Author.Needs.{needs}

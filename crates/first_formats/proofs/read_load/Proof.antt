@@ -1,5 +1,5 @@
 use native.Mathlib.Nat.{div-one}
-use Rattle.isa.specs.Format.{reading, row}
+use Rattle.isa.specs.Format.{reading}
 use Rattle.isa.specs.TableLaws.{upper-opcode, flow-opcode, row-then}
 use borrow.Author.Needs.{needs}
 use Rattle.first_formats.proofs.read_load.Statement.{statement}

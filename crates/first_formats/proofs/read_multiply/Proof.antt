@@ -1,6 +1,6 @@
 use borrow.Author.Tests.{ne-eqb}
 use native.Mathlib.Nat.{div-one}
-use Rattle.isa.specs.Format.{reading, row}
+use Rattle.isa.specs.Format.{reading}
 use Rattle.isa.specs.TableLaws.{upper-opcode, flow-opcode, row-then}
 use Rattle.first_formats.proofs.read_multiply.Statement.{statement}
 use Rattle.first_formats.proofs.read_multiply.Tie as tie

@@ -4,7 +4,6 @@ use Rattle.settings.specs.Settings.{admits}
 use Rattle.settings.specs.Setup.{setup, settings}
 use Rattle.settings.specs.SettingsLaws.{code-small}
 use Rattle.single_path.specs.Check.{checked}
-use borrow.Author.Needs.{needs}
 use Rattle.single_path.proofs.check.Statement.{statement}
 use Rattle.single_path.proofs.check.Tie as tie
 

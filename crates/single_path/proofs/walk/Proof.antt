@@ -1,5 +1,4 @@
 use Prim.Native.Nat.{_≤_, _/_, _+_}
-use mathlib.Core.Bool.{true, false}
 use mathlib.Core.Path.{_≡_, refl, sym, _∙_}
 use native.Mathlib.Omega.{arith}
 use borrow.Author.Tests.{ne-eqb}

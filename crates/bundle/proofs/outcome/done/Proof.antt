@@ -1,5 +1,4 @@
 use mathlib.Core.Path.{refl}
-use borrow.Author.Needs.{needs}
 use Rattle.bundle.proofs.outcome.done.Statement.{statement}
 use Rattle.bundle.proofs.outcome.done.Tie as tie
 

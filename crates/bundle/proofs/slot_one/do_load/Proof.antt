@@ -1,4 +1,3 @@
-use borrow.Author.Needs.{needs}
 use Rattle.bundle.proofs.slot_one.do_load.Statement.{statement}
 use Rattle.bundle.proofs.slot_one.do_load.Tie as tie
 

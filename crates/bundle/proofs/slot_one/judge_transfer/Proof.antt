@@ -1,4 +1,3 @@
-use borrow.Author.Needs.{needs}
 use Rattle.bundle.proofs.slot_one.judge_transfer.Statement.{statement}
 use Rattle.bundle.proofs.slot_one.judge_transfer.Tie as tie
 

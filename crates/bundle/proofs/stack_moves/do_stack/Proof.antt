@@ -1,6 +1,6 @@
 use Prim.Native.Nat.{ℕ}
-use mathlib.Core.Bool.{true, false, false≢true}
-use mathlib.Core.Path.{_≡_, sym, ap, _∙_}
+use mathlib.Core.Bool.{false≢true}
+use mathlib.Core.Path.{sym, ap, _∙_}
 use Rattle.settings.specs.SettingsLaws.{size-ok, size-refused, size-words, area-ordered, area-inside}
 use Rattle.settings.specs.Setup.{setupOf}
 use Rattle.stack_cache.specs.Stack.{planned}

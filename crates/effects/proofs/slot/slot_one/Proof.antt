@@ -2,7 +2,6 @@ use mathlib.Core.Logic.{⊎-elim}
 use mathlib.Core.Path.{_≡_, subst}
 use Rattle.isa.specs.declared.Instruction.{Instruction}
 use Rattle.effects.specs.Effect.{start, slotOneEffect}
-use borrow.Author.Needs.{needs}
 use Rattle.effects.proofs.slot.slot_one.Statement.{statement}
 use Rattle.effects.proofs.slot.slot_one.Tie as tie
 

@@ -1,5 +1,4 @@
 use Rattle.effects.specs.Effect.{slotOneEffect}
-use borrow.Author.Needs.{needs}
 use Rattle.effects.proofs.slot.slot_one_effect.Statement.{statement}
 use Rattle.effects.proofs.slot.slot_one_effect.Tie as tie
 
