@@ -24,7 +24,7 @@ use core_state::WaitingLoad;
 use core_state::WaitingTransfer;
 use effects::Transfer;
 
-// The state that is kept, part by part.
+// All 32 registers.
 pub fn registers_of(kept: &Kept) -> [u32; 32]
     ensures { λ r. ⌜ r ≡ registersOf (now (kept .entry)) ⌝ }
 {
