@@ -105,6 +105,8 @@ lineAfter line at Keyword.Special =
 lineAfter line at Keyword.Transfer = field line at (λ f. transfer line (f .end) (transferKindOf (bytesOf line f)))
 lineAfter line at Keyword.Step = end line at Line.Step
 lineAfter line at Keyword.Check = end line at Line.Check
+lineAfter line at Keyword.Write = list line at (Line.Write at)
+lineAfter line at Keyword.Listing = end line at Line.Listing
 lineAfter line at Keyword.Unknown = Line.Mistake Reason.UnknownWord
 
 -- What a line says: nothing, or by its first field.

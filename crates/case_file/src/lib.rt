@@ -25,7 +25,8 @@ pub enum PrivateEntry {
     End,
 }
 
-// A line by its keyword. Case holds the position of the name, Code and Private that of their lists.
+// A line by its keyword. Case holds the position of the name, Code and Private that of their lists,
+// Write that of the text of a bundle.
 pub enum Line {
     Empty,
     Mistake(Reason),
@@ -51,6 +52,8 @@ pub enum Line {
     Run(u32),
     Step,
     Check,
+    Write { text: usize },
+    Listing,
 }
 
 // Why a line is a mistake.
@@ -75,4 +78,9 @@ pub enum Reason {
     TooMuchMemory,
     PlaceOutside,
     UnseenByte,
+    NoSuchInstruction,
+    NotARegister,
+    NotAPredicate,
+    NotASpecial,
+    NotAnOffset,
 }

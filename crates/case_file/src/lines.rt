@@ -44,7 +44,7 @@ fn case_line(line: &[u8], at: usize) -> Line
     Line::Mistake(Reason::NotAName)
 }
 
-// A line whose list has one field at least.
+// A line whose list, or text, has one field at least.
 fn list_line(line: &[u8], at: usize, said: Line) -> Line
     ensures { λ r. ⌜ r ≡ list (now (line .entry)) at said ⌝ }
 {
@@ -254,6 +254,8 @@ fn after_keyword(line: &[u8], at: usize, k: Keyword) -> Line
         Keyword::Transfer => transfer_line(line, at),
         Keyword::Step => whole(line, at, Line::Step),
         Keyword::Check => whole(line, at, Line::Check),
+        Keyword::Write => list_line(line, at, Line::Write { text: at }),
+        Keyword::Listing => whole(line, at, Line::Listing),
         Keyword::Unknown => Line::Mistake(Reason::UnknownWord),
     }
 }

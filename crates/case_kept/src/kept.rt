@@ -85,7 +85,8 @@ pub const PHASE: usize = 181;
 // The notes, three numbers each.
 pub const NOTES: usize = 200;
 
-// No case has started; a case is described; its state is open; its opening was refused; the report has ended.
+// No case has started; a case is described; its state is open; its opening was refused; the report has ended; its places are judged,
+// and its state is not yet open.
 pub const NO_CASE: u64 = 0;
 
 pub const DESCRIBED: u64 = 1;
@@ -95,6 +96,8 @@ pub const OPEN: u64 = 2;
 pub const REFUSED: u64 = 3;
 
 pub const STOPPED: u64 = 4;
+
+pub const JUDGED: u64 = 5;
 
 pub fn number(kept: &Kept, index: usize) -> u64
     ensures { λ r. ⌜ r ≡ keptNumber (now (kept .entry)) index ⌝ }

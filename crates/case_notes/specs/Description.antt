@@ -102,3 +102,5 @@ given (Line.CacheWord place w) kept = fine kept
 given (Line.Run budget) kept = fine kept
 given Line.Step kept = fine kept
 given Line.Check kept = fine kept
+given (Line.Write text) kept = fine kept
+given Line.Listing kept = fine kept

@@ -126,3 +126,5 @@ module _ (line code main local cache kept : List ℕ) where
   describedBy (Line.Run n) = inKept (given (Line.Run n) kept)
   describedBy Line.Step = inKept (given Line.Step kept)
   describedBy Line.Check = inKept (given Line.Check kept)
+  describedBy (Line.Write text) = inKept (given (Line.Write text) kept)
+  describedBy Line.Listing = inKept (given Line.Listing kept)

@@ -30,6 +30,11 @@ inWords Reason.TooMuchCode = "code is at most 65536 bytes long"
 inWords Reason.TooMuchMemory = "a memory is at most 65536 bytes long"
 inWords Reason.PlaceOutside = "a place is a multiple of 4 inside the memory, with its whole word, or a cache place below W"
 inWords Reason.UnseenByte = "fields stand apart by spaces: tabs and carriage returns are not allowed"
+inWords Reason.NoSuchInstruction = "no instruction has this name"
+inWords Reason.NotARegister = "a register is expected, as r3"
+inWords Reason.NotAPredicate = "a predicate is expected, as p3, or !p3 where its negation may stand"
+inWords Reason.NotASpecial = "a special register is expected: s0, sl, sh, ss, st, srb, sro, sxb or sxo"
+inWords Reason.NotAnOffset = "a decimal number from -2147483648 to 2147483647 is expected"
 
 unfoldable pub reasonText : Reason → List ℕ
 reasonText r = bytes (inWords r)

@@ -27,6 +27,11 @@ numberOf Reason.TooMuchCode = 16
 numberOf Reason.TooMuchMemory = 17
 numberOf Reason.PlaceOutside = 18
 numberOf Reason.UnseenByte = 19
+numberOf Reason.NoSuchInstruction = 20
+numberOf Reason.NotARegister = 21
+numberOf Reason.NotAPredicate = 22
+numberOf Reason.NotASpecial = 23
+numberOf Reason.NotAnOffset = 24
 
 -- All reasons, in the order of their rows.
 unfoldable pub reasons : List Reason
@@ -51,6 +56,11 @@ reasons =
     ∷ Reason.TooMuchMemory
     ∷ Reason.PlaceOutside
     ∷ Reason.UnseenByte
+    ∷ Reason.NoSuchInstruction
+    ∷ Reason.NotARegister
+    ∷ Reason.NotAPredicate
+    ∷ Reason.NotASpecial
+    ∷ Reason.NotAnOffset
     ∷ []
 
 unfoldable pub texts : List Reason → List (List ℕ)

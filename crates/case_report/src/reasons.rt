@@ -31,6 +31,11 @@ fn number_of(r: Reason) -> usize
         Reason::TooMuchMemory => 17,
         Reason::PlaceOutside => 18,
         Reason::UnseenByte => 19,
+        Reason::NoSuchInstruction => 20,
+        Reason::NotARegister => 21,
+        Reason::NotAPredicate => 22,
+        Reason::NotASpecial => 23,
+        Reason::NotAnOffset => 24,
     }
 }
 
@@ -59,7 +64,12 @@ this line may stand only once in a case\n\
 code is at most 65536 bytes long\n\
 a memory is at most 65536 bytes long\n\
 a place is a multiple of 4 inside the memory, with its whole word, or a cache place below W\n\
-fields stand apart by spaces: tabs and carriage returns are not allowed\n",
+fields stand apart by spaces: tabs and carriage returns are not allowed\n\
+no instruction has this name\n\
+a register is expected, as r3\n\
+a predicate is expected, as p3, or !p3 where its negation may stand\n\
+a special register is expected: s0, sl, sh, ss, st, srb, sro, sxb or sxo\n\
+a decimal number from -2147483648 to 2147483647 is expected\n",
         number_of(r),
     )
 }

@@ -70,6 +70,8 @@ keywords =
     ∷ ("run", Keyword.OneNumber OneNumber.Run)
     ∷ ("step", Keyword.Step)
     ∷ ("check", Keyword.Check)
+    ∷ ("write", Keyword.Write)
+    ∷ ("list", Keyword.Listing)
     ∷ []
 
 abbrev pub keywordOf : List ℕ → Keyword

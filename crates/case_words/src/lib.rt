@@ -19,6 +19,8 @@ pub enum Keyword {
     Transfer,
     Step,
     Check,
+    Write,
+    Listing,
     Unknown,
 }
 
@@ -99,6 +101,8 @@ fn keyword_at(row: usize) -> Keyword
         17 => Keyword::OneNumber(OneNumber::Run),
         18 => Keyword::Step,
         19 => Keyword::Check,
+        20 => Keyword::Write,
+        21 => Keyword::Listing,
         _ => Keyword::Unknown,
     }
 }
@@ -109,7 +113,7 @@ pub fn first_word(s: &[u8]) -> Keyword
     keyword_at(row_of(
         b"case\ncode\nmain\nlocal\nstack\nprivate\n\
 entry\nfetch\nbase\nreg\npred\nspecial\ntransfer\nload\n\
-mainword\nlocalword\ncacheword\nrun\nstep\ncheck\n",
+mainword\nlocalword\ncacheword\nrun\nstep\ncheck\nwrite\nlist\n",
         s,
     ))
 }
@@ -154,7 +158,7 @@ pub fn special_name(s: &[u8]) -> SpecialName
 }
 
 // A letter and a decimal number up to greatest.
-fn numbered(s: &[u8], letter: u8, greatest: u32) -> Number
+pub fn numbered(s: &[u8], letter: u8, greatest: u32) -> Number
     ensures { λ r. ⌜ r ≡ numbered letter greatest (now (s .entry)) ⌝ }
 {
     if s.len() == 0 {

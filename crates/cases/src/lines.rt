@@ -1,11 +1,18 @@
 // Lines of the file, one after the other. What a line has to report is put at the front of a buffer, of which each function answers
 // how much is used, and is written out before the next line is read.
 use crate::check_code::do_check;
+use crate::kinds::Asked;
+use crate::kinds::Kind;
+use crate::kinds::Opened;
+use crate::kinds::kind_in;
+use crate::kinds::kind_of;
+use crate::kinds::reason;
+use crate::listing::do_list;
+use crate::opening::judge_places;
 use crate::opening::open_case;
 use crate::opening::start_case;
-use crate::operation::Operation;
 use crate::operation::do_operation;
-use bytes::scan::find;
+use crate::writing::do_write;
 use case_file::Line;
 use case_file::Reason;
 use case_file::lines::read_line;
@@ -18,10 +25,8 @@ use case_kept::buffers::LineBytes;
 use case_kept::buffers::Memory;
 use case_kept::buffers::Report;
 use case_kept::buffers::least;
-use case_kept::kept::DESCRIBED;
 use case_kept::kept::Kept;
 use case_kept::kept::LINE;
-use case_kept::kept::NO_CASE;
 use case_kept::kept::OPEN;
 use case_kept::kept::PHASE;
 use case_kept::kept::STOPPED;
@@ -31,80 +36,16 @@ use case_report::mistake::fail;
 use case_report::output::write_out;
 use std::num::wrapping_add_u64;
 
-// What an operation line asks for.
-enum Asked {
-    Check,
-    Operation(Operation),
-}
-
-// What a line is to the case.
-enum Kind {
-    Empty,
-    Mistake(Reason),
-    Start(usize),
-    Operation(Asked),
-    Description,
-}
-
-fn kind_of(said: Line) -> Kind {
-    match said {
-        Line::Empty => Kind::Empty,
-        Line::Mistake(r) => Kind::Mistake(r),
-        Line::Case { name } => Kind::Start(name),
-        Line::Run(n) => Kind::Operation(Asked::Operation(Operation::Run(n))),
-        Line::Step => Kind::Operation(Asked::Operation(Operation::Step)),
-        Line::Check => Kind::Operation(Asked::Check),
-        _ => Kind::Description,
-    }
-}
-
-// A line of a kind that is no mistake itself may be one in a phase: description lines are taken only while the case is
-// described, and no line of a case before the first.
-fn kind_in(phase: u64, kind: Kind) -> Kind {
-    match kind {
-        Kind::Operation(asked) => {
-            if phase == NO_CASE {
-                return Kind::Mistake(Reason::BeforeFirstCase);
-            }
-            Kind::Operation(asked)
-        }
-        Kind::Description => {
-            if phase == NO_CASE {
-                return Kind::Mistake(Reason::BeforeFirstCase);
-            }
-            if phase != DESCRIBED {
-                return Kind::Mistake(Reason::AfterOperation);
-            }
-            Kind::Description
-        }
-        _ => kind,
-    }
-}
-
-// Whether a tab or a carriage return stands in a line, in front of its comment.
-fn has_unseen_byte(line: &[u8]) -> bool {
-    let end = find(line, 0, line.len(), b'#');
-    (find(line, 0, end, b'\t') < end) | (find(line, 0, end, b'\r') < end)
-}
-
-// What is told of a mistake: first what cannot be seen in the line.
-fn reason(line: &[u8], r: Reason) -> Reason {
-    if has_unseen_byte(line) {
-        return Reason::UnseenByte;
-    }
-    r
-}
-
 // A mistake of the line that was read last.
 fn fail_here(kept: &mut Kept, r: Reason, out: &mut [u8]) -> usize {
     let line = kept[LINE];
     fail(&mut *out, 0, &mut *kept, line, r)
 }
 
-// An operation line: the first of a case opens it, which is reported only where it is refused. After a refused opening nothing is
-// done.
-fn operation_line(
-    asked: Asked,
+// An operation that needs an opened case: the first one opens it, which is reported only where it is refused. After a refused opening
+// nothing is done.
+fn opened_operation(
+    asked: Opened,
     code: &Bytes,
     main: &mut Memory,
     local: &mut Memory,
@@ -124,9 +65,39 @@ fn operation_line(
         return used;
     }
     match asked {
-        Asked::Check => do_check(code, &*kept, &mut *out),
-        Asked::Operation(o) => do_operation(
+        Opened::Check => do_check(code, &*kept, &mut *out),
+        Opened::Operation(o) => do_operation(
             o,
+            code,
+            &mut *main,
+            &mut *local,
+            &mut *cache,
+            &mut *kept,
+            &mut *out,
+        ),
+    }
+}
+
+// An operation line: the first of a case judges its places.
+fn operation_line(
+    asked: Asked,
+    line: &[u8],
+    code: &Bytes,
+    main: &mut Memory,
+    local: &mut Memory,
+    cache: &mut Cache,
+    kept: &mut Kept,
+    out: &mut [u8],
+) -> usize {
+    let used = judge_places(&mut *kept, &mut *out);
+    if kept[PHASE] == STOPPED {
+        return used;
+    }
+    match asked {
+        Asked::Write(text) => do_write(line, text, &mut *out),
+        Asked::Listing => do_list(code, &*kept, &mut *out),
+        Asked::Opened(asked) => opened_operation(
+            asked,
             code,
             &mut *main,
             &mut *local,
@@ -175,7 +146,7 @@ fn take_line(
 ) -> usize {
     kept[LINE] = wrapping_add_u64(kept[LINE], 1);
     let said = read_line(line);
-    match kind_in(kept[PHASE], kind_of(said)) {
+    match kind_in(kept[PHASE], kind_of(said, line)) {
         Kind::Empty => 0,
         Kind::Mistake(r) => fail_here(&mut *kept, reason(line, r), &mut *out),
         Kind::Start(name) => start_case(
@@ -189,6 +160,7 @@ fn take_line(
         ),
         Kind::Operation(asked) => operation_line(
             asked,
+            line,
             &*code,
             &mut *main,
             &mut *local,

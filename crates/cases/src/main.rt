@@ -2,10 +2,13 @@
 // standard error.
 mod check_code;
 mod kept_state;
+mod kinds;
 mod lines;
+mod listing;
 mod opening;
 mod operation;
 mod report;
+mod writing;
 
 use libc::STDERR_FILENO;
 use lines::read_all;

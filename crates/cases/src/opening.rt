@@ -15,6 +15,7 @@ use case_kept::kept::BASE;
 use case_kept::kept::DESCRIBED;
 use case_kept::kept::ENTRY;
 use case_kept::kept::FETCH;
+use case_kept::kept::JUDGED;
 use case_kept::kept::Kept;
 use case_kept::kept::LOCAL;
 use case_kept::kept::MAIN;
@@ -166,7 +167,21 @@ fn open(
     keep_opened(o, &mut *kept, &mut *out)
 }
 
-// At a case's first operation its places are judged, and its state is opened.
+// At a case's first operation its places are judged.
+pub(crate) fn judge_places(kept: &mut Kept, out: &mut [u8]) -> usize {
+    if kept[PHASE] != DESCRIBED {
+        return 0;
+    }
+    match first_outside(&*kept) {
+        Outside::Line(n) => fail(&mut *out, 0, &mut *kept, n, Reason::PlaceOutside),
+        Outside::Nowhere => {
+            kept[PHASE] = JUDGED;
+            0
+        }
+    }
+}
+
+// The state of a case whose places are judged is opened once.
 pub(crate) fn open_case(
     code: &Bytes,
     main: &mut Memory,
@@ -175,18 +190,15 @@ pub(crate) fn open_case(
     kept: &mut Kept,
     out: &mut [u8],
 ) -> usize {
-    if kept[PHASE] != DESCRIBED {
+    if kept[PHASE] != JUDGED {
         return 0;
     }
-    match first_outside(&*kept) {
-        Outside::Line(n) => fail(&mut *out, 0, &mut *kept, n, Reason::PlaceOutside),
-        Outside::Nowhere => open(
-            code,
-            &mut *main,
-            &mut *local,
-            &mut *cache,
-            &mut *kept,
-            &mut *out,
-        ),
-    }
+    open(
+        code,
+        &mut *main,
+        &mut *local,
+        &mut *cache,
+        &mut *kept,
+        &mut *out,
+    )
 }

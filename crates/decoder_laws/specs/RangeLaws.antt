@@ -74,7 +74,7 @@ row-each : {A B : Type 0} (P : B → Type 0) (t : List (Row A)) (n : ℕ) (make 
 row-each P t n make q = row-says P t n make (each _ t q)
 
 -- A pair, to write a list of proofs one under the other.
-abbrev _also_ : {A B : Type 0} → A → B → A × B
+abbrev pub _also_ : {A B : Type 0} → A → B → A × B
 a also b = (a, b)
 
 -- Each of the eighteen formats, at its fields' numbers and their bounds, in the order of the lists.

@@ -1,75 +1,88 @@
 use Rattle.case_file.specs.Line.{lineAfter}
+use borrow.Author.Needs.{needs}
 use Rattle.case_file.proofs.lines.after_keyword.Statement.{statement}
 use Rattle.case_file.proofs.lines.after_keyword.Tie as tie
 
 enum-told : tie.Need-enum-told
-enum-told c = c .match .keys1
+enum-told c = search needs
 
 case-line-requires : tie.Need-case-line-requires
-case-line-requires c κs = tt
+case-line-requires c κs = search needs
 
 enum-told-2 : tie.Need-enum-told-2
-enum-told-2 c = c .match .keys2
+enum-told-2 c = search needs
 
 list-line-requires : tie.Need-list-line-requires
-list-line-requires c κs = tt
+list-line-requires c κs = search needs
 
 enum-known-k : tie.Need-enum-known-k
-enum-known-k c = c .match .keys3
+enum-known-k c = search needs
 
 number-line-requires : tie.Need-number-line-requires
-number-line-requires c κs = tt
+number-line-requires c κs = search needs
 
 enum-told-3 : tie.Need-enum-told-3
-enum-told-3 c = c .match .keys4
+enum-told-3 c = search needs
 
 three-numbers-requires : tie.Need-three-numbers-requires
-three-numbers-requires c κs = tt
+three-numbers-requires c κs = search needs
 
 enum-told-4 : tie.Need-enum-told-4
-enum-told-4 c = c .match .keys5
+enum-told-4 c = search needs
 
 list-line-requires-2 : tie.Need-list-line-requires-2
-list-line-requires-2 c κs = tt
+list-line-requires-2 c κs = search needs
 
 enum-known-k-2 : tie.Need-enum-known-k-2
-enum-known-k-2 c = c .match .keys6
+enum-known-k-2 c = search needs
 
 word-line-requires : tie.Need-word-line-requires
-word-line-requires c κs = tt
+word-line-requires c κs = search needs
 
 enum-told-5 : tie.Need-enum-told-5
-enum-told-5 c = c .match .keys7
+enum-told-5 c = search needs
 
 pred-line-requires : tie.Need-pred-line-requires
-pred-line-requires c κs = tt
+pred-line-requires c κs = search needs
 
 enum-told-6 : tie.Need-enum-told-6
-enum-told-6 c = c .match .keys8
+enum-told-6 c = search needs
 
 special-line-requires : tie.Need-special-line-requires
-special-line-requires c κs = tt
+special-line-requires c κs = search needs
 
 enum-told-7 : tie.Need-enum-told-7
-enum-told-7 c = c .match .keys9
+enum-told-7 c = search needs
 
 transfer-line-requires : tie.Need-transfer-line-requires
-transfer-line-requires c κs = tt
+transfer-line-requires c κs = search needs
 
 enum-told-8 : tie.Need-enum-told-8
-enum-told-8 c = c .match .keys10
+enum-told-8 c = search needs
 
 whole-requires : tie.Need-whole-requires
-whole-requires c κs = tt
+whole-requires c κs = search needs
 
 enum-told-9 : tie.Need-enum-told-9
-enum-told-9 c = c .match .keys11
+enum-told-9 c = search needs
 
 whole-requires-2 : tie.Need-whole-requires-2
-whole-requires-2 c κs = tt
+whole-requires-2 c κs = search needs
 
 enum-told-10 : tie.Need-enum-told-10
-enum-told-10 c = c .match .keys12
+enum-told-10 c = search needs
+
+list-line-requires-3 : tie.Need-list-line-requires-3
+list-line-requires-3 c κs = search needs
+
+enum-told-11 : tie.Need-enum-told-11
+enum-told-11 c = search needs
+
+whole-requires-3 : tie.Need-whole-requires-3
+whole-requires-3 c κs = search needs
+
+enum-told-12 : tie.Need-enum-told-12
+enum-told-12 c = search needs
 
 returns : tie.Need-returns
 unfolding lineAfter
@@ -117,7 +130,15 @@ returns-11 c = rw (c .before .enum-told9 .given .1) (c .whole2 .ensures)
 
 returns-12 : tie.Need-returns-12
 unfolding lineAfter
-returns-12 c = rw (c .enum-told10 .given .1)
+returns-12 c = rw (c .before .enum-told10 .given .1) (c .list-line3 .ensures)
+
+returns-13 : tie.Need-returns-13
+unfolding lineAfter
+returns-13 c = rw (c .before .enum-told11 .given .1) (c .whole3 .ensures)
+
+returns-14 : tie.Need-returns-14
+unfolding lineAfter
+returns-14 c = rw (c .enum-told12 .given .1)
 
 pub after-keyword-spec : {M : Type 1} → statement M
 after-keyword-spec =
@@ -146,6 +167,10 @@ after-keyword-spec =
     enum-told-9
     whole-requires-2
     enum-told-10
+    list-line-requires-3
+    enum-told-11
+    whole-requires-3
+    enum-told-12
     returns
     returns-2
     returns-3
@@ -157,4 +182,6 @@ after-keyword-spec =
     returns-9
     returns-10
     returns-11
-    returns-12)
+    returns-12
+    returns-13
+    returns-14)

@@ -12,7 +12,7 @@ use Rattle.case_notes.proofs.description.give.Tie as tie
 
 -- The lines that say nothing of the numbers.
 abbrev others : List ℕ
-others = 0 ∷ 1 ∷ 2 ∷ 3 ∷ 4 ∷ 18 ∷ 19 ∷ 20 ∷ 21 ∷ 22 ∷ 23 ∷ []
+others = 0 ∷ 1 ∷ 2 ∷ 3 ∷ 4 ∷ 18 ∷ 19 ∷ 20 ∷ 21 ∷ 22 ∷ 23 ∷ 24 ∷ 25 ∷ []
 
 other-line : (said : Line) (kept : List ℕ) → OneOf others (tagOf the-type said) → given said kept ≡ fine kept
 unfolding given
@@ -40,6 +40,8 @@ other-line (Line.CacheWord p w) kept h = refl
 other-line (Line.Run n) kept h = refl
 other-line Line.Step kept h = refl
 other-line Line.Check kept h = refl
+other-line (Line.Write text) kept h = refl
+other-line Line.Listing kept h = refl
 
 enum-known-said : tie.Need-enum-known-said
 enum-known-said c = c .match .keys1

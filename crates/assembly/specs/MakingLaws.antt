@@ -1,0 +1,89 @@
+-- Laws of what the forms make, and of the numbers by which instructions are shown.
+use Prim.Native.Nat.{ℕ, zero, suc, _+_, _≤_, _<_}
+use mathlib.Core.Path.{_≡_, refl, sym}
+use mathlib.Core.Bool.{Bool, true, false, cond, _&&_}
+use mathlib.Core.List.{List, [], _∷_}
+use mathlib.Core.Option.{Option, none}
+use native.Mathlib.Omega.{arith}
+use lib.Dec.{leb, ltb}
+use lib.ListN.{length}
+use lib.IntN.{ℤ, pos, negsuc}
+use mir.Syntax.{w32}
+use mir.Val.{ofZ}
+use borrow.Author.Tests.{lt-ltb, le-ltb, le-leb, leb-true, ltb-false}
+use Rattle.fields.specs.Place.{at}
+use Rattle.fields.specs.Fields.{kindCode, loadCode, storeCode}
+use Rattle.isa.specs.declared.AccessKind.{AccessKind}
+use Rattle.isa.specs.declared.AccessKind.the-variants.{Stack, Local, Cached, Main}
+use Rattle.isa.specs.declared.LoadWidth.{LoadWidth}
+use Rattle.isa.specs.declared.LoadWidth.the-variants.{Word, Half, Byte, HalfUnsigned, ByteUnsigned}
+use Rattle.isa.specs.declared.StoreWidth.{StoreWidth}
+use Rattle.isa.specs.declared.StoreWidth.the-variants as store
+use Rattle.isa.specs.declared.Operation.{Operation}
+use Rattle.assembly.specs.declared.Operand.{Operand}
+use Rattle.assembly.specs.declared.Mnemonic.{Mnemonic}
+use Rattle.assembly.specs.Forms.{forms, made}
+use Rattle.assembly.specs.Shown.{complement}
+use Rattle.assembly.specs.Readings.{inForms}
+
+-- A number that is none of n numbers from first on.
+abbrev pub Apart : ℕ → ℕ → ℕ → Type 0
+Apart first zero k = Unit {0}
+Apart first (suc n) k = Apart first n k × (k ≡ first + n → ⊥)
+
+behind : (first n k : ℕ) → first ≤ k → Apart first n k → first + n ≤ k
+behind first zero k h a = omega arith
+behind first (suc n) k h a =
+    let e = behind first n k h (a .0) in
+    let f : k ≡ first + n → ⊥ = a .1 in
+    omega arith
+
+pub not-in-forms : (first n k : ℕ) (o : Option Operation) → Apart first n k → none ≡ inForms first (first + n) k o
+not-in-forms first n k o a = go (leb first k) refl
+  where
+    go : (t : Bool) → leb first k ≡ t → none ≡ cond (t && ltb k (first + n)) o none
+    go false e = refl
+    go true e = rw (le-ltb k (first + n) (behind first n k (leb-true first k e) a))
+
+at-behind : {A : Type 0} (l : List A) (k : ℕ) → length l ≤ k → at l k ≡ none
+at-behind [] k h = refl
+at-behind (a ∷ l) zero h = absurd (omega arith)
+at-behind (a ∷ l) (suc k) h = at-behind l k (omega arith)
+
+module _ (m : Mnemonic) (a b c d : Operand) where
+  made-behind : 27 ≤ m .form → made m a b c d ≡ none
+  unfolding made forms
+  made-behind h = rw (at-behind forms (m .form) h)
+
+  pub made-within : (first last : ℕ) → first ≤ m .form → m .form < last → inForms first last (m .form) (made m a b c d) ≡ made m a b c d
+  made-within first last h l = rw (le-leb first (m .form) h, lt-ltb (m .form) last l)
+
+  pub made-last : (first : ℕ) → first ≤ m .form → inForms first 27 (m .form) (made m a b c d) ≡ made m a b c d
+  made-last first h = rw (le-leb first (m .form) h) (go (ltb (m .form) 27) refl)
+    where
+      go : (t : Bool) → ltb (m .form) 27 ≡ t → cond t (made m a b c d) none ≡ made m a b c d
+      go true e = refl
+      go false e = sym (made-behind (ltb-false (m .form) 27 e))
+
+pub complement-of : (z : ℤ) → ofZ w32 z ≡ complement z
+complement-of (pos n) = refl
+complement-of (negsuc n) = refl
+
+-- The numbers of widths and memories are small.
+pub load-small : (w : LoadWidth) → loadCode w ≤ 4
+load-small Word = omega arith
+load-small Half = omega arith
+load-small Byte = omega arith
+load-small HalfUnsigned = omega arith
+load-small ByteUnsigned = omega arith
+
+pub store-small : (w : StoreWidth) → storeCode w ≤ 2
+store-small store.Word = omega arith
+store-small store.Half = omega arith
+store-small store.Byte = omega arith
+
+pub kind-small : (k : AccessKind) → kindCode k ≤ 3
+kind-small Stack = omega arith
+kind-small Local = omega arith
+kind-small Cached = omega arith
+kind-small Main = omega arith

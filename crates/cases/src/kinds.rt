@@ -1,0 +1,90 @@
+// What a line is to a case.
+use crate::operation::Operation;
+use assembly::BundleRead;
+use assembly::reading::read_bundle;
+use bytes::scan::find;
+use case_file::Line;
+use case_file::Reason;
+use case_kept::kept::DESCRIBED;
+use case_kept::kept::NO_CASE;
+
+// What an operation line asks for of an opened case.
+pub(crate) enum Opened {
+    Check,
+    Operation(Operation),
+}
+
+// What an operation line asks for: something of an opened case, the words of the bundle at a position of the line, or a listing.
+pub(crate) enum Asked {
+    Opened(Opened),
+    Write(usize),
+    Listing,
+}
+
+// What a line is to the case.
+pub(crate) enum Kind {
+    Empty,
+    Mistake(Reason),
+    Start(usize),
+    Operation(Asked),
+    Description,
+}
+
+// A bundle that is asked for by its text: a mistake there is one of the line.
+fn written_kind(line: &[u8], text: usize) -> Kind {
+    match read_bundle(line, text) {
+        BundleRead::Mistake(r) => Kind::Mistake(r),
+        BundleRead::Found(_) => Kind::Operation(Asked::Write(text)),
+    }
+}
+
+pub(crate) fn kind_of(said: Line, line: &[u8]) -> Kind {
+    match said {
+        Line::Empty => Kind::Empty,
+        Line::Mistake(r) => Kind::Mistake(r),
+        Line::Case { name } => Kind::Start(name),
+        Line::Run(n) => Kind::Operation(Asked::Opened(Opened::Operation(Operation::Run(n)))),
+        Line::Step => Kind::Operation(Asked::Opened(Opened::Operation(Operation::Step))),
+        Line::Check => Kind::Operation(Asked::Opened(Opened::Check)),
+        Line::Write { text } => written_kind(line, text),
+        Line::Listing => Kind::Operation(Asked::Listing),
+        _ => Kind::Description,
+    }
+}
+
+// A line of a kind that is no mistake itself may be one in a phase: description lines are taken only while the case is
+// described, and no line of a case before the first.
+pub(crate) fn kind_in(phase: u64, kind: Kind) -> Kind {
+    match kind {
+        Kind::Operation(asked) => {
+            if phase == NO_CASE {
+                return Kind::Mistake(Reason::BeforeFirstCase);
+            }
+            Kind::Operation(asked)
+        }
+        Kind::Description => {
+            if phase == NO_CASE {
+                return Kind::Mistake(Reason::BeforeFirstCase);
+            }
+            if phase != DESCRIBED {
+                return Kind::Mistake(Reason::AfterOperation);
+            }
+            Kind::Description
+        }
+        _ => kind,
+    }
+}
+
+// Whether a tab or a carriage return stands in a line, in front of its comment.
+fn has_unseen_byte(line: &[u8]) -> bool {
+    let end = find(line, 0, line.len(), b'#');
+    (find(line, 0, end, b'\t') < end) | (find(line, 0, end, b'\r') < end)
+}
+
+// What is told of a mistake: first what cannot be seen in the line.
+pub(crate) fn reason(line: &[u8], r: Reason) -> Reason {
+    if has_unseen_byte(line) {
+        return Reason::UnseenByte;
+    }
+    r
+}

@@ -1,0 +1,3 @@
+-- Open first: Encode.antt.
+pub mod Encode
+pub mod Readings

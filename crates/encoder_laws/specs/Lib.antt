@@ -1,0 +1,11 @@
+-- Open first: EncodeLaws.antt, then ExactLaws.antt, EncodeExamples.antt and FieldLaws.antt.
+pub mod PutLaws
+pub mod PlaceLaws
+pub mod FormatLaws
+pub mod UnusedLaws
+pub mod Codes
+pub mod FieldLaws
+pub mod SlotLaws
+pub mod EncodeLaws
+pub mod ExactLaws
+pub mod EncodeExamples

@@ -1,0 +1,1 @@
+// Laws about what the encoder writes: the decoder reads it back. See specs/.
