@@ -8,6 +8,7 @@ use mathlib.Core.Option.{Option, none, some}
 use lib.Dec.{ltb}
 use lib.ListN.{length, getD}
 use Rattle.word.specs.Word.{signed}
+use Rattle.text.specs.Table.{table, rowText, rowOf}
 use Rattle.case_words.specs.Names.{bytes}
 use Rattle.isa.specs.Format.{row}
 use Rattle.isa.specs.Formats.{isSet}
@@ -143,3 +144,13 @@ makesIn (some f) func a b c d = f .makes func a b c d
 
 unfoldable pub made : Mnemonic → Operand → Operand → Operand → Operand → Option Operation
 made m a b c d = makesIn (at forms (m .form)) (m .function) a b c d
+
+-- All mnemonics as one table.
+abbrev pub mnemonicTable : List ℕ
+mnemonicTable = table (mnemonics forms)
+
+unfoldable pub mnemonicOf : List ℕ → Mnemonic
+mnemonicOf s = mnemonicFrom 0 (sizes forms) (rowOf mnemonicTable s)
+
+unfoldable pub nameOf : Mnemonic → List ℕ
+nameOf m = rowText mnemonicTable (startOf (sizes forms) (m .form) + m .function)

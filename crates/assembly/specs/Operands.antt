@@ -1,11 +1,9 @@
 -- The text of an operand, by the letter of its kind, read and written.
 use Prim.Native.Nat.{ℕ, _-_, _%_, _^_}
 use Prim.Native.Char.{code}
-use Prim.Native.String as Text
 use mathlib.Core.Bool.{Bool, true, false, cond}
 use mathlib.Core.List.{List, [], _∷_, _++_}
 use lib.Dec.{leb, ltb, eqb}
-use lib.ListN.{length}
 use Rattle.text.specs.declared.Number.{Number}
 use Rattle.text.specs.declared.Number.the-variants as Number
 use Rattle.text.specs.Number.{decimalOf, wordOf, decimalText, wordText}

@@ -20,7 +20,7 @@ fn put_lettered(out: &mut [u8], used: usize, letter: u8, n: u32) -> usize
 }
 
 // A predicate, with `!` in front where its negation is meant.
-pub(crate) fn put_predicate(out: &mut [u8], used: usize, negated: bool, n: u32) -> usize
+pub fn put_predicate(out: &mut [u8], used: usize, negated: bool, n: u32) -> usize
     ensures { λ r. ⌜ page r (now (out .exit)) ≡ withText (page used (now (out .entry))) (predicateText negated n) ⌝ }
 {
     if negated {

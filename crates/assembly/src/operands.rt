@@ -89,7 +89,7 @@ fn signed_number(s: &[u8]) -> Number
 }
 
 // A predicate, with `!` in front where its negation is meant.
-pub(crate) fn predicate_read(s: &[u8], next: usize) -> OperandRead
+pub fn predicate_read(s: &[u8], next: usize) -> OperandRead
     ensures { λ r. ⌜ r ≡ predicateRead (now (s .entry)) next ⌝ }
 {
     if s.len() == 0 {

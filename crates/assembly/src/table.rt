@@ -2,7 +2,7 @@
 ghost use mathlib.Core.Path.{_≡_};
 ghost use Rattle.text.specs.Page.{page, withText};
 ghost use Rattle.assembly.specs.Forms.{forms, sizes, mnemonicFrom, startOf, letter as letterOf};
-ghost use Rattle.assembly.specs.Assembly.{mnemonicOf, nameOf};
+ghost use Rattle.assembly.specs.Forms.{mnemonicOf, nameOf};
 use crate::Mnemonic;
 use text::table::put_row;
 use text::table::row_of;

@@ -1,7 +1,7 @@
 // What a line is to a case.
 use crate::operation::Operation;
-use assembly::BundleRead;
-use assembly::reading::read_bundle;
+use assembler::BundleRead;
+use assembler::reading::read_bundle;
 use bytes::scan::find;
 use case_file::Line;
 use case_file::Reason;
@@ -9,14 +9,14 @@ use case_kept::kept::DESCRIBED;
 use case_kept::kept::NO_CASE;
 
 // What an operation line asks for of an opened case.
-pub(crate) enum Opened {
+pub(crate) enum OfState {
     Check,
     Operation(Operation),
 }
 
 // What an operation line asks for: something of an opened case, the words of the bundle at a position of the line, or a listing.
 pub(crate) enum Asked {
-    Opened(Opened),
+    OfState(OfState),
     Write(usize),
     Listing,
 }
@@ -43,9 +43,9 @@ pub(crate) fn kind_of(said: Line, line: &[u8]) -> Kind {
         Line::Empty => Kind::Empty,
         Line::Mistake(r) => Kind::Mistake(r),
         Line::Case { name } => Kind::Start(name),
-        Line::Run(n) => Kind::Operation(Asked::Opened(Opened::Operation(Operation::Run(n)))),
-        Line::Step => Kind::Operation(Asked::Opened(Opened::Operation(Operation::Step))),
-        Line::Check => Kind::Operation(Asked::Opened(Opened::Check)),
+        Line::Run(n) => Kind::Operation(Asked::OfState(OfState::Operation(Operation::Run(n)))),
+        Line::Step => Kind::Operation(Asked::OfState(OfState::Operation(Operation::Step))),
+        Line::Check => Kind::Operation(Asked::OfState(OfState::Check)),
         Line::Write { text } => written_kind(line, text),
         Line::Listing => Kind::Operation(Asked::Listing),
         _ => Kind::Description,

@@ -3,7 +3,7 @@
 use crate::check_code::do_check;
 use crate::kinds::Asked;
 use crate::kinds::Kind;
-use crate::kinds::Opened;
+use crate::kinds::OfState;
 use crate::kinds::kind_in;
 use crate::kinds::kind_of;
 use crate::kinds::reason;
@@ -45,7 +45,7 @@ fn fail_here(kept: &mut Kept, r: Reason, out: &mut [u8]) -> usize {
 // An operation that needs an opened case: the first one opens it, which is reported only where it is refused. After a refused opening
 // nothing is done.
 fn opened_operation(
-    asked: Opened,
+    asked: OfState,
     code: &Bytes,
     main: &mut Memory,
     local: &mut Memory,
@@ -65,8 +65,8 @@ fn opened_operation(
         return used;
     }
     match asked {
-        Opened::Check => do_check(code, &*kept, &mut *out),
-        Opened::Operation(o) => do_operation(
+        OfState::Check => do_check(code, &*kept, &mut *out),
+        OfState::Operation(o) => do_operation(
             o,
             code,
             &mut *main,
@@ -96,7 +96,7 @@ fn operation_line(
     match asked {
         Asked::Write(text) => do_write(line, text, &mut *out),
         Asked::Listing => do_list(code, &*kept, &mut *out),
-        Asked::Opened(asked) => opened_operation(
+        Asked::OfState(asked) => opened_operation(
             asked,
             code,
             &mut *main,

@@ -1,4 +1,4 @@
-// How a case starts, and how its state is opened at its first operation.
+// How a case starts, how its places are judged at its first operation, and how its state is opened at the first that needs it.
 ghost use Prim.Native.Nat.{_≤_};
 ghost use lib.ListN.{length};
 use case_file::Reason;

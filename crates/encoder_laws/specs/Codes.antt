@@ -16,24 +16,9 @@ use Rattle.isa.specs.Formats.{isSet, predicateOperand}
 use Rattle.isa.specs.Tables.{aluTable, multiplyTable, compareTable, predicateTable, specialTable, kindTable, loadTable, storeTable}
 use Rattle.isa.specs.TableLaws.{andThen, row-then}
 use Rattle.decoder_laws.specs.RangeLaws.{IfSome, _also_}
+use Rattle.fields.specs.CodeLaws.{alu-row, multiply-row, compare-row, predicate-row, special-row, kind-row, load-row, store-row}
 use Rattle.fields.specs.Fields.{aluCode, multiplyCode, compareCode, predicateCode, specialCode, kindCode, loadCode, storeCode, bit, operandNumber, twosComplement}
 use Rattle.isa.specs.declared.PredicateOperand.{PredicateOperand}
-use Rattle.isa.specs.declared.AluFunction.{AluFunction}
-use Rattle.isa.specs.declared.AluFunction.the-variants.{Add, Sub, Xor, Sl, Sr, Sra, Or, And, Nor, Shadd, Shadd2}
-use Rattle.isa.specs.declared.MultiplyFunction.{MultiplyFunction}
-use Rattle.isa.specs.declared.MultiplyFunction.the-variants.{Mul, Mulu}
-use Rattle.isa.specs.declared.CompareFunction.{CompareFunction}
-use Rattle.isa.specs.declared.CompareFunction.the-variants.{Cmpeq, Cmpneq, Cmplt, Cmple, Cmpult, Cmpule, Btest}
-use Rattle.isa.specs.declared.PredicateFunction.{PredicateFunction}
-use Rattle.isa.specs.declared.PredicateFunction.the-variants.{Por, Pand, Pxor}
-use Rattle.isa.specs.declared.Special.{Special}
-use Rattle.isa.specs.declared.Special.the-variants as special
-use Rattle.isa.specs.declared.AccessKind.{AccessKind}
-use Rattle.isa.specs.declared.AccessKind.the-variants.{Stack, Local, Cached, Main}
-use Rattle.isa.specs.declared.LoadWidth.{LoadWidth}
-use Rattle.isa.specs.declared.LoadWidth.the-variants.{Word, Half, Byte, HalfUnsigned, ByteUnsigned}
-use Rattle.isa.specs.declared.StoreWidth.{StoreWidth}
-use Rattle.isa.specs.declared.StoreWidth.the-variants as store
 
 abbrev pub Each : {A : Type 0} → (Row A → Type 0) → List (Row A) → Type 0
 Each Q [] = Unit {0}
@@ -67,113 +52,41 @@ pub row-of : {A B : Type 0} {t : List (Row A)} {code : A → ℕ} → Inverse t 
     → row t (code a) make ≡ make a
 row-of {A} {t = t} {code = code} v a make = row-then t (code a) make ∙ ap (λ (x : Option A). andThen x make) (v .has a)
 
-alu-row : (f : AluFunction) → row aluTable (aluCode f) some ≡ some f
-unfolding row
-alu-row Add = refl
-alu-row Sub = refl
-alu-row Xor = refl
-alu-row Sl = refl
-alu-row Sr = refl
-alu-row Sra = refl
-alu-row Or = refl
-alu-row And = refl
-alu-row Nor = refl
-alu-row Shadd = refl
-alu-row Shadd2 = refl
-
-multiply-row : (f : MultiplyFunction) → row multiplyTable (multiplyCode f) some ≡ some f
-unfolding row
-multiply-row Mul = refl
-multiply-row Mulu = refl
-
-compare-row : (f : CompareFunction) → row compareTable (compareCode f) some ≡ some f
-unfolding row
-compare-row Cmpeq = refl
-compare-row Cmpneq = refl
-compare-row Cmplt = refl
-compare-row Cmple = refl
-compare-row Cmpult = refl
-compare-row Cmpule = refl
-compare-row Btest = refl
-
-predicate-row : (f : PredicateFunction) → row predicateTable (predicateCode f) some ≡ some f
-unfolding row
-predicate-row Por = refl
-predicate-row Pand = refl
-predicate-row Pxor = refl
-
-special-row : (s : Special) → row specialTable (specialCode s) some ≡ some s
-unfolding row
-special-row special.S0 = refl
-special-row special.Sl = refl
-special-row special.Sh = refl
-special-row special.Ss = refl
-special-row special.St = refl
-special-row special.Srb = refl
-special-row special.Sro = refl
-special-row special.Sxb = refl
-special-row special.Sxo = refl
-
-kind-row : (k : AccessKind) → row kindTable (kindCode k) some ≡ some k
-unfolding row
-kind-row Stack = refl
-kind-row Local = refl
-kind-row Cached = refl
-kind-row Main = refl
-
-load-row : (w : LoadWidth) → row loadTable (loadCode w) some ≡ some w
-unfolding row
-load-row Word = refl
-load-row Half = refl
-load-row Byte = refl
-load-row HalfUnsigned = refl
-load-row ByteUnsigned = refl
-
-store-row : (w : StoreWidth) → row storeTable (storeCode w) some ≡ some w
-unfolding row
-store-row store.Word = refl
-store-row store.Half = refl
-store-row store.Byte = refl
-
 pub alu-inverse : Inverse aluTable aluCode
 alu-inverse = record {
   codes = refl also refl also refl also refl also refl also refl also refl also refl also refl also refl also refl also tt;
-  has = alu-row;
+  has = λ x. alu-row x some;
 }
 
 pub multiply-inverse : Inverse multiplyTable multiplyCode
-multiply-inverse = record { codes = refl also refl also tt; has = multiply-row }
+multiply-inverse = record { codes = refl also refl also tt; has = λ x. multiply-row x some }
 
 pub compare-inverse : Inverse compareTable compareCode
-compare-inverse = record { codes = refl also refl also refl also refl also refl also refl also refl also tt; has = compare-row }
+compare-inverse = record { codes = refl also refl also refl also refl also refl also refl also refl also tt; has = λ x. compare-row x some }
 
 pub predicate-inverse : Inverse predicateTable predicateCode
-predicate-inverse = record { codes = refl also refl also refl also tt; has = predicate-row }
+predicate-inverse = record { codes = refl also refl also refl also tt; has = λ x. predicate-row x some }
 
 pub special-inverse : Inverse specialTable specialCode
 special-inverse = record {
   codes = refl also refl also refl also refl also refl also refl also refl also refl also refl also tt;
-  has = special-row;
+  has = λ x. special-row x some;
 }
 
 pub kind-inverse : Inverse kindTable kindCode
-kind-inverse = record { codes = refl also refl also refl also refl also tt; has = kind-row }
+kind-inverse = record { codes = refl also refl also refl also refl also tt; has = λ x. kind-row x some }
 
 pub load-inverse : Inverse loadTable loadCode
-load-inverse = record { codes = refl also refl also refl also refl also refl also tt; has = load-row }
+load-inverse = record { codes = refl also refl also refl also refl also refl also tt; has = λ x. load-row x some }
 
 pub store-inverse : Inverse storeTable storeCode
-store-inverse = record { codes = refl also refl also refl also tt; has = store-row }
+store-inverse = record { codes = refl also refl also refl also tt; has = λ x. store-row x some }
 
 -- One bit.
 pub bit-back : (n : ℕ) → n < 2 → bit (isSet n) ≡ n
 bit-back zero h = refl
 bit-back (suc zero) h = refl
 bit-back (suc (suc n)) h = absurd (omega arith)
-
-pub bit-forth : (d : Bool) → isSet (bit d) ≡ d
-bit-forth true = refl
-bit-forth false = refl
 
 -- Four bits of a predicate operand: a number that is none of them says that the predicate is none.
 pub operand-back : (n : ℕ) → n < 16 → operandNumber (predicateOperand n) ≡ n

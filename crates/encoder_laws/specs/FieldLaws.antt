@@ -12,10 +12,11 @@ use Rattle.isa.specs.Tables.{kindTable, stackTable, stackRegisterTable, flowTab
 use Rattle.decoder_laws.specs.RangeLaws.{_also_}
 use Rattle.decoder_laws.specs.Layout.{shape, all, fixes, allDiffer}
 use Rattle.fields.specs.Place.{_⟨_⟩, at}
+use Rattle.fields.specs.CodeLaws.{set-bit}
 use Rattle.fields.specs.Fields.{kindCode, loadCode, storeCode, operandNumber, longFields, aluFields, firstFields}
 use Rattle.encoder.specs.Encode.{constantOf}
 use Rattle.encoder_laws.specs.FormatLaws.{unlike, isSound, Tells, AllBack}
-use Rattle.encoder_laws.specs.Codes.{row-back, row-coded, row-of, alu-inverse, multiply-inverse, compare-inverse, predicate-inverse, special-inverse, kind-inverse, load-inverse, store-inverse, bit-back, bit-forth, operand-back, operand-forth, signed-back, signed-forth}
+use Rattle.encoder_laws.specs.Codes.{row-back, row-coded, row-of, alu-inverse, multiply-inverse, compare-inverse, predicate-inverse, special-inverse, kind-inverse, load-inverse, store-inverse, bit-back, operand-back, operand-forth, signed-back, signed-forth}
 use Rattle.isa.specs.declared.PredicateOperand.{PredicateOperand}
 use Rattle.isa.specs.declared.Op2.the-variants as op2
 use Rattle.isa.specs.declared.StackAmount.the-variants as amount
@@ -161,9 +162,9 @@ first-tells (Transfer true (Br z)) = λ h. ap (λ x. some (Transfer true (Br x))
 first-tells (Transfer false (Brcf n)) = λ h. refl
 first-tells (Transfer true (Brcf n)) = λ h. refl
 first-tells (Trap n) = λ h. refl
-first-tells (Transfer d Ret) = λ h. ap (λ x. some (Transfer x Ret)) (bit-forth d)
-first-tells (Xret d) = λ h. ap (λ x. some (Xret x)) (bit-forth d)
-first-tells (Transfer d (CallRegister r)) = λ h. ap (λ x. some (Transfer x (CallRegister r))) (bit-forth d)
-first-tells (Transfer d (BrRegister r)) = λ h. ap (λ x. some (Transfer x (BrRegister r))) (bit-forth d)
-first-tells (Transfer d (BrcfRegister r s)) = λ h. ap (λ x. some (Transfer x (BrcfRegister r s))) (bit-forth d)
+first-tells (Transfer d Ret) = λ h. ap (λ x. some (Transfer x Ret)) (set-bit d)
+first-tells (Xret d) = λ h. ap (λ x. some (Xret x)) (set-bit d)
+first-tells (Transfer d (CallRegister r)) = λ h. ap (λ x. some (Transfer x (CallRegister r))) (set-bit d)
+first-tells (Transfer d (BrRegister r)) = λ h. ap (λ x. some (Transfer x (BrRegister r))) (set-bit d)
+first-tells (Transfer d (BrcfRegister r s)) = λ h. ap (λ x. some (Transfer x (BrcfRegister r s))) (set-bit d)
 first-tells (Alu a) = tt

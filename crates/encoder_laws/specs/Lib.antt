@@ -1,4 +1,4 @@
--- Open first: EncodeLaws.antt, then ExactLaws.antt, EncodeExamples.antt and FieldLaws.antt.
+-- Open first: EncodeLaws.antt, then AskedLaws.antt, ExactLaws.antt, EncodeExamples.antt and FieldLaws.antt.
 pub mod PutLaws
 pub mod PlaceLaws
 pub mod FormatLaws
@@ -7,5 +7,6 @@ pub mod Codes
 pub mod FieldLaws
 pub mod SlotLaws
 pub mod EncodeLaws
+pub mod AskedLaws
 pub mod ExactLaws
 pub mod EncodeExamples

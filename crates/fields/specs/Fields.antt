@@ -33,7 +33,7 @@ use Rattle.isa.specs.declared.AluOperation.the-variants.{Arithmetic, Compare, P
 use Rattle.isa.specs.declared.Operation.{Operation}
 use Rattle.isa.specs.declared.Operation.the-variants.{Alu, Multiply, Mts, Mfs, Load, Store, StackControl, Transfer, Trap, Xret}
 
--- The function codes, the other way round than the tables have them.
+-- From functions, special registers, memories and widths to their codes; the tables go from codes to them.
 abbrev pub aluCode : AluFunction → ℕ
 aluCode Add = 0b0000
 aluCode Sub = 0b0001

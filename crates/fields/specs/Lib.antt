@@ -2,5 +2,6 @@
 pub mod Place
 pub mod Fields
 pub mod Readings
+pub mod CodeLaws
 pub mod BranchLaws
 pub mod GrowLaws

@@ -1,4 +1,5 @@
-// The words of the formats: fixed bits and fields are put, in the order of `Formats` in isa, into a word that has its guard.
+// The words of the formats: fixed bits and fields are put, in the order of `Formats` in isa, into a word that has its guard. Where formats
+// share a function its contract has the numbers put; the callers in encoder join them to their formats.
 ghost use mathlib.Core.Path.{_≡_};
 ghost use mathlib.Core.List.{[], _∷_};
 ghost use Rattle.isa.specs.Formats.{longFormats, aluFormats, firstFormats};

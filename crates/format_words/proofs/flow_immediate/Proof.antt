@@ -3,13 +3,13 @@ use Rattle.format_words.proofs.flow_immediate.Statement.{statement}
 use Rattle.format_words.proofs.flow_immediate.Tie as tie
 
 put-requires : tie.Need-put-requires
-put-requires c κs = search needs
+put-requires c κs = tt
 
 put-requires-2 : tie.Need-put-requires-2
-put-requires-2 c κs = search needs
+put-requires-2 c κs = tt
 
 put-requires-3 : tie.Need-put-requires-3
-put-requires-3 c κs = search needs
+put-requires-3 c κs = tt
 
 returns : tie.Need-returns
 returns c = rw (c .put3 .ensures, c .before .put2 .ensures, c .before .before .put .ensures)

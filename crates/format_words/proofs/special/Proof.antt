@@ -3,16 +3,16 @@ use Rattle.format_words.proofs.special.Statement.{statement}
 use Rattle.format_words.proofs.special.Tie as tie
 
 put-requires : tie.Need-put-requires
-put-requires c κs = search needs
+put-requires c κs = tt
 
 put-requires-2 : tie.Need-put-requires-2
-put-requires-2 c κs = search needs
+put-requires-2 c κs = tt
 
 put-requires-3 : tie.Need-put-requires-3
-put-requires-3 c κs = search needs
+put-requires-3 c κs = tt
 
 put-requires-4 : tie.Need-put-requires-4
-put-requires-4 c κs = search needs
+put-requires-4 c κs = tt
 
 returns : tie.Need-returns
 returns c = rw (c .put4 .ensures, c .before .put3 .ensures, c .before .before .put2 .ensures, c .before .before .before .put .ensures)

@@ -3,7 +3,7 @@ use Rattle.assembly.proofs.operands.opposite.Statement.{statement}
 use Rattle.assembly.proofs.operands.opposite.Tie as tie
 
 enum-known-n : tie.Need-enum-known-n
-enum-known-n c = search needs
+enum-known-n c = c .match .keys1
 
 cast-wide : tie.Need-cast-wide
 cast-wide c = search needs
@@ -15,7 +15,7 @@ cast-t7 : tie.Need-cast-t7
 cast-t7 c = search needs
 
 enum-told : tie.Need-enum-told
-enum-told c = search needs
+enum-told c = c .match .keys2
 
 returns : tie.Need-returns
 returns c = rw (c .before .n .given .1)

@@ -3,13 +3,13 @@ use Rattle.assembly.proofs.operands.plain_or.Statement.{statement}
 use Rattle.assembly.proofs.operands.plain_or.Tie as tie
 
 enum-known-n : tie.Need-enum-known-n
-enum-known-n c = search needs
+enum-known-n c = c .match .keys1
 
 plain-requires : tie.Need-plain-requires
 plain-requires c κs = tt
 
 enum-told : tie.Need-enum-told
-enum-told c = search needs
+enum-told c = c .match .keys2
 
 returns : tie.Need-returns
 returns c = rw (c .before .before .n .given .1, c .plain .ensures)

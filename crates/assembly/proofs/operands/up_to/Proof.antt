@@ -4,10 +4,10 @@ use Rattle.assembly.proofs.operands.up_to.Statement.{statement}
 use Rattle.assembly.proofs.operands.up_to.Tie as tie
 
 enum-known-n : tie.Need-enum-known-n
-enum-known-n c = search needs
+enum-known-n c = c .match .keys1
 
 enum-told : tie.Need-enum-told
-enum-told c = search needs
+enum-told c = c .match .keys2
 
 returns : tie.Need-returns
 returns c = rw (c .before .before .n .given .1, le-leb _ _ (c .if1 .taken))

@@ -2,13 +2,13 @@ use native.Mathlib.Omega.{arith}
 use Rattle.assembly.specs.TableLaws.{all-rows}
 use Rattle.text.specs.Table.{table}
 use Rattle.assembly.specs.Forms.{forms, mnemonics}
-use Rattle.assembly.specs.Assembly.{nameOf}
+use Rattle.assembly.specs.Forms.{nameOf}
 use borrow.Author.Needs.{needs}
 use Rattle.assembly.proofs.table.put_name.Statement.{statement}
 use Rattle.assembly.proofs.table.put_name.Tie as tie
 
 start-of-requires : tie.Need-start-of-requires
-start-of-requires c κs = search needs
+start-of-requires c κs = tt
 
 cast-row : tie.Need-cast-row
 cast-row c = search needs
@@ -20,7 +20,7 @@ slice-aggregate-put-row : tie.Need-slice-aggregate-put-row
 slice-aggregate-put-row c = search needs
 
 put-row-requires : tie.Need-put-row-requires
-put-row-requires c κs = search needs
+put-row-requires c κs = tt
 
 same-length : tie.Need-same-length
 same-length c = search needs

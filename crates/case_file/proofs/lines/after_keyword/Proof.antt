@@ -7,79 +7,79 @@ enum-told : tie.Need-enum-told
 enum-told c = search needs
 
 case-line-requires : tie.Need-case-line-requires
-case-line-requires c κs = search needs
+case-line-requires c κs = tt
 
 enum-told-2 : tie.Need-enum-told-2
 enum-told-2 c = search needs
 
 list-line-requires : tie.Need-list-line-requires
-list-line-requires c κs = search needs
+list-line-requires c κs = tt
 
 enum-known-k : tie.Need-enum-known-k
 enum-known-k c = search needs
 
 number-line-requires : tie.Need-number-line-requires
-number-line-requires c κs = search needs
+number-line-requires c κs = tt
 
 enum-told-3 : tie.Need-enum-told-3
 enum-told-3 c = search needs
 
 three-numbers-requires : tie.Need-three-numbers-requires
-three-numbers-requires c κs = search needs
+three-numbers-requires c κs = tt
 
 enum-told-4 : tie.Need-enum-told-4
 enum-told-4 c = search needs
 
 list-line-requires-2 : tie.Need-list-line-requires-2
-list-line-requires-2 c κs = search needs
+list-line-requires-2 c κs = tt
 
 enum-known-k-2 : tie.Need-enum-known-k-2
 enum-known-k-2 c = search needs
 
 word-line-requires : tie.Need-word-line-requires
-word-line-requires c κs = search needs
+word-line-requires c κs = tt
 
 enum-told-5 : tie.Need-enum-told-5
 enum-told-5 c = search needs
 
 pred-line-requires : tie.Need-pred-line-requires
-pred-line-requires c κs = search needs
+pred-line-requires c κs = tt
 
 enum-told-6 : tie.Need-enum-told-6
 enum-told-6 c = search needs
 
 special-line-requires : tie.Need-special-line-requires
-special-line-requires c κs = search needs
+special-line-requires c κs = tt
 
 enum-told-7 : tie.Need-enum-told-7
 enum-told-7 c = search needs
 
 transfer-line-requires : tie.Need-transfer-line-requires
-transfer-line-requires c κs = search needs
+transfer-line-requires c κs = tt
 
 enum-told-8 : tie.Need-enum-told-8
 enum-told-8 c = search needs
 
 whole-requires : tie.Need-whole-requires
-whole-requires c κs = search needs
+whole-requires c κs = tt
 
 enum-told-9 : tie.Need-enum-told-9
 enum-told-9 c = search needs
 
 whole-requires-2 : tie.Need-whole-requires-2
-whole-requires-2 c κs = search needs
+whole-requires-2 c κs = tt
 
 enum-told-10 : tie.Need-enum-told-10
 enum-told-10 c = search needs
 
 list-line-requires-3 : tie.Need-list-line-requires-3
-list-line-requires-3 c κs = search needs
+list-line-requires-3 c κs = tt
 
 enum-told-11 : tie.Need-enum-told-11
 enum-told-11 c = search needs
 
 whole-requires-3 : tie.Need-whole-requires-3
-whole-requires-3 c κs = search needs
+whole-requires-3 c κs = tt
 
 enum-told-12 : tie.Need-enum-told-12
 enum-told-12 c = search needs

@@ -3,13 +3,13 @@ use Rattle.encoder.proofs.bundles.constant_in.Statement.{statement}
 use Rattle.encoder.proofs.bundles.constant_in.Tie as tie
 
 enum-told : tie.Need-enum-told
-enum-told c = search needs
+enum-told c = c .match .keys1
 
 enum-told-2 : tie.Need-enum-told-2
-enum-told-2 c = search needs
+enum-told-2 c = c .match .keys2
 
 enum-known-op2 : tie.Need-enum-known-op2
-enum-known-op2 c = search needs
+enum-known-op2 c = c .match .keys3
 
 returns : tie.Need-returns
 returns c = search needs

@@ -3,19 +3,19 @@ use Rattle.encoder.proofs.bundles.constant_of.Statement.{statement}
 use Rattle.encoder.proofs.bundles.constant_of.Tie as tie
 
 enum-known-a : tie.Need-enum-known-a
-enum-known-a c = search needs
+enum-known-a c = c .match .keys1
 
 constant-in-requires : tie.Need-constant-in-requires
-constant-in-requires c κs = search needs
+constant-in-requires c κs = tt
 
 enum-told : tie.Need-enum-told
-enum-told c = search needs
+enum-told c = c .match .keys2
 
 enum-told-2 : tie.Need-enum-told-2
-enum-told-2 c = search needs
+enum-told-2 c = c .match .keys3
 
 enum-told-3 : tie.Need-enum-told-3
-enum-told-3 c = search needs
+enum-told-3 c = c .match .keys4
 
 returns : tie.Need-returns
 returns c = rw (c .before .before .a .given .1) (c .constant-in .ensures)

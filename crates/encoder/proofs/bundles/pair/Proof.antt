@@ -4,13 +4,13 @@ use Rattle.encoder.proofs.bundles.pair.Statement.{statement}
 use Rattle.encoder.proofs.bundles.pair.Tie as tie
 
 either-slot-requires : tie.Need-either-slot-requires
-either-slot-requires c κs = search needs
+either-slot-requires c κs = tt
 
 enum-told : tie.Need-enum-told
-enum-told c = search needs
+enum-told c = c .match .keys1
 
 enum-known-a : tie.Need-enum-known-a
-enum-known-a c = search needs
+enum-known-a c = c .match .keys2
 
 returns : tie.Need-returns
 unfolding pair

@@ -4,22 +4,22 @@ use Rattle.encoder.proofs.bundles.single.Statement.{statement}
 use Rattle.encoder.proofs.bundles.single.Tie as tie
 
 either-slot-requires : tie.Need-either-slot-requires
-either-slot-requires c κs = search needs
+either-slot-requires c κs = tt
 
 enum-told : tie.Need-enum-told
-enum-told c = search needs
+enum-told c = c .match .keys1
 
 enum-known-a : tie.Need-enum-known-a
-enum-known-a c = search needs
+enum-known-a c = c .match .keys2
 
 constant-of-requires : tie.Need-constant-of-requires
-constant-of-requires c κs = search needs
+constant-of-requires c κs = tt
 
 enum-told-2 : tie.Need-enum-told-2
-enum-told-2 c = search needs
+enum-told-2 c = c .match2 .keys1
 
 enum-told-3 : tie.Need-enum-told-3
-enum-told-3 c = search needs
+enum-told-3 c = c .match2 .keys2
 
 returns : tie.Need-returns
 unfolding single

@@ -3,10 +3,10 @@ use Rattle.encoder.proofs.words.alone.Statement.{statement}
 use Rattle.encoder.proofs.words.alone.Tie as tie
 
 enum-told : tie.Need-enum-told
-enum-told c = search needs
+enum-told c = c .match .keys1
 
 enum-known-w : tie.Need-enum-known-w
-enum-known-w c = search needs
+enum-known-w c = c .match .keys2
 
 returns : tie.Need-returns
 returns c = search needs

@@ -4,40 +4,40 @@ use Rattle.encoder.proofs.words.alu_word.Statement.{statement}
 use Rattle.encoder.proofs.words.alu_word.Tie as tie
 
 enum-known-a : tie.Need-enum-known-a
-enum-known-a c = search needs
+enum-known-a c = c .match .keys1
 
 arithmetic-requires : tie.Need-arithmetic-requires
-arithmetic-requires c κs = search needs
+arithmetic-requires c κs = tt
 
 enum-known-a-2 : tie.Need-enum-known-a-2
-enum-known-a-2 c = search needs
+enum-known-a-2 c = c .match .keys2
 
 compare-requires : tie.Need-compare-requires
-compare-requires c κs = search needs
+compare-requires c κs = tt
 
 enum-known-a-3 : tie.Need-enum-known-a-3
-enum-known-a-3 c = search needs
+enum-known-a-3 c = c .match .keys3
 
 operand-number-requires : tie.Need-operand-number-requires
-operand-number-requires c κs = search needs
+operand-number-requires c κs = tt
 
 operand-number-requires-2 : tie.Need-operand-number-requires-2
-operand-number-requires-2 c κs = search needs
+operand-number-requires-2 c κs = tt
 
 predicate-code-requires : tie.Need-predicate-code-requires
-predicate-code-requires c κs = search needs
+predicate-code-requires c κs = tt
 
 alu-requires : tie.Need-alu-requires
-alu-requires c κs = search needs
+alu-requires c κs = tt
 
 enum-known-a-4 : tie.Need-enum-known-a-4
-enum-known-a-4 c = search needs
+enum-known-a-4 c = c .match .keys4
 
 operand-number-requires-3 : tie.Need-operand-number-requires-3
-operand-number-requires-3 c κs = search needs
+operand-number-requires-3 c κs = tt
 
 alu-requires-2 : tie.Need-alu-requires-2
-alu-requires-2 c κs = search needs
+alu-requires-2 c κs = tt
 
 returns : tie.Need-returns
 unfolding writing

@@ -4,16 +4,16 @@ use Rattle.encoder.proofs.words.amount_word.Statement.{statement}
 use Rattle.encoder.proofs.words.amount_word.Tie as tie
 
 enum-known-amount : tie.Need-enum-known-amount
-enum-known-amount c = search needs
+enum-known-amount c = c .match .keys1
 
 stack-requires : tie.Need-stack-requires
-stack-requires c κs = search needs
+stack-requires c κs = tt
 
 enum-known-amount-2 : tie.Need-enum-known-amount-2
-enum-known-amount-2 c = search needs
+enum-known-amount-2 c = c .match .keys2
 
 stack-requires-2 : tie.Need-stack-requires-2
-stack-requires-2 c κs = search needs
+stack-requires-2 c κs = tt
 
 returns : tie.Need-returns
 unfolding writing

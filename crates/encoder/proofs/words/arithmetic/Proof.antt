@@ -4,22 +4,22 @@ use Rattle.encoder.proofs.words.arithmetic.Statement.{statement}
 use Rattle.encoder.proofs.words.arithmetic.Tie as tie
 
 alu-code-requires : tie.Need-alu-code-requires
-alu-code-requires c κs = search needs
+alu-code-requires c κs = tt
 
 enum-known-op2 : tie.Need-enum-known-op2
-enum-known-op2 c = search needs
+enum-known-op2 c = c .match .keys1
 
 alu-requires : tie.Need-alu-requires
-alu-requires c κs = search needs
+alu-requires c κs = tt
 
 enum-known-op2-2 : tie.Need-enum-known-op2-2
-enum-known-op2-2 c = search needs
+enum-known-op2-2 c = c .match .keys2
 
 alu-immediate-requires : tie.Need-alu-immediate-requires
-alu-immediate-requires c κs = search needs
+alu-immediate-requires c κs = tt
 
 enum-told : tie.Need-enum-told
-enum-told c = search needs
+enum-told c = c .match .keys3
 
 returns : tie.Need-returns
 unfolding writing

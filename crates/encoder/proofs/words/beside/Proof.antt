@@ -3,16 +3,16 @@ use Rattle.encoder.proofs.words.beside.Statement.{statement}
 use Rattle.encoder.proofs.words.beside.Tie as tie
 
 enum-told : tie.Need-enum-told
-enum-told c = search needs
+enum-told c = c .match .keys1
 
 enum-known-w : tie.Need-enum-known-w
-enum-known-w c = search needs
+enum-known-w c = c .match .keys2
 
 enum-told-2 : tie.Need-enum-told-2
-enum-told-2 c = search needs
+enum-told-2 c = c .match2 .keys1
 
 enum-known-v : tie.Need-enum-known-v
-enum-known-v c = search needs
+enum-known-v c = c .match2 .keys2
 
 returns : tie.Need-returns
 returns c = search needs

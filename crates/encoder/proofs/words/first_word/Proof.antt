@@ -4,85 +4,85 @@ use Rattle.encoder.proofs.words.first_word.Statement.{statement}
 use Rattle.encoder.proofs.words.first_word.Tie as tie
 
 enum-told : tie.Need-enum-told
-enum-told c = search needs
+enum-told c = c .match .keys1
 
 enum-known-o : tie.Need-enum-known-o
-enum-known-o c = search needs
+enum-known-o c = c .match .keys2
 
 multiply-code-requires : tie.Need-multiply-code-requires
-multiply-code-requires c κs = search needs
+multiply-code-requires c κs = tt
 
 multiply-requires : tie.Need-multiply-requires
-multiply-requires c κs = search needs
+multiply-requires c κs = tt
 
 enum-known-o-2 : tie.Need-enum-known-o-2
-enum-known-o-2 c = search needs
+enum-known-o-2 c = c .match .keys3
 
 special-code-requires : tie.Need-special-code-requires
-special-code-requires c κs = search needs
+special-code-requires c κs = tt
 
 special-requires : tie.Need-special-requires
-special-requires c κs = search needs
+special-requires c κs = tt
 
 enum-known-o-3 : tie.Need-enum-known-o-3
-enum-known-o-3 c = search needs
+enum-known-o-3 c = c .match .keys4
 
 special-code-requires-2 : tie.Need-special-code-requires-2
-special-code-requires-2 c κs = search needs
+special-code-requires-2 c κs = tt
 
 special-requires-2 : tie.Need-special-requires-2
-special-requires-2 c κs = search needs
+special-requires-2 c κs = tt
 
 enum-known-o-4 : tie.Need-enum-known-o-4
-enum-known-o-4 c = search needs
+enum-known-o-4 c = c .match .keys5
 
 load-code-requires : tie.Need-load-code-requires
-load-code-requires c κs = search needs
+load-code-requires c κs = tt
 
 kind-code-requires : tie.Need-kind-code-requires
-kind-code-requires c κs = search needs
+kind-code-requires c κs = tt
 
 load-requires : tie.Need-load-requires
-load-requires c κs = search needs
+load-requires c κs = tt
 
 enum-known-o-5 : tie.Need-enum-known-o-5
-enum-known-o-5 c = search needs
+enum-known-o-5 c = c .match .keys6
 
 store-code-requires : tie.Need-store-code-requires
-store-code-requires c κs = search needs
+store-code-requires c κs = tt
 
 kind-code-requires-2 : tie.Need-kind-code-requires-2
-kind-code-requires-2 c κs = search needs
+kind-code-requires-2 c κs = tt
 
 store-requires : tie.Need-store-requires
-store-requires c κs = search needs
+store-requires c κs = tt
 
 enum-known-o-6 : tie.Need-enum-known-o-6
-enum-known-o-6 c = search needs
+enum-known-o-6 c = c .match .keys7
 
 stack-word-requires : tie.Need-stack-word-requires
-stack-word-requires c κs = search needs
+stack-word-requires c κs = tt
 
 enum-known-o-7 : tie.Need-enum-known-o-7
-enum-known-o-7 c = search needs
+enum-known-o-7 c = c .match .keys8
 
 transfer-word-requires : tie.Need-transfer-word-requires
-transfer-word-requires c κs = search needs
+transfer-word-requires c κs = tt
 
 enum-known-o-8 : tie.Need-enum-known-o-8
-enum-known-o-8 c = search needs
+enum-known-o-8 c = c .match .keys9
 
 flow-immediate-requires : tie.Need-flow-immediate-requires
-flow-immediate-requires c κs = search needs
+flow-immediate-requires c κs = tt
 
 enum-known-o-9 : tie.Need-enum-known-o-9
-enum-known-o-9 c = search needs
+enum-known-o-9 c = c .match .keys10
 
 bit-requires : tie.Need-bit-requires
-bit-requires c κs = search needs
+bit-requires c κs = tt
 
 flow-implicit-requires : tie.Need-flow-implicit-requires
-flow-implicit-requires c κs = search needs
+flow-implicit-requires c κs = tt
 
 returns : tie.Need-returns
 unfolding writing

@@ -4,10 +4,10 @@ use Rattle.encoder.proofs.words.guarded.Statement.{statement}
 use Rattle.encoder.proofs.words.guarded.Tie as tie
 
 operand-number-requires : tie.Need-operand-number-requires
-operand-number-requires c κs = search needs
+operand-number-requires c κs = tt
 
 put-requires : tie.Need-put-requires
-put-requires c κs = search needs
+put-requires c κs = tt
 
 returns : tie.Need-returns
 unfolding guarded

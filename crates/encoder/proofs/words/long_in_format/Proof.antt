@@ -4,31 +4,31 @@ use Rattle.encoder.proofs.words.long_in_format.Statement.{statement}
 use Rattle.encoder.proofs.words.long_in_format.Tie as tie
 
 enum-known-a : tie.Need-enum-known-a
-enum-known-a c = search needs
+enum-known-a c = c .match .keys1
 
 enum-told : tie.Need-enum-told
-enum-told c = search needs
+enum-told c = c .match2 .keys1
 
 enum-told-2 : tie.Need-enum-told-2
-enum-told-2 c = search needs
+enum-told-2 c = c .match2 .keys2
 
 enum-told-3 : tie.Need-enum-told-3
-enum-told-3 c = search needs
+enum-told-3 c = c .match2 .keys3
 
 alu-code-requires : tie.Need-alu-code-requires
-alu-code-requires c κs = search needs
+alu-code-requires c κs = tt
 
 alu-long-requires : tie.Need-alu-long-requires
-alu-long-requires c κs = search needs
+alu-long-requires c κs = tt
 
 enum-told-4 : tie.Need-enum-told-4
-enum-told-4 c = search needs
+enum-told-4 c = c .match .keys2
 
 enum-told-5 : tie.Need-enum-told-5
-enum-told-5 c = search needs
+enum-told-5 c = c .match .keys3
 
 enum-told-6 : tie.Need-enum-told-6
-enum-told-6 c = search needs
+enum-told-6 c = c .match .keys4
 
 returns : tie.Need-returns
 unfolding writing

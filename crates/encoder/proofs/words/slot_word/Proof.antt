@@ -4,25 +4,25 @@ use Rattle.encoder.proofs.words.slot_word.Statement.{statement}
 use Rattle.encoder.proofs.words.slot_word.Tie as tie
 
 guarded-requires : tie.Need-guarded-requires
-guarded-requires c κs = search needs
+guarded-requires c κs = tt
 
 put-requires : tie.Need-put-requires
-put-requires c κs = search needs
+put-requires c κs = tt
 
 either-slot-requires : tie.Need-either-slot-requires
-either-slot-requires c κs = search needs
+either-slot-requires c κs = tt
 
 enum-told : tie.Need-enum-told
-enum-told c = search needs
+enum-told c = c .match .keys1
 
 first-word-requires : tie.Need-first-word-requires
-first-word-requires c κs = search needs
+first-word-requires c κs = tt
 
 enum-known-a : tie.Need-enum-known-a
-enum-known-a c = search needs
+enum-known-a c = c .match .keys2
 
 alu-word-requires : tie.Need-alu-word-requires
-alu-word-requires c κs = search needs
+alu-word-requires c κs = tt
 
 returns : tie.Need-returns
 unfolding slotWord

@@ -3,28 +3,28 @@ use Rattle.encoder.proofs.words.stack_word.Statement.{statement}
 use Rattle.encoder.proofs.words.stack_word.Tie as tie
 
 enum-known-o : tie.Need-enum-known-o
-enum-known-o c = search needs
+enum-known-o c = c .match .keys1
 
 amount-word-requires : tie.Need-amount-word-requires
-amount-word-requires c κs = search needs
+amount-word-requires c κs = tt
 
 enum-known-o-2 : tie.Need-enum-known-o-2
-enum-known-o-2 c = search needs
+enum-known-o-2 c = c .match .keys2
 
 amount-word-requires-2 : tie.Need-amount-word-requires-2
-amount-word-requires-2 c κs = search needs
+amount-word-requires-2 c κs = tt
 
 enum-known-o-3 : tie.Need-enum-known-o-3
-enum-known-o-3 c = search needs
+enum-known-o-3 c = c .match .keys3
 
 amount-word-requires-3 : tie.Need-amount-word-requires-3
-amount-word-requires-3 c κs = search needs
+amount-word-requires-3 c κs = tt
 
 enum-known-o-4 : tie.Need-enum-known-o-4
-enum-known-o-4 c = search needs
+enum-known-o-4 c = c .match .keys4
 
 amount-word-requires-4 : tie.Need-amount-word-requires-4
-amount-word-requires-4 c κs = search needs
+amount-word-requires-4 c κs = tt
 
 returns : tie.Need-returns
 returns c = rw (c .before .before .o .given .1) (c .amount-word .ensures)

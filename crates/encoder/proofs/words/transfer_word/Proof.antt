@@ -9,58 +9,58 @@ use Rattle.encoder.proofs.words.transfer_word.Statement.{statement}
 use Rattle.encoder.proofs.words.transfer_word.Tie as tie
 
 bit-requires : tie.Need-bit-requires
-bit-requires c κs = search needs
+bit-requires c κs = tt
 
 enum-known-target : tie.Need-enum-known-target
-enum-known-target c = search needs
+enum-known-target c = c .match .keys1
 
 flow-immediate-requires : tie.Need-flow-immediate-requires
-flow-immediate-requires c κs = search needs
+flow-immediate-requires c κs = tt
 
 enum-known-target-2 : tie.Need-enum-known-target-2
-enum-known-target-2 c = search needs
+enum-known-target-2 c = c .match .keys2
 
 add-flow-immediate : tie.Need-add-flow-immediate
 add-flow-immediate c = record { fits = rw (c .before .before .before .bit .ensures) (bit-fits 2 (c .before .before .before .before .args .delayed) (omega arith)) }
 
 branch-number-requires : tie.Need-branch-number-requires
-branch-number-requires c κs = search needs
+branch-number-requires c κs = tt
 
 flow-immediate-requires-2 : tie.Need-flow-immediate-requires-2
-flow-immediate-requires-2 c κs = search needs
+flow-immediate-requires-2 c κs = tt
 
 enum-known-target-3 : tie.Need-enum-known-target-3
-enum-known-target-3 c = search needs
+enum-known-target-3 c = c .match .keys3
 
 add-flow-immediate-2 : tie.Need-add-flow-immediate-2
 add-flow-immediate-2 c = record { fits = rw (c .before .before .before .bit .ensures) (bit-fits 4 (c .before .before .before .before .args .delayed) (omega arith)) }
 
 flow-immediate-requires-3 : tie.Need-flow-immediate-requires-3
-flow-immediate-requires-3 c κs = search needs
+flow-immediate-requires-3 c κs = tt
 
 enum-known-target-4 : tie.Need-enum-known-target-4
-enum-known-target-4 c = search needs
+enum-known-target-4 c = c .match .keys4
 
 flow-single-requires : tie.Need-flow-single-requires
-flow-single-requires c κs = search needs
+flow-single-requires c κs = tt
 
 enum-known-target-5 : tie.Need-enum-known-target-5
-enum-known-target-5 c = search needs
+enum-known-target-5 c = c .match .keys5
 
 flow-single-requires-2 : tie.Need-flow-single-requires-2
-flow-single-requires-2 c κs = search needs
+flow-single-requires-2 c κs = tt
 
 enum-known-target-6 : tie.Need-enum-known-target-6
-enum-known-target-6 c = search needs
+enum-known-target-6 c = c .match .keys6
 
 flow-two-requires : tie.Need-flow-two-requires
-flow-two-requires c κs = search needs
+flow-two-requires c κs = tt
 
 enum-told : tie.Need-enum-told
-enum-told c = search needs
+enum-told c = c .match .keys7
 
 flow-implicit-requires : tie.Need-flow-implicit-requires
-flow-implicit-requires c κs = search needs
+flow-implicit-requires c κs = tt
 
 returns : tie.Need-returns
 unfolding writing

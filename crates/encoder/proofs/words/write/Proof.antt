@@ -4,34 +4,34 @@ use Rattle.encoder.proofs.words.write.Statement.{statement}
 use Rattle.encoder.proofs.words.write.Tie as tie
 
 enum-told : tie.Need-enum-told
-enum-told c = search needs
+enum-told c = c .match .keys1
 
 enum-known-b : tie.Need-enum-known-b
-enum-known-b c = search needs
+enum-known-b c = c .match .keys2
 
 slot-word-requires : tie.Need-slot-word-requires
-slot-word-requires c κs = search needs
+slot-word-requires c κs = tt
 
 alone-requires : tie.Need-alone-requires
-alone-requires c κs = search needs
+alone-requires c κs = tt
 
 enum-known-b-2 : tie.Need-enum-known-b-2
-enum-known-b-2 c = search needs
+enum-known-b-2 c = c .match .keys3
 
 slot-word-requires-2 : tie.Need-slot-word-requires-2
-slot-word-requires-2 c κs = search needs
+slot-word-requires-2 c κs = tt
 
 slot-word-requires-3 : tie.Need-slot-word-requires-3
-slot-word-requires-3 c κs = search needs
+slot-word-requires-3 c κs = tt
 
 beside-requires : tie.Need-beside-requires
-beside-requires c κs = search needs
+beside-requires c κs = tt
 
 enum-known-b-3 : tie.Need-enum-known-b-3
-enum-known-b-3 c = search needs
+enum-known-b-3 c = c .match .keys4
 
 write-long-requires : tie.Need-write-long-requires
-write-long-requires c κs = search needs
+write-long-requires c κs = tt
 
 returns : tie.Need-returns
 unfolding written
@@ -43,7 +43,8 @@ returns-2 c = rw (c .before .before .before .before .b .given .1, ← c .before 
 
 returns-3 : tie.Need-returns-3
 unfolding written
-returns-3 c = rw (c .before .before .before .before .before .before .b2 .given .1, ← c .before .before .slot-word2 .ensures, ← c .before .slot-word3 .ensures) (c .beside .ensures)
+returns-3 c = rw (c .before .before .before .before .before .before .b2 .given .1)
+    (rw (c .before .before .slot-word2 .ensures, c .before .slot-word3 .ensures) at (c .beside .ensures))
 
 returns-4 : tie.Need-returns-4
 unfolding written

@@ -3,25 +3,25 @@ use Rattle.encoder.proofs.words.write_long.Statement.{statement}
 use Rattle.encoder.proofs.words.write_long.Tie as tie
 
 either-slot-requires : tie.Need-either-slot-requires
-either-slot-requires c κs = search needs
+either-slot-requires c κs = tt
 
 enum-told : tie.Need-enum-told
-enum-told c = search needs
+enum-told c = c .match .keys1
 
 enum-known-a : tie.Need-enum-known-a
-enum-known-a c = search needs
+enum-known-a c = c .match .keys2
 
 guarded-requires : tie.Need-guarded-requires
-guarded-requires c κs = search needs
+guarded-requires c κs = tt
 
 long-in-format-requires : tie.Need-long-in-format-requires
-long-in-format-requires c κs = search needs
+long-in-format-requires c κs = tt
 
 constant-of-requires : tie.Need-constant-of-requires
-constant-of-requires c κs = search needs
+constant-of-requires c κs = tt
 
 beside-requires : tie.Need-beside-requires
-beside-requires c κs = search needs
+beside-requires c κs = tt
 
 returns : tie.Need-returns
 returns c = rw (← c .before .before .either-slot .ensures, c .enum-told .given .1)

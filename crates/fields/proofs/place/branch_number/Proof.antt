@@ -1,12 +1,11 @@
 use Rattle.fields.specs.BranchLaws.{branch-number}
 use borrow.Author.Tests.{lt-ltb, le-ltb, le-leb, lt-leb}
-use Rattle.fields.specs.BranchLaws.{branch-number}
 use borrow.Author.Needs.{needs}
 use Rattle.fields.proofs.place.branch_number.Statement.{statement}
 use Rattle.fields.proofs.place.branch_number.Tie as tie
 
 unsigned-requires : tie.Need-unsigned-requires
-unsigned-requires c κs = search needs
+unsigned-requires c κs = tt
 
 returns : tie.Need-returns
 returns c = rw (← branch-number _ (c .before .before .fits .z) _ (c .before .unsigned .ensures), lt-ltb _ _ (c .if1 .taken))

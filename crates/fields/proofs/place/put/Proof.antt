@@ -4,13 +4,13 @@ use Rattle.fields.proofs.place.put.Statement.{statement}
 use Rattle.fields.proofs.place.put.Tie as tie
 
 enum-told : tie.Need-enum-told
-enum-told c = search needs
+enum-told c = c .match .keys1
 
 enum-known-w : tie.Need-enum-known-w
-enum-known-w c = search needs
+enum-known-w c = c .match .keys2
 
 grow-requires : tie.Need-grow-requires
-grow-requires c κs = search needs
+grow-requires c κs = tt
 
 returns : tie.Need-returns
 returns c = search needs

@@ -1,0 +1,29 @@
+// The text of a bundle, read: what a case file asks to be written.
+pub mod making;
+pub mod reading;
+
+use case_file::Reason;
+use isa::Bundle;
+use isa::Instruction;
+use isa::Operation;
+
+// What a name and its operands make. A name that no instruction has makes nothing.
+pub enum Made {
+    Nothing,
+    Found(Operation),
+}
+
+// An instruction, and the position after it.
+pub enum InstructionRead {
+    Found {
+        instruction: Instruction,
+        next: usize,
+    },
+    Mistake(Reason),
+}
+
+// What the rest of a line asks to be written.
+pub enum BundleRead {
+    Found(Bundle),
+    Mistake(Reason),
+}

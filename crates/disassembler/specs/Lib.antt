@@ -1,0 +1,4 @@
+-- Open first: Text.antt, then Shown.antt.
+pub mod Shown
+pub mod Text
+pub mod ShowingLaws
