@@ -6,14 +6,14 @@ ghost use Rattle.settings.specs.Setup.{buffers, found, left, lent, setup, setup
 ghost use Rattle.core_state.specs.Core.{foundState, Kept};
 ghost use Rattle.bundle_model.specs.Execute.{handedBack};
 ghost use Rattle.run_model.specs.Loop.{goesOn, advanced};
-use crate::outcome::ended;
-use crate::outcome::no_counts;
-use crate::outcome::refused;
-use crate::ready::readiness;
 use crate::underway::Underway;
 use bundle_model::Advanced;
 use bundle_model::Answer;
 use bundle_model::Readiness;
+use bundle_model::outcome::ended;
+use bundle_model::outcome::no_counts;
+use bundle_model::outcome::refused;
+use bundle_model::ready::readiness;
 use core_state::Core;
 use core_state::judged::has_ended;
 use settings::Config;

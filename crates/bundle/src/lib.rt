@@ -3,8 +3,6 @@
 // Open first: advance.rt, then underway.rt.
 pub mod advance;
 mod execute;
-mod outcome;
-mod ready;
 mod slot_one;
 mod stack_moves;
 mod underway;

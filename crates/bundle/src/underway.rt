@@ -5,20 +5,17 @@ ghost use lib.ListN.{length};
 ghost use Rattle.settings.specs.Settings.{admits};
 ghost use Rattle.settings.specs.Setup.{found, left, setupOf};
 ghost use Rattle.core_state.specs.Core.{foundState, Kept};
-ghost use Rattle.bundle_model.specs.Counts.{Few};
+ghost use Rattle.bundle_model.specs.Counts.{Few, Fit, plus};
 ghost use Rattle.bundle_model.specs.Bundle.{bundle};
 ghost use Rattle.bundle_model.specs.Execute.{handedBack};
 ghost use Rattle.run_model.specs.Run.{counted};
 use crate::execute::execute;
-use crate::outcome::refused;
-use crate::outcome::sum;
 use bundle_model::Advanced;
 use bundle_model::Counts;
+use bundle_model::Slots;
+use bundle_model::fetching::slots;
+use bundle_model::outcome::refused;
 use core_state::Core;
-use effects::slot::slot_one;
-use effects::slot::slot_two;
-use fetch::Fetched;
-use fetch::fetch;
 use settings::Settings;
 
 // The state, whose registers and predicates are lent, and what was counted so far.
@@ -65,6 +62,19 @@ impl Underway {
     }
 }
 
+// The counts of bundles done one after the other.
+fn sum(c: Counts, d: Counts) -> Counts
+    requires { ⌜ Fit (plus c d) ⌝ }
+    ensures { λ r. ⌜ r ≡ plus c d ⌝ }
+{
+    Counts {
+        bundles: c.bundles + d.bundles,
+        cycles: c.cycles + d.cycles,
+        spilled: c.spilled + d.spilled,
+        filled: c.filled + d.filled,
+    }
+}
+
 // The bundle at the fetch address of a state, done or refused.
 fn bundle(
     core: Core,
@@ -80,24 +90,24 @@ fn bundle(
     ensures { λ r. ⌜ Kept (handedBack registers predicates r (left main local cache) ≡ bundle g (setupOf (now (code .entry)) g) (foundState registers predicates core) (found main local cache)) core (r .core) ⌝ }
 {
     let at = core.fetch;
-    match fetch(code, at) {
-        Fetched::Refused(n) => refused(core, n),
-        Fetched::Found { bundle, following } => {
-            let specials = core.specials;
-            let one = slot_one(&*registers, &*predicates, specials, at, bundle);
-            let two = slot_two(&*registers, &*predicates, bundle);
-            execute(
-                core,
-                &mut *registers,
-                &mut *predicates,
-                g,
-                one,
-                two,
-                following as u32,
-                &mut *main,
-                &mut *local,
-                &mut *cache,
-            )
-        }
+    let specials = core.specials;
+    match slots(&*registers, &*predicates, specials, code, at) {
+        Slots::Refused(n) => refused(core, n),
+        Slots::Found {
+            one,
+            two,
+            following,
+        } => execute(
+            core,
+            &mut *registers,
+            &mut *predicates,
+            g,
+            one,
+            two,
+            following as u32,
+            &mut *main,
+            &mut *local,
+            &mut *cache,
+        ),
     }
 }

@@ -1,4 +1,5 @@
-// What a bundle that is not refused writes to the state, in the order of the writes, and its cycles.
+// What a bundle that is not refused writes to the state, in the order of the writes, and its cycles; before that, slot one carried out on
+// the stores.
 ghost use mathlib.Core.Path.{_≡_};
 ghost use mathlib.Core.Bool.{Bool, cond};
 ghost use mathlib.Core.List.{List};
@@ -16,6 +17,8 @@ use core_state::WaitingLoad;
 use core_state::waiting::load_waits;
 use effects::Effect;
 use effects::Transfer;
+
+pub mod slot_one;
 
 // What slot one writes, where carrying it out gave a loaded value, or st and ss.
 fn write_one(

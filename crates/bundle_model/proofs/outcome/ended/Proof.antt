@@ -1,6 +1,6 @@
 use mathlib.Core.Path.{refl}
-use Rattle.bundle.proofs.outcome.ended.Statement.{statement}
-use Rattle.bundle.proofs.outcome.ended.Tie as tie
+use Rattle.bundle_model.proofs.outcome.ended.Statement.{statement}
+use Rattle.bundle_model.proofs.outcome.ended.Tie as tie
 
 no-counts-requires : tie.Need-no-counts-requires
 no-counts-requires c κs = tt

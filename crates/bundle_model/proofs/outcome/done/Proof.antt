@@ -1,6 +1,6 @@
 use mathlib.Core.Path.{refl}
-use Rattle.bundle.proofs.outcome.done.Statement.{statement}
-use Rattle.bundle.proofs.outcome.done.Tie as tie
+use Rattle.bundle_model.proofs.outcome.done.Statement.{statement}
+use Rattle.bundle_model.proofs.outcome.done.Tie as tie
 
 wide-requires : tie.Need-wide-requires
 wide-requires c κs = tt

@@ -1,6 +1,6 @@
 use Rattle.bundle_model.specs.Bundle.{readiness}
-use Rattle.bundle.proofs.ready.readiness.Statement.{statement}
-use Rattle.bundle.proofs.ready.readiness.Tie as tie
+use Rattle.bundle_model.proofs.ready.readiness.Statement.{statement}
+use Rattle.bundle_model.proofs.ready.readiness.Tie as tie
 
 admits-requires : tie.Need-admits-requires
 admits-requires c κs = tt

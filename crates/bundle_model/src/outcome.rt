@@ -1,17 +1,18 @@
-// What is given of a bundle that is refused or done, where the code has ended, and how counts are summed.
+// What is given of a bundle that is refused or done, and where the code has ended.
 ghost use mathlib.Core.Path.{_≡_};
 ghost use mathlib.Core.Bool.{Bool};
 ghost use mathlib.Core.List.{List};
 ghost use Prim.Native.Nat.{ℕ};
 ghost use Rattle.core_state.specs.Core.{joined};
-ghost use Rattle.bundle_model.specs.Counts.{noCounts, plus, Fit};
-ghost use Rattle.bundle_model.specs.Execute.{steppedAs, refusedWith, endedWith, doneWith};
-use bundle_model::Advanced;
-use bundle_model::Answer;
-use bundle_model::Counts;
+ghost use Rattle.bundle_model.specs.Counts.{noCounts};
+ghost use Rattle.bundle_model.specs.Execute.{steppedAs, refusedWith, endedWith, doneWith, plainly};
+use crate::Advanced;
+use crate::Answer;
+use crate::Carried;
+use crate::Counts;
 use core_state::Core;
 
-pub(crate) fn no_counts() -> Counts
+pub fn no_counts() -> Counts
     ensures { λ r. ⌜ r ≡ noCounts ⌝ }
 {
     Counts {
@@ -23,7 +24,7 @@ pub(crate) fn no_counts() -> Counts
 }
 
 // A refused bundle changes nothing and counts nothing.
-pub(crate) fn refused(core: Core, n: u32) -> Advanced
+pub fn refused(core: Core, n: u32) -> Advanced
     ensures { λ r. ⌜ ((rs : List ℕ) (ps : List Bool) → steppedAs rs ps r ≡ refusedWith (joined rs ps core) n) × (r .core ≡ core) ⌝ }
 {
     Advanced {
@@ -34,7 +35,7 @@ pub(crate) fn refused(core: Core, n: u32) -> Advanced
 }
 
 // Where the code has ended all stays as it is, and nothing is counted.
-pub(crate) fn ended(core: Core) -> Advanced
+pub fn ended(core: Core) -> Advanced
     ensures { λ r. ⌜ ((rs : List ℕ) (ps : List Bool) → steppedAs rs ps r ≡ endedWith (joined rs ps core)) × (r .core ≡ core) ⌝ }
 {
     Advanced {
@@ -44,7 +45,7 @@ pub(crate) fn ended(core: Core) -> Advanced
     }
 }
 
-pub(crate) fn done(core: Core, cycles: u64, spilled: u32, filled: u32) -> Advanced
+pub fn done(core: Core, cycles: u64, spilled: u32, filled: u32) -> Advanced
     ensures { λ r. ⌜ ((rs : List ℕ) (ps : List Bool) → steppedAs rs ps r ≡ doneWith (joined rs ps core) cycles spilled filled) × (r .core ≡ core) ⌝ }
 {
     Advanced {
@@ -59,21 +60,21 @@ pub(crate) fn done(core: Core, cycles: u64, spilled: u32, filled: u32) -> Advanc
     }
 }
 
-// The counts of bundles done one after the other.
-pub(crate) fn sum(c: Counts, d: Counts) -> Counts
-    requires { ⌜ Fit (plus c d) ⌝ }
-    ensures { λ r. ⌜ r ≡ plus c d ⌝ }
-{
-    Counts {
-        bundles: c.bundles + d.bundles,
-        cycles: c.cycles + d.cycles,
-        spilled: c.spilled + d.spilled,
-        filled: c.filled + d.filled,
-    }
-}
-
 fn wide(n: u32) -> u64
     ensures { λ r. ⌜ r ≡ n ⌝ }
 {
     n as u64
+}
+
+// Slot one carried out, where it reads and writes no store or has nothing to tell.
+pub fn nothing() -> Carried
+    ensures { λ r. ⌜ r ≡ plainly ⌝ }
+{
+    Carried::Done {
+        value: 0,
+        st: 0,
+        ss: 0,
+        spilled: 0,
+        filled: 0,
+    }
 }

@@ -1,5 +1,5 @@
-use Rattle.bundle.proofs.slot_one.judge_transfer.Statement.{statement}
-use Rattle.bundle.proofs.slot_one.judge_transfer.Tie as tie
+use Rattle.bundle_writes.proofs.slot_one.judge_transfer.Statement.{statement}
+use Rattle.bundle_writes.proofs.slot_one.judge_transfer.Tie as tie
 
 none-waits-requires : tie.Need-none-waits-requires
 none-waits-requires c κs = tt

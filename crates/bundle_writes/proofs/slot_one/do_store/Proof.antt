@@ -1,5 +1,5 @@
-use Rattle.bundle.proofs.slot_one.do_store.Statement.{statement}
-use Rattle.bundle.proofs.slot_one.do_store.Tie as tie
+use Rattle.bundle_writes.proofs.slot_one.do_store.Statement.{statement}
+use Rattle.bundle_writes.proofs.slot_one.do_store.Tie as tie
 
 judge-store-requires : tie.Need-judge-store-requires
 judge-store-requires c κs = tt

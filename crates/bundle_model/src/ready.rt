@@ -1,15 +1,15 @@
 // What is judged before bundles are done: the settings, the state, and whether it has ended.
 ghost use mathlib.Core.Path.{_≡_};
 ghost use Rattle.core_state.specs.Core.{foundState};
 ghost use Rattle.bundle_model.specs.Bundle.{readiness};
-use bundle_model::Readiness;
+use crate::Readiness;
 use core_state::Core;
 use core_state::judged::has_ended;
 use core_state::judged::is_well_formed;
 use settings::Settings;
 
 // Judged in this order, as the refusals have it.
-pub(crate) fn readiness(
+pub fn readiness(
     core: Core,
     registers: &[u32; 32],
     predicates: &[bool; 8],

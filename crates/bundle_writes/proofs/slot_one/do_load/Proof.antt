@@ -1,5 +1,5 @@
-use Rattle.bundle.proofs.slot_one.do_load.Statement.{statement}
-use Rattle.bundle.proofs.slot_one.do_load.Tie as tie
+use Rattle.bundle_writes.proofs.slot_one.do_load.Statement.{statement}
+use Rattle.bundle_writes.proofs.slot_one.do_load.Tie as tie
 
 judge-load-requires : tie.Need-judge-load-requires
 judge-load-requires c κs = tt
