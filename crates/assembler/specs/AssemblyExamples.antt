@@ -19,9 +19,8 @@ use Rattle.assembly.specs.Operands.{specials, signedNumber, predicateRead, oper
 use Rattle.assembly.specs.RowLaws.{place, mnemonic-place, special-place}
 use Rattle.disassembler.specs.Shown.{shown}
 use Rattle.assembly.specs.Forms.{nameOf}
-use Rattle.assembler.specs.Reading.{operandsAt, namedAt, instructionAt, afterFirst, bundleRead}
+use Rattle.assembler.specs.Reading.{Found, Mistake, operandsAt, namedAt, instructionAt, afterFirst, bundleRead}
 use Rattle.disassembler.specs.Text.{shownText, guardText, bundleText}
-use Rattle.assembler.specs.declared.BundleRead.the-variants.{Found, Mistake}
 use Rattle.isa.specs.Format.{row}
 use Rattle.isa.specs.declared.PredicateOperand.{PredicateOperand}
 use Rattle.isa.specs.declared.AluFunction.the-variants.{Add, Sub}

@@ -7,8 +7,9 @@ use mathlib.Core.Option.{Option, none, some}
 use Rattle.text.specs.Field.{fieldFrom, sameBytes}
 use Rattle.case_words.specs.Names.{bytes}
 use Rattle.case_file.specs.Arguments.{isEmpty, bytesOf, isEnd}
+use Rattle.case_file.specs.declared.Reason.{Reason}
 use Rattle.case_file.specs.declared.Reason.the-variants as Reason
-use Rattle.encoder.specs.Encode.{single, pair}
+use Rattle.encoder.specs.Encode.{single, pair, written}
 use Rattle.assembly.specs.Forms.{predicate, letter, made, mnemonicOf}
 use Rattle.assembly.specs.Operands.{plain, predicateRead, operandAt}
 use Rattle.assembly.specs.declared.Operand.{Operand}
@@ -17,11 +18,12 @@ use Rattle.assembly.specs.declared.OperandRead.{OperandRead}
 use Rattle.assembly.specs.declared.OperandRead.the-variants as OperandRead
 use Rattle.assembler.specs.declared.InstructionRead.{InstructionRead}
 use Rattle.assembler.specs.declared.InstructionRead.the-variants as InstructionRead
-use Rattle.assembler.specs.declared.BundleRead.{BundleRead}
-use Rattle.assembler.specs.declared.BundleRead.the-variants as BundleRead
+use Rattle.assembler.specs.declared.WordsRead.{WordsRead}
+use Rattle.assembler.specs.declared.WordsRead.the-variants as WordsRead
 use Rattle.isa.specs.declared.PredicateOperand.{PredicateOperand}
 use Rattle.isa.specs.declared.Operation.{Operation}
 use Rattle.isa.specs.declared.Instruction.{Instruction}
+use Rattle.isa.specs.declared.Bundle.{Bundle}
 
 -- Reading goes on after an operand, with it and the position after it; a mistake ends it.
 abbrev pub goOn : OperandRead → (Operand → ℕ → InstructionRead) → InstructionRead
@@ -56,20 +58,30 @@ guardedAt line at (OperandRead.Mistake r) = namedAt line at (predicate (plain 0)
 unfoldable pub instructionAt : List ℕ → ℕ → InstructionRead
 instructionAt line at = let f = fieldFrom line at in guardedAt line at (predicateRead (bytesOf line f) (f .end))
 
+-- The bundle that the rest of a line asks for.
+pub data BundleRead : Type 0 where
+  Found : Bundle → BundleRead
+  Mistake : Reason → BundleRead
+
 -- One instruction to the line's end, or two with `;` between them.
 abbrev pub secondRead : List ℕ → Instruction → InstructionRead → BundleRead
-secondRead line i (InstructionRead.Mistake r) = BundleRead.Mistake r
-secondRead line i (InstructionRead.Found j next) = cond (isEnd line next) (BundleRead.Found (pair i j)) (BundleRead.Mistake Reason.FieldTooMany)
+secondRead line i (InstructionRead.Mistake r) = Mistake r
+secondRead line i (InstructionRead.Found j next) = cond (isEnd line next) (Found (pair i j)) (Mistake Reason.FieldTooMany)
 
 unfoldable pub afterFirst : List ℕ → ℕ → Instruction → BundleRead
 afterFirst line at i =
     let f = fieldFrom line at in
-    cond (isEmpty f) (BundleRead.Found (single i))
-    (cond (sameBytes (bytesOf line f) (bytes ";")) (secondRead line i (instructionAt line (f .end))) (BundleRead.Mistake Reason.FieldTooMany))
+    cond (isEmpty f) (Found (single i))
+    (cond (sameBytes (bytesOf line f) (bytes ";")) (secondRead line i (instructionAt line (f .end))) (Mistake Reason.FieldTooMany))
 
 abbrev pub firstRead : List ℕ → InstructionRead → BundleRead
-firstRead line (InstructionRead.Mistake r) = BundleRead.Mistake r
+firstRead line (InstructionRead.Mistake r) = Mistake r
 firstRead line (InstructionRead.Found i next) = afterFirst line next i
 
 unfoldable pub bundleRead : List ℕ → ℕ → BundleRead
 bundleRead line at = firstRead line (instructionAt line at)
+
+-- The words written for it.
+abbrev pub wordsOf : BundleRead → WordsRead
+wordsOf (Found b) = WordsRead.Words (written b)
+wordsOf (Mistake r) = WordsRead.Mistake r

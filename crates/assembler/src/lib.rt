@@ -3,7 +3,7 @@ pub mod making;
 pub mod reading;
 
 use case_file::Reason;
-use isa::Bundle;
+use encoder::Written;
 use isa::Instruction;
 use isa::Operation;
 
@@ -22,8 +22,8 @@ pub enum InstructionRead {
     Mistake(Reason),
 }
 
-// What the rest of a line asks to be written.
-pub enum BundleRead {
-    Found(Bundle),
+// The words of the bundle whose text is the rest of a line, or what is wrong with it.
+pub enum WordsRead {
+    Words(Written),
     Mistake(Reason),
 }

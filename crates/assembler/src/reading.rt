@@ -4,10 +4,10 @@ ghost use Rattle.case_file.specs.Arguments.{isEnd};
 ghost use Rattle.assembly.specs.Forms.{letter as letterOf, made};
 ghost use Rattle.assembly.specs.Operands.{operandAt};
 ghost use Rattle.assembler.specs.Readings.{madeOf};
-ghost use Rattle.assembler.specs.Reading.{goOn, instructionOf, operandsAt, namedAt, instructionAt, secondRead, afterFirst, bundleRead};
-use crate::BundleRead;
+ghost use Rattle.assembler.specs.Reading.{goOn, instructionOf, operandsAt, namedAt, instructionAt, secondRead, afterFirst, bundleRead, wordsOf};
 use crate::InstructionRead;
 use crate::Made;
+use crate::WordsRead;
 use crate::making::make;
 use crate::making::predicate_of;
 use assembly::Mnemonic;
@@ -19,8 +19,8 @@ use assembly::operands::predicate_read;
 use assembly::table::letter;
 use assembly::table::mnemonic_of;
 use case_file::Reason;
-use encoder::bundles::pair;
-use encoder::bundles::single;
+use encoder::bundles::write_pair;
+use encoder::bundles::write_single;
 use isa::Instruction;
 use isa::PredicateOperand;
 use text::fields::next_field;
@@ -118,43 +118,43 @@ fn ended(line: &[u8], at: usize) -> bool
 }
 
 // A second instruction, to the line's end.
-fn second_read(line: &[u8], at: usize, i: Instruction) -> BundleRead
-    ensures { λ r. ⌜ r ≡ secondRead (now (line .entry)) i (instructionAt (now (line .entry)) at) ⌝ }
+fn second_read(line: &[u8], at: usize, i: Instruction) -> WordsRead
+    ensures { λ r. ⌜ r ≡ wordsOf (secondRead (now (line .entry)) i (instructionAt (now (line .entry)) at)) ⌝ }
 {
     match instruction_at(line, at) {
-        InstructionRead::Mistake(r) => BundleRead::Mistake(r),
+        InstructionRead::Mistake(r) => WordsRead::Mistake(r),
         InstructionRead::Found { instruction, next } => {
             if ended(line, next) {
-                BundleRead::Found(pair(i, instruction))
+                WordsRead::Words(write_pair(i, instruction))
             } else {
-                BundleRead::Mistake(Reason::FieldTooMany)
+                WordsRead::Mistake(Reason::FieldTooMany)
             }
         }
     }
 }
 
 // What comes after a first instruction: the line's end, or `;` and a second one.
-fn after_first(line: &[u8], at: usize, i: Instruction) -> BundleRead
-    ensures { λ r. ⌜ r ≡ afterFirst (now (line .entry)) at i ⌝ }
+fn after_first(line: &[u8], at: usize, i: Instruction) -> WordsRead
+    ensures { λ r. ⌜ r ≡ wordsOf (afterFirst (now (line .entry)) at i) ⌝ }
 {
     let f = next_field(line, at);
     let start = f.start;
     let end = f.end;
     if start == end {
-        return BundleRead::Found(single(i));
+        return WordsRead::Words(write_single(i));
     }
     if same(&line[start..end], b";") {
         return second_read(line, end, i);
     }
-    BundleRead::Mistake(Reason::FieldTooMany)
+    WordsRead::Mistake(Reason::FieldTooMany)
 }
 
-// One instruction to the line's end, or two with `;` between them.
-pub fn read_bundle(line: &[u8], at: usize) -> BundleRead
-    ensures { λ r. ⌜ r ≡ bundleRead (now (line .entry)) at ⌝ }
+// The words of one instruction to the line's end, or of two with `;` between them.
+pub fn read_words(line: &[u8], at: usize) -> WordsRead
+    ensures { λ r. ⌜ r ≡ wordsOf (bundleRead (now (line .entry)) at) ⌝ }
 {
     match instruction_at(line, at) {
-        InstructionRead::Mistake(r) => BundleRead::Mistake(r),
+        InstructionRead::Mistake(r) => WordsRead::Mistake(r),
         InstructionRead::Found { instruction, next } => after_first(line, next, instruction),
     }
 }

@@ -1,23 +1,23 @@
 // What a line is to a case.
 use crate::operation::Operation;
-use assembler::BundleRead;
-use assembler::reading::read_bundle;
+use assembler::WordsRead;
+use assembler::reading::read_words;
 use bytes::scan::find;
 use case_file::Line;
 use case_file::Reason;
 use case_kept::kept::DESCRIBED;
 use case_kept::kept::NO_CASE;
+use encoder::Written;
 
 // What an operation line asks for of an opened case.
-pub(crate) enum OfState {
+pub(crate) enum Asked {
     Check,
     Operation(Operation),
 }
 
-// What an operation line asks for: something of an opened case, the words of the bundle at a position of the line, or a listing.
-pub(crate) enum Asked {
-    OfState(OfState),
-    Write(usize),
+// What an operation line asks for that needs no state: words to be shown, or a listing.
+pub(crate) enum Shown {
+    Words(Written),
     Listing,
 }
 
@@ -27,14 +27,15 @@ pub(crate) enum Kind {
     Mistake(Reason),
     Start(usize),
     Operation(Asked),
+    Show(Shown),
     Description,
 }
 
 // A bundle that is asked for by its text: a mistake there is one of the line.
 fn written_kind(line: &[u8], text: usize) -> Kind {
-    match read_bundle(line, text) {
-        BundleRead::Mistake(r) => Kind::Mistake(r),
-        BundleRead::Found(_) => Kind::Operation(Asked::Write(text)),
+    match read_words(line, text) {
+        WordsRead::Mistake(r) => Kind::Mistake(r),
+        WordsRead::Words(w) => Kind::Show(Shown::Words(w)),
     }
 }
 
@@ -43,11 +44,11 @@ pub(crate) fn kind_of(said: Line, line: &[u8]) -> Kind {
         Line::Empty => Kind::Empty,
         Line::Mistake(r) => Kind::Mistake(r),
         Line::Case { name } => Kind::Start(name),
-        Line::Run(n) => Kind::Operation(Asked::OfState(OfState::Operation(Operation::Run(n)))),
-        Line::Step => Kind::Operation(Asked::OfState(OfState::Operation(Operation::Step))),
-        Line::Check => Kind::Operation(Asked::OfState(OfState::Check)),
+        Line::Run(n) => Kind::Operation(Asked::Operation(Operation::Run(n))),
+        Line::Step => Kind::Operation(Asked::Operation(Operation::Step)),
+        Line::Check => Kind::Operation(Asked::Check),
         Line::Write { text } => written_kind(line, text),
-        Line::Listing => Kind::Operation(Asked::Listing),
+        Line::Listing => Kind::Show(Shown::Listing),
         _ => Kind::Description,
     }
 }
@@ -56,11 +57,11 @@ pub(crate) fn kind_of(said: Line, line: &[u8]) -> Kind {
 // described, and no line of a case before the first.
 pub(crate) fn kind_in(phase: u64, kind: Kind) -> Kind {
     match kind {
-        Kind::Operation(asked) => {
+        Kind::Operation(_) | Kind::Show(_) => {
             if phase == NO_CASE {
                 return Kind::Mistake(Reason::BeforeFirstCase);
             }
-            Kind::Operation(asked)
+            kind
         }
         Kind::Description => {
             if phase == NO_CASE {

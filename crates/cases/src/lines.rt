@@ -3,15 +3,15 @@
 use crate::check_code::do_check;
 use crate::kinds::Asked;
 use crate::kinds::Kind;
-use crate::kinds::OfState;
+use crate::kinds::Shown;
 use crate::kinds::kind_in;
 use crate::kinds::kind_of;
 use crate::kinds::reason;
-use crate::listing::do_list;
 use crate::opening::judge_places;
 use crate::opening::open_case;
 use crate::opening::start_case;
 use crate::operation::do_operation;
+use crate::writing::do_list;
 use crate::writing::do_write;
 use case_file::Line;
 use case_file::Reason;
@@ -42,10 +42,10 @@ fn fail_here(kept: &mut Kept, r: Reason, out: &mut [u8]) -> usize {
     fail(&mut *out, 0, &mut *kept, line, r)
 }
 
-// An operation that needs an opened case: the first one opens it, which is reported only where it is refused. After a refused opening
-// nothing is done.
-fn opened_operation(
-    asked: OfState,
+// An operation line that needs an opened case: the first one opens it, which is reported only where it is refused. After a refused
+// opening nothing is done.
+fn operation_line(
+    asked: Asked,
     code: &Bytes,
     main: &mut Memory,
     local: &mut Memory,
@@ -65,8 +65,8 @@ fn opened_operation(
         return used;
     }
     match asked {
-        OfState::Check => do_check(code, &*kept, &mut *out),
-        OfState::Operation(o) => do_operation(
+        Asked::Check => do_check(code, &*kept, &mut *out),
+        Asked::Operation(o) => do_operation(
             o,
             code,
             &mut *main,
@@ -78,33 +78,15 @@ fn opened_operation(
     }
 }
 
-// An operation line: the first of a case judges its places.
-fn operation_line(
-    asked: Asked,
-    line: &[u8],
-    code: &Bytes,
-    main: &mut Memory,
-    local: &mut Memory,
-    cache: &mut Cache,
-    kept: &mut Kept,
-    out: &mut [u8],
-) -> usize {
+// An operation line that needs no state, and is done after a refused opening too.
+fn showing_line(shown: Shown, code: &Bytes, kept: &mut Kept, out: &mut [u8]) -> usize {
     let used = judge_places(&mut *kept, &mut *out);
     if kept[PHASE] == STOPPED {
         return used;
     }
-    match asked {
-        Asked::Write(text) => do_write(line, text, &mut *out),
-        Asked::Listing => do_list(code, &*kept, &mut *out),
-        Asked::OfState(asked) => opened_operation(
-            asked,
-            code,
-            &mut *main,
-            &mut *local,
-            &mut *cache,
-            &mut *kept,
-            &mut *out,
-        ),
+    match shown {
+        Shown::Words(w) => do_write(w, &mut *out),
+        Shown::Listing => do_list(code, &*kept, &mut *out),
     }
 }
 
@@ -158,9 +140,9 @@ fn take_line(
             &mut *kept,
             &mut *out,
         ),
+        Kind::Show(shown) => showing_line(shown, &*code, &mut *kept, &mut *out),
         Kind::Operation(asked) => operation_line(
             asked,
-            line,
             &*code,
             &mut *main,
             &mut *local,

@@ -4,7 +4,6 @@ mod check_code;
 mod kept_state;
 mod kinds;
 mod lines;
-mod listing;
 mod opening;
 mod operation;
 mod report;

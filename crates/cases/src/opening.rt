@@ -181,7 +181,7 @@ pub(crate) fn judge_places(kept: &mut Kept, out: &mut [u8]) -> usize {
     }
 }
 
-// The state of a case whose places are judged is opened once.
+// A case is opened once, when its places are judged.
 pub(crate) fn open_case(
     code: &Bytes,
     main: &mut Memory,
@@ -190,8 +190,9 @@ pub(crate) fn open_case(
     kept: &mut Kept,
     out: &mut [u8],
 ) -> usize {
+    let used = judge_places(&mut *kept, &mut *out);
     if kept[PHASE] != JUDGED {
-        return 0;
+        return used;
     }
     open(
         code,

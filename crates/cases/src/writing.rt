@@ -1,22 +1,24 @@
-// Bundles written as words.
-use crate::listing::put_written;
-use assembler::BundleRead;
-use assembler::reading::read_bundle;
-use encoder::words::write;
-use isa::Bundle;
+// Words written for a bundle, and the listing of a case's code. A line of a listing has at most 55 bytes for each word, so that the
+// listing of the longest code fits the report's buffer.
+use case_kept::buffers::Bytes;
+use case_kept::buffers::least;
+use case_kept::extent::extents_of;
+use case_kept::kept::Kept;
+use encoder::Written;
+use listing::put_list;
+use listing::put_written;
 use text::page::put;
 use text::page::put_byte;
 
-fn put_words_of(out: &mut [u8], b: Bundle) -> usize {
+pub(crate) fn do_write(w: Written, out: &mut [u8]) -> usize {
     let used = put(&mut *out, 0, b"write");
-    let a = put_written(&mut *out, used, write(b));
+    let a = put_written(&mut *out, used, w);
     put_byte(&mut *out, a, b'\n')
 }
 
-// The bundle whose text stands in a line. That there is no mistake in it was seen when the line was read.
-pub(crate) fn do_write(line: &[u8], text: usize, out: &mut [u8]) -> usize {
-    match read_bundle(line, text) {
-        BundleRead::Found(b) => put_words_of(&mut *out, b),
-        BundleRead::Mistake(_) => 0,
-    }
+pub(crate) fn do_list(code: &Bytes, kept: &Kept, out: &mut [u8]) -> usize {
+    let e = extents_of(kept);
+    let n = least(e.code, 65536);
+    let bytes = &code[..];
+    put_list(&mut *out, 0, &bytes[0..n])
 }

@@ -1,14 +1,17 @@
-// Bundles to be written, made of one instruction or of two.
+// Bundles asked for by one instruction or by any two, written.
 ghost use mathlib.Core.Path.{_≡_};
 ghost use mathlib.Core.Option.{some};
-ghost use Rattle.encoder.specs.Encode.{eitherSlot, constantIn, constantOf, single, pair};
+ghost use Rattle.encoder.specs.Encode.{eitherSlot, constantIn, constantOf, single, pair, written};
 ghost use Rattle.fields.specs.Readings.{found};
 ghost use Rattle.encoder.specs.Readings.{foundAlu};
 use crate::AluFound;
+use crate::Written;
+use crate::words::write_long;
+use crate::words::write_one;
+use crate::words::write_two;
 use fields::Word;
 use isa::AluInstruction;
 use isa::AluOperation;
-use isa::Bundle;
 use isa::Instruction;
 use isa::Op2;
 use isa::Operation;
@@ -53,29 +56,29 @@ pub(crate) fn constant_of(a: AluOperation) -> Word
     }
 }
 
-// The bundle of one instruction: of two words if it has a long constant.
-pub fn single(i: Instruction) -> Bundle
-    ensures { λ r. ⌜ r ≡ single i ⌝ }
+// The words of a bundle of one instruction: two if it has a long constant.
+pub fn write_single(i: Instruction) -> Written
+    ensures { λ r. ⌜ r ≡ written (single i) ⌝ }
 {
     let operation = i.operation;
     match either_slot(operation) {
-        AluFound::Nothing => Bundle::One(i),
+        AluFound::Nothing => write_one(i),
         AluFound::Found(a) => match constant_of(a) {
-            Word::Nothing => Bundle::One(i),
-            Word::Of(_) => Bundle::Long(i),
+            Word::Nothing => write_one(i),
+            Word::Of(_) => write_long(i),
         },
     }
 }
 
-// The bundle of two instructions. What slot two cannot hold makes no bundle.
-pub fn pair(i: Instruction, j: Instruction) -> Bundle
-    ensures { λ r. ⌜ r ≡ pair i j ⌝ }
+// The words of a bundle of two instructions. What slot two cannot hold is refused here, and not left to whoever asks.
+pub fn write_pair(i: Instruction, j: Instruction) -> Written
+    ensures { λ r. ⌜ r ≡ written (pair i j) ⌝ }
 {
     let guard = j.guard;
     let operation = j.operation;
     match either_slot(operation) {
-        AluFound::Nothing => Bundle::Undecodable,
-        AluFound::Found(a) => Bundle::Two(
+        AluFound::Nothing => Written::Refused(12),
+        AluFound::Found(a) => write_two(
             i,
             AluInstruction {
                 guard,

@@ -3,7 +3,7 @@ ghost use mathlib.Core.Path.{_≡_};
 ghost use Rattle.isa.specs.Formats.{longFormats, aluFormats, firstFormats};
 ghost use Rattle.fields.specs.Place.{writing};
 ghost use Rattle.fields.specs.Fields.{longFields, aluFields, amountFields, firstFields};
-ghost use Rattle.encoder.specs.Encode.{guarded, slotWord, longWord, eitherSlot, constantOf, alone, beside, written};
+ghost use Rattle.encoder.specs.Encode.{guarded, slotWord, alone, beside, written};
 ghost use Rattle.fields.specs.Readings.{found};
 use crate::AluFound;
 use crate::Written;
@@ -23,9 +23,11 @@ use fields::place::branch_number;
 use fields::place::operand_number;
 use fields::place::put;
 use isa::AluFunction;
+use isa::AluInstruction;
 use isa::AluOperation;
 use isa::Bundle;
 use isa::CompareFunction;
+use isa::Instruction;
 use isa::Op2;
 use isa::Operation;
 use isa::PredicateOperand;
@@ -239,13 +241,36 @@ fn beside(w: Word, v: Word) -> Written
     }
 }
 
-// A long immediate and its constant.
-fn write_long(g: PredicateOperand, o: Operation) -> Written
-    ensures { λ r. ⌜ r ≡ beside (longWord g (eitherSlot o)) (constantOf (eitherSlot o)) ⌝ }
+// A bundle of one word.
+pub(crate) fn write_one(i: Instruction) -> Written
+    ensures { λ r. ⌜ r ≡ written (Bundle.One i) ⌝ }
 {
-    match either_slot(o) {
+    let guard = i.guard;
+    let operation = i.operation;
+    alone(slot_word(0, guard, operation))
+}
+
+// A bundle of two instructions.
+pub(crate) fn write_two(i: Instruction, j: AluInstruction) -> Written
+    ensures { λ r. ⌜ r ≡ written (Bundle.Two i j) ⌝ }
+{
+    let guard = i.guard;
+    let operation = i.operation;
+    let second = j.guard;
+    let other = j.operation;
+    let w = slot_word(1, guard, operation);
+    beside(w, slot_word(0, second, Operation::Alu(other)))
+}
+
+// A long immediate and its constant.
+pub(crate) fn write_long(i: Instruction) -> Written
+    ensures { λ r. ⌜ r ≡ written (Bundle.Long i) ⌝ }
+{
+    let guard = i.guard;
+    let operation = i.operation;
+    match either_slot(operation) {
         AluFound::Nothing => Written::Refused(12),
-        AluFound::Found(a) => beside(long_in_format(guarded(g), a), constant_of(a)),
+        AluFound::Found(a) => beside(long_in_format(guarded(guard), a), constant_of(a)),
     }
 }
 
@@ -255,23 +280,8 @@ pub fn write(b: Bundle) -> Written
 {
     match b {
         Bundle::Undecodable => Written::Refused(12),
-        Bundle::One(i) => {
-            let guard = i.guard;
-            let operation = i.operation;
-            alone(slot_word(0, guard, operation))
-        }
-        Bundle::Two(i, j) => {
-            let guard = i.guard;
-            let operation = i.operation;
-            let second = j.guard;
-            let other = j.operation;
-            let w = slot_word(1, guard, operation);
-            beside(w, slot_word(0, second, Operation::Alu(other)))
-        }
-        Bundle::Long(i) => {
-            let guard = i.guard;
-            let operation = i.operation;
-            write_long(guard, operation)
-        }
+        Bundle::One(i) => write_one(i),
+        Bundle::Two(i, j) => write_two(i, j),
+        Bundle::Long(i) => write_long(i),
     }
 }

@@ -7,12 +7,12 @@ use Rattle.assembler.proofs.reading.after_first.Tie as tie
 next-field-requires : tie.Need-next-field-requires
 next-field-requires c κs = tt
 
-single-requires : tie.Need-single-requires
-single-requires c κs = tt
+write-single-requires : tie.Need-write-single-requires
+write-single-requires c κs = tt
 
 returns : tie.Need-returns
 unfolding afterFirst
-returns c = rw (← c .before .before .next-field .ensures .0, eq-eqb _ _ (c .before .if1 .taken), c .single .ensures)
+returns c = rw (← c .before .before .next-field .ensures .0, eq-eqb _ _ (c .before .if1 .taken), c .write-single .ensures)
 
 sub-same : tie.Need-sub-same
 sub-same c = search needs
@@ -45,7 +45,7 @@ after-first-spec =
     tie.close
     (tie.spec
     next-field-requires
-    single-requires
+    write-single-requires
     returns
     sub-same
     part-same-start

@@ -14,14 +14,14 @@ enum-known-instruction c = c .match .keys2
 ended-requires : tie.Need-ended-requires
 ended-requires c κs = tt
 
-pair-requires : tie.Need-pair-requires
-pair-requires c κs = tt
+write-pair-requires : tie.Need-write-pair-requires
+write-pair-requires c κs = tt
 
 returns : tie.Need-returns
 returns c = rw (← c .before .before .before .instruction-at .ensures, c .before .r .given .1)
 
 returns-2 : tie.Need-returns-2
-returns-2 c = rw (← c .before .before .before .before .before .before .instruction-at .ensures, c .before .before .before .before .instruction .given .1, ← c .before .before .ended .ensures, c .before .if1 .taken, c .pair .ensures)
+returns-2 c = rw (← c .before .before .before .before .before .before .instruction-at .ensures, c .before .before .before .before .instruction .given .1, ← c .before .before .ended .ensures, c .before .if1 .taken, c .write-pair .ensures)
 
 returns-3 : tie.Need-returns-3
 returns-3 c = rw (← c .before .before .before .before .before .instruction-at .ensures, c .before .before .before .instruction .given .1, ← c .before .ended .ensures, c .if1 .left)
@@ -34,7 +34,7 @@ second-read-spec =
     enum-known-r
     enum-known-instruction
     ended-requires
-    pair-requires
+    write-pair-requires
     returns
     returns-2
     returns-3)

@@ -1,4 +1,4 @@
-use borrow.Author.Needs.{needs}
+use Rattle.encoder.specs.Encode.{written}
 use Rattle.encoder.proofs.words.write_long.Statement.{statement}
 use Rattle.encoder.proofs.words.write_long.Tie as tie
 
@@ -24,9 +24,11 @@ beside-requires : tie.Need-beside-requires
 beside-requires c κs = tt
 
 returns : tie.Need-returns
+unfolding written
 returns c = rw (← c .before .before .either-slot .ensures, c .enum-told .given .1)
 
 returns-2 : tie.Need-returns-2
+unfolding written
 returns-2 c = rw (← c .before .before .before .before .before .before .before .either-slot .ensures, c .before .before .before .before .before .a .given .1, ← c .before .before .before .guarded .ensures, ← c .before .before .long-in-format .ensures, ← c .before .constant-of .ensures) (c .beside .ensures)
 
 pub write-long-spec : {M : Type 1} → statement M

@@ -1,7 +1,7 @@
 use Rattle.assembler.specs.Reading.{bundleRead}
 use borrow.Author.Needs.{needs}
-use Rattle.assembler.proofs.reading.read_bundle.Statement.{statement}
-use Rattle.assembler.proofs.reading.read_bundle.Tie as tie
+use Rattle.assembler.proofs.reading.read_words.Statement.{statement}
+use Rattle.assembler.proofs.reading.read_words.Tie as tie
 
 instruction-at-requires : tie.Need-instruction-at-requires
 instruction-at-requires c κs = tt
@@ -23,8 +23,8 @@ returns-2 : tie.Need-returns-2
 unfolding bundleRead
 returns-2 c = rw (← c .before .before .before .before .instruction-at .ensures, c .before .before .instruction .given .1) (c .after-first .ensures)
 
-pub read-bundle-spec : {M : Type 1} → statement M
-read-bundle-spec =
+pub read-words-spec : {M : Type 1} → statement M
+read-words-spec =
     tie.close
     (tie.spec
     instruction-at-requires
