@@ -1,17 +1,9 @@
 // The text of a bundle, read: what a case file asks to be written.
-pub mod making;
 pub mod reading;
 
 use case_file::Reason;
 use encoder::Written;
 use isa::Instruction;
-use isa::Operation;
-
-// What a name and its operands make. A name that no instruction has makes nothing.
-pub enum Made {
-    Nothing,
-    Found(Operation),
-}
 
 // An instruction, and the position after it.
 pub enum InstructionRead {
