@@ -1,14 +1,13 @@
 // The check of a case's code under its marking.
 use case_kept::buffers::Bytes;
+use case_kept::buffers::Report;
 use case_kept::buffers::least;
-use case_kept::extent::Extents;
 use case_kept::extent::extents_of;
 use case_kept::kept::Kept;
 use case_notes::marked::marking_of;
 use case_report::form::say;
 use settings::Config;
 use single_path::Checked;
-use single_path::Marking;
 use single_path::Rule;
 use text::page::put;
 
@@ -23,7 +22,7 @@ fn letter(r: Rule) -> u8 {
 }
 
 // Refusal 1 is one of the marking, and has no address.
-fn put_refused(out: &mut [u8], number: u32, address: u32) -> usize {
+fn put_refused(out: &mut Report, number: u32, address: u32) -> usize {
     if number == 1 {
         return put(&mut *out, 0, b"check refused 1\n");
     }
@@ -35,7 +34,7 @@ fn put_refused(out: &mut [u8], number: u32, address: u32) -> usize {
     )
 }
 
-fn put_broken(out: &mut [u8], address: u32, letter: u8) -> usize {
+fn put_broken(out: &mut Report, address: u32, letter: u8) -> usize {
     say(
         &mut *out,
         0,
@@ -44,7 +43,7 @@ fn put_broken(out: &mut [u8], address: u32, letter: u8) -> usize {
     )
 }
 
-fn put_checked(out: &mut [u8], c: Checked) -> usize {
+fn put_checked(out: &mut Report, c: Checked) -> usize {
     match c {
         Checked::Accepted => put(&mut *out, 0, b"check accepted\n"),
         Checked::Refused { number, address } => put_refused(&mut *out, number, address),
@@ -52,15 +51,18 @@ fn put_checked(out: &mut [u8], c: Checked) -> usize {
     }
 }
 
-fn check_part(code: &[u8], e: Extents, marking: Marking) -> Checked {
-    let c = least(e.code, code.len());
+pub(crate) fn do_check(code: &Bytes, kept: &Kept, out: &mut Report) -> usize {
+    let e = extents_of(kept);
+    let n = least(e.code, 65536);
     let config = Config { lo: e.lo, hi: e.hi };
-    single_path::check(&code[0..c], e.main, e.local, e.words, config, marking)
-}
-
-pub(crate) fn do_check(code: &Bytes, kept: &Kept, out: &mut [u8]) -> usize {
-    put_checked(
-        &mut *out,
-        check_part(code, extents_of(kept), marking_of(kept)),
-    )
+    let bytes = &code[..];
+    let c = single_path::check(
+        &bytes[0..n],
+        e.main,
+        e.local,
+        e.words,
+        config,
+        marking_of(kept),
+    );
+    put_checked(&mut *out, c)
 }

@@ -1,5 +1,7 @@
 // What a line is to a case.
-use crate::operation::Operation;
+use crate::Asked;
+use crate::Kind;
+use crate::Shown;
 use assembler::WordsRead;
 use assembler::reading::read_words;
 use bytes::scan::find;
@@ -7,29 +9,6 @@ use case_file::Line;
 use case_file::Reason;
 use case_kept::kept::DESCRIBED;
 use case_kept::kept::NO_CASE;
-use encoder::Written;
-
-// What an operation line asks for of an opened case.
-pub(crate) enum Asked {
-    Check,
-    Operation(Operation),
-}
-
-// What an operation line asks for that needs no state: words to be shown, or a listing.
-pub(crate) enum Shown {
-    Words(Written),
-    Listing,
-}
-
-// What a line is to the case.
-pub(crate) enum Kind {
-    Empty,
-    Mistake(Reason),
-    Start(usize),
-    Operation(Asked),
-    Show(Shown),
-    Description,
-}
 
 // A bundle that is asked for by its text: a mistake there is one of the line.
 fn written_kind(line: &[u8], text: usize) -> Kind {
@@ -44,8 +23,8 @@ pub(crate) fn kind_of(said: Line, line: &[u8]) -> Kind {
         Line::Empty => Kind::Empty,
         Line::Mistake(r) => Kind::Mistake(r),
         Line::Case { name } => Kind::Start(name),
-        Line::Run(n) => Kind::Operation(Asked::Operation(Operation::Run(n))),
-        Line::Step => Kind::Operation(Asked::Operation(Operation::Step)),
+        Line::Run(n) => Kind::Operation(Asked::Run(n)),
+        Line::Step => Kind::Operation(Asked::Step),
         Line::Check => Kind::Operation(Asked::Check),
         Line::Write { text } => written_kind(line, text),
         Line::Listing => Kind::Show(Shown::Listing),
@@ -76,15 +55,10 @@ pub(crate) fn kind_in(phase: u64, kind: Kind) -> Kind {
     }
 }
 
-// Whether a tab or a carriage return stands in a line, in front of its comment.
-fn has_unseen_byte(line: &[u8]) -> bool {
-    let end = find(line, 0, line.len(), b'#');
-    (find(line, 0, end, b'\t') < end) | (find(line, 0, end, b'\r') < end)
-}
-
-// What is told of a mistake: first what cannot be seen in the line.
+// What is told of a mistake: first what cannot be seen in the line, a tab or a carriage return in front of its comment.
 pub(crate) fn reason(line: &[u8], r: Reason) -> Reason {
-    if has_unseen_byte(line) {
+    let end = find(line, 0, line.len(), b'#');
+    if (find(line, 0, end, b'\t') < end) | (find(line, 0, end, b'\r') < end) {
         return Reason::UnseenByte;
     }
     r

@@ -1,9 +1,9 @@
 // Lines of the file, one after the other. What a line has to report is put at the front of a buffer, of which each function answers
 // how much is used, and is written out before the next line is read.
+use crate::Asked;
+use crate::Kind;
+use crate::Shown;
 use crate::check_code::do_check;
-use crate::kinds::Asked;
-use crate::kinds::Kind;
-use crate::kinds::Shown;
 use crate::kinds::kind_in;
 use crate::kinds::kind_of;
 use crate::kinds::reason;
@@ -37,7 +37,7 @@ use case_report::output::write_out;
 use std::num::wrapping_add_u64;
 
 // A mistake of the line that was read last.
-fn fail_here(kept: &mut Kept, r: Reason, out: &mut [u8]) -> usize {
+fn fail_here(kept: &mut Kept, r: Reason, out: &mut Report) -> usize {
     let line = kept[LINE];
     fail(&mut *out, 0, &mut *kept, line, r)
 }
@@ -51,7 +51,7 @@ fn operation_line(
     local: &mut Memory,
     cache: &mut Cache,
     kept: &mut Kept,
-    out: &mut [u8],
+    out: &mut Report,
 ) -> usize {
     let used = open_case(
         code,
@@ -66,8 +66,8 @@ fn operation_line(
     }
     match asked {
         Asked::Check => do_check(code, &*kept, &mut *out),
-        Asked::Operation(o) => do_operation(
-            o,
+        _ => do_operation(
+            asked,
             code,
             &mut *main,
             &mut *local,
@@ -79,7 +79,7 @@ fn operation_line(
 }
 
 // An operation line that needs no state, and is done after a refused opening too.
-fn showing_line(shown: Shown, code: &Bytes, kept: &mut Kept, out: &mut [u8]) -> usize {
+fn showing_line(shown: Shown, code: &Bytes, kept: &mut Kept, out: &mut Report) -> usize {
     let used = judge_places(&mut *kept, &mut *out);
     if kept[PHASE] == STOPPED {
         return used;
@@ -90,26 +90,8 @@ fn showing_line(shown: Shown, code: &Bytes, kept: &mut Kept, out: &mut [u8]) -> 
     }
 }
 
-// A line of the case's description.
-fn description_line(
-    said: Line,
-    line: &[u8],
-    code: &mut Bytes,
-    main: &mut Memory,
-    local: &mut Memory,
-    cache: &mut Cache,
-    kept: &mut Kept,
-    out: &mut [u8],
-) -> usize {
-    let j = describe(
-        said,
-        line,
-        &mut *code,
-        &mut *main,
-        &mut *local,
-        &mut *cache,
-        &mut *kept,
-    );
+// What came of a line of the case's description.
+fn described(j: Judged, kept: &mut Kept, out: &mut Report) -> usize {
     match j {
         Judged::Fine => 0,
         Judged::Mistake(r) => fail_here(&mut *kept, r, &mut *out),
@@ -124,7 +106,7 @@ fn take_line(
     local: &mut Memory,
     cache: &mut Cache,
     kept: &mut Kept,
-    out: &mut [u8],
+    out: &mut Report,
 ) -> usize {
     kept[LINE] = wrapping_add_u64(kept[LINE], 1);
     let said = read_line(line);
@@ -150,13 +132,16 @@ fn take_line(
             &mut *kept,
             &mut *out,
         ),
-        Kind::Description => description_line(
-            said,
-            line,
-            &mut *code,
-            &mut *main,
-            &mut *local,
-            &mut *cache,
+        Kind::Description => described(
+            describe(
+                said,
+                line,
+                &mut *code,
+                &mut *main,
+                &mut *local,
+                &mut *cache,
+                &mut *kept,
+            ),
             &mut *kept,
             &mut *out,
         ),
@@ -164,7 +149,7 @@ fn take_line(
 }
 
 // The file gave no line.
-fn without_line(found: Found, path: &[u8], kept: &mut Kept, out: &mut [u8]) -> usize {
+fn without_line(found: Found, path: &[u8], kept: &mut Kept, out: &mut Report) -> usize {
     match found {
         Found::Unreadable => {
             os::fail(path);
@@ -193,7 +178,7 @@ fn take(
     local: &mut Memory,
     cache: &mut Cache,
     kept: &mut Kept,
-    out: &mut [u8],
+    out: &mut Report,
 ) -> usize {
     match found {
         Found::Line(n) => {

@@ -6,11 +6,35 @@ mod kinds;
 mod lines;
 mod opening;
 mod operation;
-mod report;
 mod writing;
 
+use case_file::Reason;
+use encoder::Written;
 use libc::STDERR_FILENO;
 use lines::read_all;
+
+// What is asked for of an opened case: the check of its code, a step, or a run with a budget.
+enum Asked {
+    Check,
+    Step,
+    Run(u32),
+}
+
+// What is asked for that needs no state: words to be shown, or a listing.
+enum Shown {
+    Words(Written),
+    Listing,
+}
+
+// What a line is to the case.
+enum Kind {
+    Empty,
+    Mistake(Reason),
+    Start(usize),
+    Operation(Asked),
+    Show(Shown),
+    Description,
+}
 
 // All buffers stand in this frame.
 fn read_cases(fd: i32, path: &[u8]) {
@@ -47,11 +71,12 @@ fn main() {
         os::fail(b"path");
         return;
     }
-    let fd = os::open_read(&path[..n]);
+    let name = &path[..n];
+    let fd = os::open_read(name);
     if fd < 0 {
-        os::fail(&path[..n]);
+        os::fail(name);
         return;
     }
-    read_cases(fd, &path[..n]);
+    read_cases(fd, name);
     libc::close(fd);
 }

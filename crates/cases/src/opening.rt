@@ -5,6 +5,7 @@ use case_file::Reason;
 use case_kept::buffers::Bytes;
 use case_kept::buffers::Cache;
 use case_kept::buffers::Memory;
+use case_kept::buffers::Report;
 use case_kept::clearing::clear_cache_copy;
 use case_kept::clearing::clear_memory;
 use case_kept::clearing::copy_memory;
@@ -43,7 +44,7 @@ use text::fields::next_field;
 use text::page::put;
 use text::page::put_byte;
 
-fn put_name(out: &mut [u8], line: &[u8], name: usize) -> usize {
+fn put_name(out: &mut Report, line: &[u8], name: usize) -> usize {
     let f = next_field(line, name);
     let start = f.start;
     let end = f.end;
@@ -69,7 +70,7 @@ pub(crate) fn start_case(
     local: &mut Memory,
     cache: &mut Cache,
     kept: &mut Kept,
-    out: &mut [u8],
+    out: &mut Report,
 ) -> usize {
     clear_memory(&mut *main, written(&*kept, MAIN, Store::Main));
     clear_memory(&mut *local, written(&*kept, LOCAL, Store::Local));
@@ -121,54 +122,50 @@ fn keep_built_specials(kept: &mut Kept, specials: [u32; 8]) {
 }
 
 // The fresh state is completed by what the case puts into it. Registers, predicates and what waits are kept as described.
-fn keep_fresh(kept: &mut Kept, s: State) {
+fn keep_fresh(kept: &mut Kept, o: Opened) {
+    let s = o.state;
     keep_built(&mut *kept, FETCH, s.fetch);
     keep_built(&mut *kept, BASE, s.base);
     keep_built_specials(&mut *kept, listed(s.specials));
     kept[PHASE] = OPEN;
 }
 
-// The copies that later tell what an operation changed. The case's cache words stand in the cache's copy.
-fn set_up(main: &mut Memory, local: &mut Memory, cache: &mut Cache, e: Extents) {
-    copy_memory(&mut *main, e.main);
-    copy_memory(&mut *local, e.local);
-    fill_cache(&mut *cache, e.words);
-}
-
 // Keeps what came of the opening. The number of a refusal is reported.
-fn keep_opened(o: Opened, kept: &mut Kept, out: &mut [u8]) -> usize {
+fn keep_opened(o: Opened, kept: &mut Kept, out: &mut Report) -> usize {
     let answer = o.answer;
-    let state = o.state;
     match answer {
         Opening::Refused(n) => {
             kept[PHASE] = REFUSED;
             say(&mut *out, 0, b"open refused %\n", &[n as u64])
         }
         Opening::Opened => {
-            keep_fresh(&mut *kept, state);
+            keep_fresh(&mut *kept, o);
             0
         }
     }
 }
 
-// Of a case that is refused nothing is done, so the copies are made in any case.
+// Makes the copies that later tell what an operation changed. The case's cache words stand in the cache's copy. Of a case that is
+// refused nothing is done, so the copies are made in any case.
 fn open(
     code: &Bytes,
     main: &mut Memory,
     local: &mut Memory,
     cache: &mut Cache,
     kept: &mut Kept,
-    out: &mut [u8],
+    out: &mut Report,
 ) -> usize {
     let e = extents_of(&*kept);
     let entry = word(&*kept, ENTRY);
     let o = fresh(e, entry, code, &*main, &*local, &mut *cache);
-    set_up(&mut *main, &mut *local, &mut *cache, e);
+    copy_memory(&mut *main, e.main);
+    copy_memory(&mut *local, e.local);
+    fill_cache(&mut *cache, e.words);
     keep_opened(o, &mut *kept, &mut *out)
 }
 
 // At a case's first operation its places are judged.
-pub(crate) fn judge_places(kept: &mut Kept, out: &mut [u8]) -> usize {
+pub(crate) fn judge_places(kept: &mut Kept, out: &mut Report) -> usize {
     if kept[PHASE] != DESCRIBED {
         return 0;
     }
@@ -188,7 +185,7 @@ pub(crate) fn open_case(
     local: &mut Memory,
     cache: &mut Cache,
     kept: &mut Kept,
-    out: &mut [u8],
+    out: &mut Report,
 ) -> usize {
     let used = judge_places(&mut *kept, &mut *out);
     if kept[PHASE] != JUDGED {

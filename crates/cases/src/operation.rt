@@ -1,17 +1,17 @@
 // Operations that go on from a state, on the parts of the buffers that a case has, and their reports.
 ghost use Prim.Native.Nat.{_≤_};
 ghost use lib.ListN.{length};
+use crate::Asked;
 use crate::kept_state::keep_state;
 use crate::kept_state::state_of;
-use crate::report::put_counts;
 use bundle_model::Answer;
 use bundle_model::Counts;
 use case_kept::buffers::Bytes;
 use case_kept::buffers::Cache;
 use case_kept::buffers::Memory;
+use case_kept::buffers::Report;
 use case_kept::clearing::copy_cache;
 use case_kept::clearing::copy_memory;
-use case_kept::extent::Extents;
 use case_kept::extent::extents_of;
 use case_kept::kept::Kept;
 use case_report::changes::put_changes;
@@ -20,150 +20,151 @@ use case_report::state_lines::put_state;
 use run::Ran;
 use run::RunAnswer;
 use settings::Config;
-use state::State;
 use state::Stepped;
-use text::page::put;
+use text::page::put_decimal;
+use text::table::put_row;
 
-// A step, or a run with a budget.
-pub(crate) enum Operation {
-    Step,
-    Run(u32),
-}
-
-// How an operation ended.
+// How a step or a run ended.
 enum Ending {
-    Done,
-    Ended,
-    Spent,
-    Refused(u32),
+    StepDone,
+    StepEnded,
+    StepRefused(u32),
+    RunEnded,
+    RunSpent,
+    RunRefused(u32),
 }
 
-// What came of an operation, whichever it was.
+// What is reported of an operation, whichever it was.
 struct Outcome {
     ending: Ending,
     counts: Counts,
-    state: State,
 }
 
 fn step_ending(a: Answer) -> Ending {
     match a {
-        Answer::Done => Ending::Done,
-        Answer::Ended => Ending::Ended,
-        Answer::Refused(n) => Ending::Refused(n),
+        Answer::Done => Ending::StepDone,
+        Answer::Ended => Ending::StepEnded,
+        Answer::Refused(n) => Ending::StepRefused(n),
     }
 }
 
 fn run_ending(a: RunAnswer) -> Ending {
     match a {
-        RunAnswer::Ended => Ending::Ended,
-        RunAnswer::Spent => Ending::Spent,
-        RunAnswer::Refused(n) => Ending::Refused(n),
+        RunAnswer::Ended => Ending::RunEnded,
+        RunAnswer::Spent => Ending::RunSpent,
+        RunAnswer::Refused(n) => Ending::RunRefused(n),
     }
 }
 
-fn step_outcome(r: Stepped) -> Outcome {
+// The state that is left is kept.
+fn step_outcome(r: Stepped, kept: &mut Kept) -> Outcome {
     let answer = r.answer;
     let counts = r.counts;
     let state = r.state;
+    keep_state(&mut *kept, state);
     Outcome {
         ending: step_ending(answer),
         counts,
-        state,
     }
 }
 
-fn run_outcome(r: Ran) -> Outcome {
+fn run_outcome(r: Ran, kept: &mut Kept) -> Outcome {
     let answer = r.answer;
     let counts = r.counts;
     let state = r.state;
+    keep_state(&mut *kept, state);
     Outcome {
         ending: run_ending(answer),
         counts,
-        state,
     }
 }
 
 fn operate(
-    o: Operation,
-    s: State,
+    asked: Asked,
     code: &[u8],
     main: &mut [u8],
     local: &mut [u8],
     cache: &mut [u32],
     config: Config,
+    kept: &mut Kept,
 ) -> Outcome {
-    match o {
-        Operation::Step => step_outcome(s.step(code, main, local, cache, config)),
-        Operation::Run(budget) => run_outcome(run::run(
-            s,
-            code,
-            main,
-            local,
-            cache,
-            config,
-            budget,
-        )),
+    let s = state_of(&*kept);
+    match asked {
+        Asked::Run(budget) => run_outcome(
+            run::run(s, code, main, local, cache, config, budget),
+            &mut *kept,
+        ),
+        _ => step_outcome(s.step(code, main, local, cache, config), &mut *kept),
     }
 }
 
 // The operation on what the case has of each buffer.
 fn operate_on(
-    o: Operation,
-    s: State,
-    e: Extents,
+    asked: Asked,
     code: &[u8],
     main: &mut [u8],
     local: &mut [u8],
     cache: &mut [u32],
+    kept: &mut Kept,
 ) -> Outcome
-    requires { ⌜ (e .code ≤ length (now code)) × (e .main ≤ length (now main)) × (e .local ≤ length (now local)) × (e .words ≤ length (now cache)) ⌝ }
+    requires { ⌜ (65536 ≤ length (now code)) × (65536 ≤ length (now main)) × (65536 ≤ length (now local)) × (513 ≤ length (now cache)) ⌝ }
 {
+    let e = extents_of(&*kept);
     let c = e.code;
     let m = e.main;
     let l = e.local;
     let w = e.words;
     let config = Config { lo: e.lo, hi: e.hi };
     operate(
-        o,
-        s,
+        asked,
         &code[0..c],
         &mut main[0..m],
         &mut local[0..l],
         &mut cache[0..w],
         config,
+        &mut *kept,
     )
 }
 
-fn put_operation(out: &mut [u8], o: Operation) -> usize {
-    match o {
-        Operation::Step => put(out, 0, b"step"),
-        Operation::Run(_) => put(out, 0, b"run"),
-    }
-}
-
-fn put_ending(out: &mut [u8], used: usize, e: Ending) -> usize {
+fn row_of(e: Ending) -> usize {
     match e {
-        Ending::Done => put(out, used, b" done"),
-        Ending::Ended => put(out, used, b" ended"),
-        Ending::Spent => put(out, used, b" spent"),
-        Ending::Refused(n) => say(out, used, b" refused %", &[n as u64]),
+        Ending::StepDone => 0,
+        Ending::StepEnded => 1,
+        Ending::StepRefused(_) => 2,
+        Ending::RunEnded => 3,
+        Ending::RunSpent => 4,
+        Ending::RunRefused(_) => 5,
     }
 }
 
-// The state that is left is kept, and the answer and the counts are reported.
-fn after(o: Operation, r: Outcome, kept: &mut Kept, out: &mut [u8]) -> usize {
+fn put_ending(out: &mut Report, e: Ending) -> usize {
+    let used = put_row(
+        &mut *out,
+        0,
+        b"step done\nstep ended\nstep refused \nrun ended\nrun spent\nrun refused \n",
+        row_of(e),
+    );
+    match e {
+        Ending::StepRefused(n) | Ending::RunRefused(n) => put_decimal(&mut *out, used, n as u64),
+        _ => used,
+    }
+}
+
+fn put_outcome(out: &mut Report, r: Outcome) -> usize {
     let ending = r.ending;
-    let counts = r.counts;
-    let state = r.state;
-    keep_state(&mut *kept, state);
-    let a = put_operation(&mut *out, o);
-    let b = put_ending(&mut *out, a, ending);
-    put_counts(&mut *out, b, counts)
+    let c = r.counts;
+    let used = put_ending(&mut *out, ending);
+    say(
+        &mut *out,
+        used,
+        b" bundles % cycles % spilled % filled %\n",
+        &[c.bundles, c.cycles, c.spilled, c.filled],
+    )
 }
 
 // The state lines and the change lines. What is reported is changed no longer: the copies are brought up to date.
 fn report(
-    out: &mut [u8],
+    out: &mut Report,
     used: usize,
     main: &mut Memory,
     local: &mut Memory,
@@ -180,24 +181,23 @@ fn report(
 }
 
 pub(crate) fn do_operation(
-    o: Operation,
+    asked: Asked,
     code: &Bytes,
     main: &mut Memory,
     local: &mut Memory,
     cache: &mut Cache,
     kept: &mut Kept,
-    out: &mut [u8],
+    out: &mut Report,
 ) -> usize {
     let r = operate_on(
-        o,
-        state_of(&*kept),
-        extents_of(&*kept),
+        asked,
         code,
         &mut *main,
         &mut *local,
         &mut *cache,
+        &mut *kept,
     );
-    let used = after(o, r, &mut *kept, &mut *out);
+    let used = put_outcome(&mut *out, r);
     report(
         &mut *out,
         used,
