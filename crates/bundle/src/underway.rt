@@ -12,10 +12,12 @@ ghost use Rattle.run_model.specs.Run.{counted};
 use crate::execute::execute;
 use bundle_model::Advanced;
 use bundle_model::Counts;
-use bundle_model::Slots;
-use bundle_model::fetching::slots;
 use bundle_model::outcome::refused;
 use core_state::Core;
+use effects::slot::slot_one;
+use effects::slot::slot_two;
+use fetch::Fetched;
+use fetch::fetch;
 use settings::Settings;
 
 // The state, whose registers and predicates are lent, and what was counted so far.
@@ -90,24 +92,24 @@ fn bundle(
     ensures { λ r. ⌜ Kept (handedBack registers predicates r (left main local cache) ≡ bundle g (setupOf (now (code .entry)) g) (foundState registers predicates core) (found main local cache)) core (r .core) ⌝ }
 {
     let at = core.fetch;
-    let specials = core.specials;
-    match slots(&*registers, &*predicates, specials, code, at) {
-        Slots::Refused(n) => refused(core, n),
-        Slots::Found {
-            one,
-            two,
-            following,
-        } => execute(
-            core,
-            &mut *registers,
-            &mut *predicates,
-            g,
-            one,
-            two,
-            following as u32,
-            &mut *main,
-            &mut *local,
-            &mut *cache,
-        ),
+    match fetch(code, at) {
+        Fetched::Refused(n) => refused(core, n),
+        Fetched::Found { bundle, following } => {
+            let specials = core.specials;
+            let one = slot_one(&*registers, &*predicates, specials, at, bundle);
+            let two = slot_two(&*registers, &*predicates, bundle);
+            execute(
+                core,
+                &mut *registers,
+                &mut *predicates,
+                g,
+                one,
+                two,
+                following as u32,
+                &mut *main,
+                &mut *local,
+                &mut *cache,
+            )
+        }
     }
 }

@@ -1,30 +1,23 @@
 -- A bundle by what is fetched: refused, or executed.
-use Prim.Native.Nat.{ℕ, _≤_}
+use Prim.Native.Nat.{ℕ}
 use mathlib.Core.Bool.{Bool, true, false, not, cond}
-use mathlib.Core.Path.{_≡_, refl, ap, subst, _∙_}
-use native.Mathlib.Omega.{arith}
-use lib.ListN.{length}
+use mathlib.Core.Path.{_≡_, refl, ap, _∙_}
 use Rattle.answers.specs.Answer.{refused}
 use Rattle.answers.specs.TestLaws.{verdict-append}
 use Rattle.isa.specs.declared.Bundle.{Bundle}
 use Rattle.settings.specs.declared.Settings.{Settings}
 use Rattle.settings.specs.Setup.{Setup, Buffers}
 use Rattle.settings.specs.Settings.{admits}
-use Rattle.fetch.specs.declared.Fetched.{Fetched}
 use Rattle.fetch.specs.declared.Fetched.the-variants as fetch
 use Rattle.fetch.specs.Fetch.{bundleAt, followingAt, fetchTests, fetched}
-use Rattle.fetch.specs.FetchLaws.{refused-verdict, found-verdict, found-bundle, found-inside}
-use Rattle.alu_effects.specs.declared.AluEffect.{AluEffect}
-use Rattle.effects.specs.declared.Effect.{Effect}
+use Rattle.fetch.specs.FetchLaws.{refused-verdict, found-verdict, found-bundle}
 use Rattle.effects.specs.Effect.{slotOne, slotTwo}
 use Rattle.core_state.specs.State.{State, startOf, wellFormed, ended}
-use Rattle.bundle_model.specs.declared.Slots.{Slots}
-use Rattle.bundle_model.specs.declared.Slots.the-variants as slots
 use Rattle.bundle_model.specs.declared.Readiness.the-variants as ready
 use Rattle.bundle_model.specs.Counts.{noCounts}
 use Rattle.bundle_model.specs.Refusal.{effectTests}
 use Rattle.bundle_model.specs.Bundle.{outcome, bundle, readiness}
-use Rattle.bundle_model.specs.Execute.{slotsOf, executed}
+use Rattle.bundle_model.specs.Execute.{executed}
 
 module _ (g : Settings) (x : Setup) (s : State) (b : Buffers) where
   pub bundle-refused : (n : ℕ) → fetched (x .code) (s .fetch) ≡ fetch.Refused n → bundle g x s b ≡ outcome (refused n) s noCounts b
@@ -44,38 +37,6 @@ module _ (g : Settings) (x : Setup) (s : State) (b : Buffers) where
       here
       ∙ ap (λ (j : Bundle). executed g x s (slotOne (startOf s) j) (slotTwo (startOf s) j) after b) (f .0)
       ∙ ap (λ (n : ℕ). executed g x s (slotOne (startOf s) i) (slotTwo (startOf s) i) n b) (f .1)
-
--- The same by what the bundle is to do.
-module _ (x : Setup) (s : State) where
-  abbrev pub asked : Slots
-  asked = slotsOf (startOf s) (fetched (x .code) (s .fetch))
-
-  pub slots-refused : (g : Settings) (b : Buffers) (n : ℕ) → asked ≡ slots.Refused n → bundle g x s b ≡ outcome (refused n) s noCounts b
-  slots-refused g b n = go (fetched (x .code) (s .fetch)) refl
-    where
-      go : (f : Fetched) → fetched (x .code) (s .fetch) ≡ f → slotsOf (startOf s) f ≡ slots.Refused n → bundle g x s b ≡ outcome (refused n) s noCounts b
-      go (fetch.Refused m) f e = let k : m ≡ n = cc in bundle-refused g x s b n (f ∙ ap fetch.Refused k)
-      go (fetch.Found i following) f e = cc
-
-  module _ (one : Effect) (two : AluEffect) (following : ℕ) where
-    pub slots-found : (g : Settings) (b : Buffers) → asked ≡ slots.Found one two following → bundle g x s b ≡ executed g x s one two following b
-    slots-found g b = go (fetched (x .code) (s .fetch)) refl
-      where
-        go : (f : Fetched) → fetched (x .code) (s .fetch) ≡ f → slotsOf (startOf s) f ≡ slots.Found one two following → bundle g x s b ≡ executed g x s one two following b
-        go (fetch.Refused m) f e = cc
-        go (fetch.Found i after) f e =
-            let u : slotOne (startOf s) i ≡ one = cc in
-            let v : slotTwo (startOf s) i ≡ two = cc in
-            let w : after ≡ following = cc in
-            bundle-found g x s b i after f ∙ rw (u, v, w)
-
-    -- It ends in the code.
-    pub slots-inside : asked ≡ slots.Found one two following → following ≤ length (x .code)
-    slots-inside = go (fetched (x .code) (s .fetch)) refl
-      where
-        go : (f : Fetched) → fetched (x .code) (s .fetch) ≡ f → slotsOf (startOf s) f ≡ slots.Found one two following → following ≤ length (x .code)
-        go (fetch.Refused m) f e = let none : following ≡ 0 = cc in omega (arith, none)
-        go (fetch.Found i after) f e = let w : after ≡ following = cc in subst (λ (n : ℕ). n ≤ length (x .code)) w (found-inside (x .code) (s .fetch) i after f)
 
 -- A bundle is tried under settings inside the limits, from a well-formed state that has not ended.
 module _ (g : Settings) (s : State) where

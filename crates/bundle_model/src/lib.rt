@@ -1,12 +1,9 @@
 // What a bundle does: its refusals, its writes and counts, and the step, in specs/. Here are the types of what it gives, how they are
 // made, and what is judged before.
-pub mod fetching;
 pub mod outcome;
 pub mod ready;
 
-use alu_effects::AluEffect;
 use core_state::Core;
-use effects::Effect;
 
 // What a step answers; Refused holds document 01's number.
 pub enum Answer {
@@ -35,16 +32,6 @@ pub struct Advanced {
     pub answer: Answer,
     pub core: Core,
     pub counts: Counts,
-}
-
-// What a bundle is to do, refused with 2 or 3, or the effects of its slots and the address that follows it.
-pub enum Slots {
-    Refused(u32),
-    Found {
-        one: Effect,
-        two: AluEffect,
-        following: usize,
-    },
 }
 
 // Slot one carried out on the stores: refused with a number, or done. What is done tells the value that was loaded, where a stack

@@ -28,12 +28,12 @@ instructionsOf (bundle.One i) = i ∷ []
 instructionsOf (bundle.Two i j) = i ∷ (record { guard = j .guard; operation = Alu (j .operation) }) ∷ []
 instructionsOf (bundle.Long i) = i ∷ []
 
-not-undecodable : (b : Bundle) (i : Instruction) (is : List Instruction) → instructionsOf b ≡ i ∷ is → b ≡ bundle.Undecodable → ⊥
+pub not-undecodable : (b : Bundle) (i : Instruction) (is : List Instruction) → instructionsOf b ≡ i ∷ is → b ≡ bundle.Undecodable → ⊥
 not-undecodable b i is e u = cons≢nil (sym e ∙ ap instructionsOf u)
 
 -- Words that decode to one instruction decode to the bundle that is written for it: a bundle of one word has no long constant, for
 -- no format of a slot holds one, and a long immediate has one.
-no-constant : (start : Option ℕ) (o : Operation) → IsWords (alone (inSlot start o (eitherSlot o))) → constantOf (eitherSlot o) ≡ none
+pub no-constant : (start : Option ℕ) (o : Operation) → IsWords (alone (inSlot start o (eitherSlot o))) → constantOf (eitherSlot o) ≡ none
 unfolding writing
 no-constant start = by-slot (λ o x. IsWords (alone (inSlot start o x)) → constantOf x ≡ none) alu (λ o h. refl)
   where

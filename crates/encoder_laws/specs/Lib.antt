@@ -1,4 +1,4 @@
--- Open first: EncodeLaws.antt, then AskedLaws.antt, ExactLaws.antt, EncodeExamples.antt and FieldLaws.antt.
+-- Open first: EncodeLaws.antt, then AskedLaws.antt, ExactLaws.antt, FormatNumbers.antt, EncodeExamples.antt and FieldLaws.antt.
 pub mod PutLaws
 pub mod PlaceLaws
 pub mod FormatLaws
@@ -8,5 +8,6 @@ pub mod FieldLaws
 pub mod SlotLaws
 pub mod EncodeLaws
 pub mod AskedLaws
+pub mod FormatNumbers
 pub mod ExactLaws
 pub mod EncodeExamples

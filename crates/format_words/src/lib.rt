@@ -129,13 +129,13 @@ pub fn flow_single(w: Word, d: u32, rs: u32, op: u32) -> Word
 }
 
 // CFLrt.
-pub fn flow_two(w: Word, d: u32, rs1: u32, rs2: u32, op: u32) -> Word
-    ensures { λ r. ⌜ found r ≡ inFormat (found w) (at firstFormats 10) (d ∷ rs1 ∷ rs2 ∷ op ∷ []) ⌝ }
+pub fn flow_two(w: Word, d: u32, base: u32, offset: u32, op: u32) -> Word
+    ensures { λ r. ⌜ found r ≡ inFormat (found w) (at firstFormats 10) (d ∷ base ∷ offset ∷ op ∷ []) ⌝ }
 {
     let w = put(w, 16, 8388608, 12);
     let w = put(w, 4, 4, 2);
     let w = put(w, 2, 4194304, d);
-    let w = put(w, 32, 4096, rs1);
-    let w = put(w, 32, 128, rs2);
+    let w = put(w, 32, 4096, base);
+    let w = put(w, 32, 128, offset);
     put(w, 4, 1, op)
 }

@@ -2,40 +2,43 @@ use mathlib.Core.Path.{sym, subst, _∙_}
 use native.Mathlib.Omega.{arith}
 use Rattle.settings.specs.Setup.{setupOf}
 use Rattle.settings.specs.SettingsLaws.{code-small}
+use Rattle.fetch.specs.FetchLaws.{found-inside}
 use Rattle.core_state.specs.Core.{joined, Canonical}
-use Rattle.bundle_model.specs.BundleLaws.{slots-refused, slots-found, slots-inside}
+use Rattle.bundle_model.specs.BundleLaws.{bundle-refused, bundle-found}
 use Rattle.bundle_model.specs.ExecuteLaws.{full-same}
 use borrow.Author.Needs.{needs}
 use Rattle.bundle.proofs.underway.bundle.Statement.{statement}
 use Rattle.bundle.proofs.underway.bundle.Tie as tie
 
-slots-requires : tie.Need-slots-requires
-slots-requires c κs = tt
+fetch-requires : tie.Need-fetch-requires
+fetch-requires c κs = search needs
 
 enum-known-n : tie.Need-enum-known-n
-enum-known-n c = c .match .keys1
+enum-known-n c = search needs
 
 refused-requires : tie.Need-refused-requires
-refused-requires c κs = tt
+refused-requires c κs = search needs
 
-enum-known-one : tie.Need-enum-known-one
-enum-known-one c = c .match .keys2
+enum-known-bundle : tie.Need-enum-known-bundle
+enum-known-bundle c = search needs
+
+slot-one-requires : tie.Need-slot-one-requires
+slot-one-requires c κs = search needs
+
+slot-two-requires : tie.Need-slot-two-requires
+slot-two-requires c κs = search needs
 
 cast-execute : tie.Need-cast-execute
-cast-execute c =
-    let a = c .before .before .before .before .before .before .before .before .before .before .before .before .before in
-    let x = setupOf (a .args .code .now) (a .args .g) in
-    let s = joined (a .args .registers .now) (a .args .predicates .now) (a .args .core) in
-    omega (arith, slots-inside x s _ _ _ (sym (c .before .before .before .before .before .slots .ensures) ∙ c .before .before .before .one .given .1), code-small (a .args .g) (a .pre .0), a .pre .2)
+cast-execute c = let a = c .before .before .before .before .before .before .before .before .before .before .before .before .before .before .before .before .before .before .before .before in omega (arith, found-inside (a .args .code .now) (a .args .core .fetch) _ _ (sym (c .before .before .before .before .before .before .before .before .before .before .before .before .before .before .before .fetch .ensures) ∙ c .before .before .before .before .before .before .before .before .before .before .before .before .before .bundle .given .1), code-small (a .args .g) (a .pre .0), a .pre .2)
 
 execute-requires : tie.Need-execute-requires
-execute-requires c κs = let a = c .before .before .before .before .before .before .before .before .before .before .before .before .before .before .before .before in (a .pre .0, a .pre .1)
+execute-requires c κs = (c .before .before .before .before .before .before .before .before .before .before .before .before .before .before .before .before .before .before .before .before .before .before .before .pre .0, c .before .before .before .before .before .before .before .before .before .before .before .before .before .before .before .before .before .before .before .before .before .before .before .pre .1)
 
 returns : tie.Need-returns
 returns c =
-    let a = c .before .before .before .before .before .before .before .before .before .before .before .before .args in
+    let a = c .before .before .before .before .before .before .before .before .before .args in
     record {
-      given = rw (slots-refused (setupOf (a .code .now) (a .g)) (joined (a .registers .now) (a .predicates .now) (a .core)) (a .g) _ _ (sym (c .before .before .before .before .slots .ensures) ∙ c .before .before .n .given .1)) (full-same _ _ _ (c .refused .ensures .0 _ _));
+      given = rw (bundle-refused (a .g) (setupOf (a .code .now) (a .g)) (joined (a .registers .now) (a .predicates .now) (a .core)) _ _ (sym (c .before .before .before .before .fetch .ensures) ∙ c .before .before .n .given .1)) (full-same _ _ _ (c .refused .ensures .0 _ _));
       canonical = subst Canonical (sym (c .refused .ensures .1));
     }
 
@@ -50,10 +53,15 @@ same-length-3 c = search needs
 
 returns-2 : tie.Need-returns-2
 returns-2 c =
-    let a = c .before .before .before .before .before .before .before .before .before .before .before .before .before .before .before .before .before .before .before .before .before .before .before .args in
+    let a = c .before .before .before .before .before .before .before .before .before .before .before .before .before .before .before .before .before .before .before .before .before .before .before .before .before .before .before .before .before .before .args in
     let e = c .before .before .before .before .before .before .execute .ensures in
     record {
-      given = rw (slots-found (setupOf (a .code .now) (a .g)) (joined (a .registers .now) (a .predicates .now) (a .core)) _ _ _ (a .g) _ (sym (c .before .before .before .before .before .before .before .before .before .before .before .before .before .before .before .slots .ensures) ∙ c .before .before .before .before .before .before .before .before .before .before .before .before .before .one .given .1)) (e .given _);
+      given = rw (
+        bundle-found (a .g) (setupOf (a .code .now) (a .g)) (joined (a .registers .now) (a .predicates .now) (a .core)) _ _ _ (sym (c .before .before .before .before .before .before .before .before .before .before .before .before .before .before .before .before .before .before .before .before .before .before .before .before .before .fetch .ensures) ∙ c .before .before .before .before .before .before .before .before .before .before .before .before .before .before .before .before .before .before .before .before .before .before .before .bundle .given .1),
+        ← c .before .before .before .before .before .before .before .before .before .before .before .before .before .before .before .before .before .slot-one .ensures,
+        ← c .before .before .before .before .before .before .before .before .before .before .before .before .slot-two .ensures _ _,
+      )
+          (e .given _);
       canonical = e .canonical;
     }
 
@@ -61,10 +69,12 @@ pub bundle-spec : {M : Type 1} → statement M
 bundle-spec =
     tie.close
     (tie.spec
-    slots-requires
+    fetch-requires
     enum-known-n
     refused-requires
-    enum-known-one
+    enum-known-bundle
+    slot-one-requires
+    slot-two-requires
     cast-execute
     execute-requires
     returns
