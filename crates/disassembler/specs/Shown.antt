@@ -7,6 +7,7 @@ use Rattle.assembly.specs.declared.Operand.{Operand}
 use Rattle.disassembler.specs.declared.Shown.{Shown}
 use Rattle.isa.specs.declared.PredicateOperand.{PredicateOperand}
 use Rattle.isa.specs.declared.Op2.the-variants as op2
+use Rattle.isa.specs.declared.StackAmount.{StackAmount}
 use Rattle.isa.specs.declared.StackAmount.the-variants as amount
 use Rattle.isa.specs.declared.StackOperation.the-variants.{Sres, Sens, Sfree, Sspill}
 use Rattle.isa.specs.declared.Target.the-variants.{Call, CallRegister, Br, BrRegister, Brcf, BrcfRegister, Ret}
@@ -30,6 +31,11 @@ showOne k func a = showFour k func a (plain 0) (plain 0) (plain 0)
 abbrev pub ofPredicate : PredicateOperand → Operand
 ofPredicate p = record { negated = p .negated; number = p .predicate }
 
+-- The amount of a stack instruction, by the form of words and that of a register.
+abbrev pub showAmount : ℕ → ℕ → StackAmount → Shown
+showAmount words register (amount.Words n) = showOne words 0 (plain n)
+showAmount words register (amount.Register r) = showOne register 0 (plain r)
+
 -- A number of 32 bits with a sign, as its two's complement.
 abbrev pub complement : ℤ → ℕ
 complement (pos n) = n
@@ -50,11 +56,9 @@ shown (Mfs rd s) = showTwo 9 0 (plain rd) (plain (specialCode s))
 shown (Load k w rd ra n) = showThree 10 (loadCode w * 4 + kindCode k) (plain rd) (plain ra) (plain n)
 shown (Store k w ra rs n) = showThree 11 (storeCode w * 4 + kindCode k) (plain ra) (plain n) (plain rs)
 shown (StackControl (Sres n)) = showOne 12 0 (plain n)
-shown (StackControl (Sens (amount.Words n))) = showOne 13 0 (plain n)
+shown (StackControl (Sens a)) = showAmount 13 16 a
 shown (StackControl (Sfree n)) = showOne 14 0 (plain n)
-shown (StackControl (Sspill (amount.Words n))) = showOne 15 0 (plain n)
-shown (StackControl (Sens (amount.Register r))) = showOne 16 0 (plain r)
-shown (StackControl (Sspill (amount.Register r))) = showOne 17 0 (plain r)
+shown (StackControl (Sspill a)) = showAmount 15 17 a
 shown (Transfer d (Call n)) = showOne 18 (bit d) (plain n)
 shown (Transfer d (Br z)) = showOne 19 (bit d) (plain (complement z))
 shown (Transfer d (Brcf n)) = showOne 20 (bit d) (plain n)

@@ -3,7 +3,7 @@ ghost use mathlib.Core.Path.{_≡_};
 ghost use Prim.Native.Nat.{_+_, _*_};
 ghost use Rattle.fields.specs.Fields.{kindCode, loadCode, storeCode};
 ghost use Rattle.assembly.specs.Operands.{plain as plainOf};
-ghost use Rattle.disassembler.specs.Shown.{showFour, showThree, showTwo, showOne, ofPredicate, shown};
+ghost use Rattle.disassembler.specs.Shown.{showFour, showThree, showTwo, showOne, showAmount, ofPredicate, shown};
 use crate::Shown;
 use assembly::Mnemonic;
 use assembly::Operand;
@@ -128,21 +128,13 @@ fn show_alu(a: AluOperation) -> Shown
     }
 }
 
-fn show_sens(amount: StackAmount) -> Shown
-    ensures { λ r. ⌜ r ≡ shown (Operation.StackControl (StackOperation.Sens amount)) ⌝ }
+// An amount, by the form of words and that of a register.
+fn show_amount(words: u32, register: u32, amount: StackAmount) -> Shown
+    ensures { λ r. ⌜ r ≡ showAmount words register amount ⌝ }
 {
     match amount {
-        StackAmount::Words(n) => one(13, 0, n),
-        StackAmount::Register(r) => one(16, 0, r),
-    }
-}
-
-fn show_sspill(amount: StackAmount) -> Shown
-    ensures { λ r. ⌜ r ≡ shown (Operation.StackControl (StackOperation.Sspill amount)) ⌝ }
-{
-    match amount {
-        StackAmount::Words(n) => one(15, 0, n),
-        StackAmount::Register(r) => one(17, 0, r),
+        StackAmount::Words(n) => one(words, 0, n),
+        StackAmount::Register(r) => one(register, 0, r),
     }
 }
 
@@ -151,9 +143,9 @@ fn show_stack(s: StackOperation) -> Shown
 {
     match s {
         StackOperation::Sres(n) => one(12, 0, n),
-        StackOperation::Sens(amount) => show_sens(amount),
+        StackOperation::Sens(amount) => show_amount(13, 16, amount),
         StackOperation::Sfree(n) => one(14, 0, n),
-        StackOperation::Sspill(amount) => show_sspill(amount),
+        StackOperation::Sspill(amount) => show_amount(15, 17, amount),
     }
 }
 

@@ -12,8 +12,8 @@ one-requires c κs = tt
 enum-known-s-2 : tie.Need-enum-known-s-2
 enum-known-s-2 c = search needs
 
-show-sens-requires : tie.Need-show-sens-requires
-show-sens-requires c κs = tt
+show-amount-requires : tie.Need-show-amount-requires
+show-amount-requires c κs = tt
 
 enum-known-s-3 : tie.Need-enum-known-s-3
 enum-known-s-3 c = search needs
@@ -24,8 +24,8 @@ one-requires-2 c κs = tt
 enum-known-s-4 : tie.Need-enum-known-s-4
 enum-known-s-4 c = search needs
 
-show-sspill-requires : tie.Need-show-sspill-requires
-show-sspill-requires c κs = tt
+show-amount-requires-2 : tie.Need-show-amount-requires-2
+show-amount-requires-2 c κs = tt
 
 returns : tie.Need-returns
 unfolding shown
@@ -33,7 +33,7 @@ returns c = rw (c .before .before .s .given .1) (c .one .ensures)
 
 returns-2 : tie.Need-returns-2
 unfolding shown
-returns-2 c = rw (c .before .before .s2 .given .1) (c .show-sens .ensures)
+returns-2 c = rw (c .before .before .s2 .given .1) (c .show-amount .ensures)
 
 returns-3 : tie.Need-returns-3
 unfolding shown
@@ -41,7 +41,7 @@ returns-3 c = rw (c .before .before .s3 .given .1) (c .one2 .ensures)
 
 returns-4 : tie.Need-returns-4
 unfolding shown
-returns-4 c = rw (c .before .before .s4 .given .1) (c .show-sspill .ensures)
+returns-4 c = rw (c .before .before .s4 .given .1) (c .show-amount2 .ensures)
 
 pub show-stack-spec : {M : Type 1} → statement M
 show-stack-spec =
@@ -50,11 +50,11 @@ show-stack-spec =
     enum-known-s
     one-requires
     enum-known-s-2
-    show-sens-requires
+    show-amount-requires
     enum-known-s-3
     one-requires-2
     enum-known-s-4
-    show-sspill-requires
+    show-amount-requires-2
     returns
     returns-2
     returns-3
