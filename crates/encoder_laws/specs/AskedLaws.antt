@@ -1,17 +1,14 @@
 -- Asking for an instruction, or for two: what is refused is what no words decode to, the rules of the slots included.
 use Prim.Native.Nat.{ℕ, _<_, _^_}
-use mathlib.Core.Bool.{Bool, true, false, cond}
 use mathlib.Core.List.{List, [], _∷_, cons≢nil, nil≢cons, head-eq-of-cons-eq, tail-eq-of-cons-eq}
 use mathlib.Core.Logic.{_↔_}
 use mathlib.Core.Option.{Option, none, some}
 use mathlib.Core.Path.{_≡_, refl, sym, ap, ap₂, _∙_, subst}
 use native.Mathlib.Omega.{arith}
-use Rattle.isa.specs.Format.{reading}
-use Rattle.isa.specs.Formats.{longFormats, applied}
-use Rattle.decoder.specs.Decode.{isTwoWords, guardOf, slotOne, slotTwo, one, two, long, decode}
+use Rattle.decoder.specs.Decode.{guardOf, decode}
 use Rattle.fields.specs.Place.{writing}
 use Rattle.encoder.specs.Encode.{eitherSlot, constantOf, inSlot, slotWord, longWord, alone, beside, written, ofLength, single, besideAlu, pair}
-use Rattle.encoder_laws.specs.SlotLaws.{by-slot, alu-written, slot-written, long-written}
+use Rattle.encoder_laws.specs.SlotLaws.{by-slot, by-decode, alu-written, slot-written, long-written}
 use Rattle.encoder_laws.specs.EncodeLaws.{Decodes, written-decodes, IsWords, slot-two-reads, decoded-written, refused-twelve, refused-iff, ConstantBelow, Below, written-below}
 use Rattle.isa.specs.declared.PredicateOperand.{PredicateOperand}
 use Rattle.isa.specs.declared.Op2.the-variants as op2
@@ -94,22 +91,14 @@ unfolding written single
 long-single g a w n e c = rw (c, e, c) tt
 
 pub instruction-written : (first second : ℕ) → AllWritten (instructionsOf (decode first second))
-unfolding decode
-instruction-written first second =
-    go (isTwoWords first) (applied (reading longFormats first) second) (slotOne first) (slotTwo second) refl refl refl
-  where
-    go : (t : Bool) (l : Option AluOperation) (o : Option Operation) (a : Option AluOperation)
-        → applied (reading longFormats first) second ≡ l → slotOne first ≡ o → slotTwo second ≡ a
-        → AllWritten (instructionsOf (cond t (long (guardOf first) l (two (guardOf first) o (guardOf second) a)) (one (guardOf first) o)))
-    go true (some l) o a e f g = let v = long-written first second l e in (long-single (guardOf first) l (v .0) second (v .1) (v .2), tt)
-    go true none (some o) (some a) e f g =
-        let v = slot-written 0 first o (omega arith) f in
-        let u = alu-written 0 second a (omega arith) (slot-two-reads second a g) in
-        (slot-single (guardOf first) o (v .0) (v .1), (slot-single (guardOf second) (Alu a) (u .0) (u .1), tt))
-    go true none (some o) none e f g = tt
-    go true none none a e f g = tt
-    go false l (some o) a e f g = let v = slot-written 0 first o (omega arith) f in (slot-single (guardOf first) o (v .0) (v .1), tt)
-    go false l none a e f g = tt
+instruction-written first second = by-decode (λ t b. AllWritten (instructionsOf b)) first second
+    (λ t. tt)
+    (λ a e. let v = long-written first second a e in (long-single (guardOf first) a (v .0) second (v .1) (v .2), tt))
+    (λ o a p f g.
+    let v = slot-written 0 first o (omega arith) f in
+    let u = alu-written 0 second a (omega arith) (slot-two-reads second a g) in
+    (slot-single (guardOf first) o (v .0) (v .1), (slot-single (guardOf second) (Alu a) (u .0) (u .1), tt)))
+    (λ o p f. let v = slot-written 0 first o (omega arith) f in (slot-single (guardOf first) o (v .0) (v .1), tt))
 
 -- 12 is answered exactly where no words decode to the instructions that were asked for.
 abbrev NoWords : List Instruction → Type 0

@@ -3,18 +3,17 @@
 use Prim.Native.Nat.{ℕ, _<_, _^_}
 use mathlib.Core.Bool.{Bool, true, false, cond}
 use mathlib.Core.Logic.{_↔_}
-use mathlib.Core.Option.{Option, none, some, Option·none-ne-some}
+use mathlib.Core.Option.{none, some, Option·none-ne-some}
 use mathlib.Core.Path.{_≡_, refl, sym, ap, _∙_, subst}
 use native.Mathlib.Omega.{arith}
 use Rattle.isa.specs.Format.{reading}
-use Rattle.isa.specs.Formats.{longFormats, aluFormats, applied}
-use Rattle.decoder.specs.Decode.{isTwoWords, guardOf, slotOne, slotTwo, one, two, long, decode}
+use Rattle.isa.specs.Formats.{aluFormats}
+use Rattle.decoder.specs.Decode.{isTwoWords, slotTwo, decode}
 use Rattle.decoder_laws.specs.RangeLaws.{IfSome}
 use Rattle.encoder.specs.Encode.{eitherSlot, constantOf, slotWord, longWord, written}
-use Rattle.encoder_laws.specs.SlotLaws.{by-words, longOf, alu-read, slot-read, long-read, alu-written, slot-written, long-written}
+use Rattle.encoder_laws.specs.SlotLaws.{by-words, by-decode, longOf, alu-read, slot-read, long-read, alu-written, slot-written, long-written}
 use Rattle.isa.specs.declared.PredicateOperand.{PredicateOperand}
 use Rattle.isa.specs.declared.AluOperation.{AluOperation}
-use Rattle.isa.specs.declared.Operation.{Operation}
 use Rattle.isa.specs.declared.Operation.the-variants.{Alu}
 use Rattle.isa.specs.declared.Instruction.{Instruction}
 use Rattle.isa.specs.declared.AluInstruction.{AluInstruction}
@@ -64,23 +63,15 @@ slot-two-reads w a = go (isTwoWords w)
     go false e = e
 
 pub decoded-written : (first second : ℕ) → (decode first second ≡ bundle.Undecodable → ⊥) → IsWords (written (decode first second))
-unfolding decode written
-decoded-written first second =
-    go (isTwoWords first) (applied (reading longFormats first) second) (slotOne first) (slotTwo second) refl refl refl
-  where
-    go : (t : Bool) (l : Option AluOperation) (o : Option Operation) (a : Option AluOperation)
-        → applied (reading longFormats first) second ≡ l → slotOne first ≡ o → slotTwo second ≡ a
-        → (cond t (long (guardOf first) l (two (guardOf first) o (guardOf second) a)) (one (guardOf first) o) ≡ bundle.Undecodable → ⊥)
-        → IsWords (written (cond t (long (guardOf first) l (two (guardOf first) o (guardOf second) a)) (one (guardOf first) o)))
-    go true (some l) o a e f g d = let v = long-written first second l e in rw (v .1, v .2) tt
-    go true none (some o) (some a) e f g d =
-        let v = slot-written 1 first o (omega arith) f in
-        let u = alu-written 0 second a (omega arith) (slot-two-reads second a g) in
-        rw (v .1, u .1) tt
-    go true none (some o) none e f g d = absurd (d refl)
-    go true none none a e f g d = absurd (d refl)
-    go false l (some o) a e f g d = let v = slot-written 0 first o (omega arith) f in rw (v .1) tt
-    go false l none a e f g d = absurd (d refl)
+unfolding written
+decoded-written first second = by-decode (λ t b. (b ≡ bundle.Undecodable → ⊥) → IsWords (written b)) first second
+    (λ t d. absurd (d refl))
+    (λ a e d. let v = long-written first second a e in rw (v .1, v .2) tt)
+    (λ o a p f g d.
+    let v = slot-written 1 first o (omega arith) f in
+    let u = alu-written 0 second a (omega arith) (slot-two-reads second a g) in
+    rw (v .1, u .1) tt)
+    (λ o p f d. let v = slot-written 0 first o (omega arith) f in rw (v .1) tt)
 
 -- The fixed form of two words: what they decode to, written. The fixed form decodes to the same, and is its own fixed form.
 unfoldable pub fixedForm : ℕ → ℕ → Written

@@ -10,7 +10,7 @@ use lib.Dec.{eqb}
 use Rattle.word.specs.BoolLaws.{and-left, and-right}
 use Rattle.isa.specs.Format.{_⋯_, bits, matches, Format, reading}
 use Rattle.isa.specs.Formats.{longFormats, aluFormats, firstFormats, applied}
-use Rattle.decoder.specs.Decode.{isTwoWords, guardOf, either, slotOne, slotTwo, one, two, long, decode}
+use Rattle.decoder.specs.Decode.{isTwoWords, guardOf, either, slotOne, slotTwo, decode}
 use Rattle.fields.specs.Place.{_⟨_⟩, at, placed, writing}
 use Rattle.fields.specs.Fields.{operandNumber, longFields, aluFields, firstFields}
 use Rattle.encoder.specs.Encode.{constantOf, guarded, inSlot, slotWord, longWord, written}
@@ -18,7 +18,7 @@ use Rattle.encoder_laws.specs.FormatLaws.{in-format, find}
 use Rattle.encoder_laws.specs.UnusedLaws.{blanks, unused-zero, bare, write-bare, other-bare, read-whole}
 use Rattle.encoder_laws.specs.Codes.{operand-back}
 use Rattle.encoder_laws.specs.FieldLaws.{IsLong, guardOnly, guardAndLength, long-sound, alu-sound, first-sound, long-differ, alu-differ, first-differ, alu-not-first, first-not-alu, alu-not-long, first-not-long, long-not-alu, long-not-first, long-back, alu-back, first-back}
-use Rattle.encoder_laws.specs.SlotLaws.{by-slot, by-words, alu-in, first-only}
+use Rattle.encoder_laws.specs.SlotLaws.{by-decode, by-slot, by-words, alu-in, first-only}
 use Rattle.encoder_laws.specs.EncodeLaws.{slot-two-reads, fixedForm}
 use Rattle.isa.specs.declared.PredicateOperand.{PredicateOperand}
 use Rattle.isa.specs.declared.AluOperation.{AluOperation}
@@ -189,25 +189,16 @@ wordsOf first second = cond (isTwoWords first) (Two first second) (One first)
 -- Bare words that decode are their own fixed form.
 pub written-exactly : (first second : ℕ) → first < 2 ^ 32 → second < 2 ^ 32 → (decode first second ≡ bundle.Undecodable → ⊥)
     → Bare first second (decode first second) → fixedForm first second ≡ wordsOf first second
-unfolding fixedForm decode written
-written-exactly first second h k =
-    go (isTwoWords first) refl (applied (reading longFormats first) second) (slotOne first) (slotTwo second) refl refl refl
-  where
-    go : (t : Bool) → isTwoWords first ≡ t → (l : Option AluOperation) (o : Option Operation) (a : Option AluOperation)
-        → applied (reading longFormats first) second ≡ l → slotOne first ≡ o → slotTwo second ≡ a
-        → (cond t (long (guardOf first) l (two (guardOf first) o (guardOf second) a)) (one (guardOf first) o) ≡ bundle.Undecodable → ⊥)
-        → Bare first second (cond t (long (guardOf first) l (two (guardOf first) o (guardOf second) a)) (one (guardOf first) o))
-        → written (cond t (long (guardOf first) l (two (guardOf first) o (guardOf second) a)) (one (guardOf first) o))
-        ≡ cond t (Two first second) (One first)
-    go true p (some l) o a e f g d b = let v = long-exact first second l b h e in rw (v .0, v .1) refl
-    go true p none (some o) (some a) e f g d b =
-        let v = slot-exact first 1 o (eqb-true _ _ p) (b .0) h f in
-        let u = alu-exact second 0 a (slot-two-clear second a g) (b .1) k (slot-two-reads second a g) in
-        rw (v, u) refl
-    go true p none (some o) none e f g d b = absurd (d refl)
-    go true p none none a e f g d b = absurd (d refl)
-    go false p l (some o) a e f g d b = rw (slot-exact first 0 o (clear first p) b h f) refl
-    go false p l none a e f g d b = absurd (d refl)
+unfolding fixedForm written
+written-exactly first second h k = by-decode
+    (λ t b. (b ≡ bundle.Undecodable → ⊥) → Bare first second b → written b ≡ cond t (Two first second) (One first)) first second
+    (λ t d b. absurd (d refl))
+    (λ a e d b. let v = long-exact first second a b h e in rw (v .0, v .1) refl)
+    (λ o a p f g d b.
+    let v = slot-exact first 1 o (eqb-true _ _ p) (b .0) h f in
+    let u = alu-exact second 0 a (slot-two-clear second a g) (b .1) k (slot-two-reads second a g) in
+    rw (v, u) refl)
+    (λ o p f d b. rw (slot-exact first 0 o (clear first p) b h f) refl)
 
 -- And only those are.
 pub exactly-bare : (first second : ℕ) → fixedForm first second ≡ wordsOf first second → Bare first second (decode first second)

@@ -1,13 +1,13 @@
 -- The word of a slot, and the first word of a long immediate: read back whole, and written for whatever is read. Bundles have these words.
 use Prim.Native.Nat.{ℕ, _^_, _<_}
-use mathlib.Core.Bool.{true}
+use mathlib.Core.Bool.{Bool, true, false, cond}
 use mathlib.Core.List.{[], _∷_}
 use mathlib.Core.Option.{Option, none, some, Option·some-injective, Option·none-ne-some}
 use mathlib.Core.Path.{_≡_, refl, sym, ap, _∙_, subst}
 use native.Mathlib.Omega.{arith}
 use Rattle.isa.specs.Format.{_⋯_, _≔_, bits, matches, reading}
 use Rattle.isa.specs.Formats.{predicateOperand, longFormats, aluFormats, firstFormats, applied}
-use Rattle.decoder.specs.Decode.{guardOf, either, slotOne}
+use Rattle.decoder.specs.Decode.{isTwoWords, guardOf, either, slotOne, slotTwo, one, two, long, decode}
 use Rattle.decoder_laws.specs.Layout.{fixes}
 use Rattle.fields.specs.Place.{_⟨_⟩, placed, writing}
 use Rattle.fields.specs.Fields.{operandNumber, longFields, aluFields, firstFields}
@@ -206,3 +206,25 @@ by-words P r one two long (bundle.Long i) =
     go g a none y e f = r (longOf g (Alu a))
     go g a (some w) none e f = r (longOf g (Alu a))
     go g a (some w) (some n) e f = long g a w n e f
+
+-- What holds of undecodable words, and of each kind of bundle by what its words say, holds of what is decoded.
+pub by-decode : (P : Bool → Bundle → Type 0) (first second : ℕ)
+    → ((t : Bool) → P t bundle.Undecodable)
+    → ((a : AluOperation) → applied (reading longFormats first) second ≡ some a → P true (longOf (guardOf first) (Alu a)))
+    → ((o : Operation) (a : AluOperation) → isTwoWords first ≡ true → slotOne first ≡ some o → slotTwo second ≡ some a
+    → P true (bundle.Two (record { guard = guardOf first; operation = o }) (record { guard = guardOf second; operation = a })))
+    → ((o : Operation) → isTwoWords first ≡ false → slotOne first ≡ some o → P false (bundle.One (record { guard = guardOf first; operation = o })))
+    → P (isTwoWords first) (decode first second)
+unfolding decode
+by-decode P first second nothing long-immediate pair alone =
+    go (isTwoWords first) refl (applied (reading longFormats first) second) (slotOne first) (slotTwo second) refl refl refl
+  where
+    go : (t : Bool) → isTwoWords first ≡ t → (l : Option AluOperation) (o : Option Operation) (a : Option AluOperation)
+        → applied (reading longFormats first) second ≡ l → slotOne first ≡ o → slotTwo second ≡ a
+        → P t (cond t (long (guardOf first) l (two (guardOf first) o (guardOf second) a)) (one (guardOf first) o))
+    go true p (some l) o a e f g = long-immediate l e
+    go true p none (some o) (some a) e f g = pair o a p f g
+    go true p none (some o) none e f g = nothing true
+    go true p none none a e f g = nothing true
+    go false p l (some o) a e f g = alone o p f
+    go false p l none a e f g = nothing false
