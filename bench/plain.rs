@@ -1,6 +1,6 @@
-//! A plain interpreter of the Patmos core of document 01, to compare speed with.
+//! A plain interpreter of the Patmos core of document 01, with the late products of document 02 (ii), to compare speed with.
 //! Build: rustc -O plain.rs        Use: plain WORKLOAD BUDGET MAINLEN W
-//! WORKLOAD is loop, calls, memory or all.
+//! WORKLOAD is loop, calls, memory, products or all.
 //!
 //! Settings of a workload: the code words below, main memory of MAINLEN bytes, local
 //! memory of 1024 bytes, stack area from (MAINLEN / 2) to MAINLEN, both rounded down to
@@ -29,6 +29,13 @@ const MEMORY: &[u32] = &[
     0x02063880, 0x82982180, 0x02063500, 0x029A2383, 0x829C2589, 0x02063600, 0x029E2783, 0x82A02989,
     0x02063700, 0x82A22100, 0x02063780, 0x02942303, 0x82962509, 0x02063880, 0x02982703, 0x829A2909,
     0x02063580, 0x82021182, 0x00042004, 0x01C420FC, 0x04FFFFD1, 0x0202118C, 0x00084001,
+];
+
+const PRODUCTS: &[u32] = &[
+    0x87C20000, 0x12345678, 0x87C40000, 0x9ABCDEF1, 0x02001120, 0x020020A1, 0x820030A0, 0x02084080,
+    0x024A0032, 0x824C0033, 0x02084282, 0x02021282, 0x02005320, 0x02042302, 0x020211E6, 0x0A001320,
+    0x4A006121, 0x024E0032, 0x02405023, 0x82500033, 0x02063380, 0x02063402, 0x04FFFFEE, 0x02003120,
+    0x00129001,
 ];
 
 // ---------------------------------------------------------------- machine
@@ -91,6 +98,9 @@ struct Machine {
     base: u32,
     transfer: Option<Waiting>,
     load: Option<(u32, u32)>,
+    /// The products under way, sl and sh of each: one lands in the next bundle, one in the bundle after it.
+    soon: Option<(u32, u32)>,
+    later: Option<(u32, u32)>,
     counts: Counts,
 }
 
@@ -218,6 +228,8 @@ impl Machine {
             base: entry,
             transfer: None,
             load: None,
+            soon: None,
+            later: None,
             counts: Counts::default(),
         })
     }
@@ -261,6 +273,11 @@ impl Machine {
         if let Some((r, v)) = self.load.take() {
             self.set_reg((r & 31) as usize, v);
         }
+        if let Some((low, high)) = self.soon {
+            self.sl = low;
+            self.sh = high;
+        }
+        self.soon = self.later.take();
     }
 
     #[inline]
@@ -488,13 +505,12 @@ impl Machine {
                 if w & 15 > 1 {
                     return Err(3);
                 }
-                if go {
-                    let (a, b) = (self.regs[rs1(w)], self.regs[rs2(w)]);
-                    let v = if w & 1 == 0 { (a as i32 as i64 * b as i32 as i64) as u64 } else { a as u64 * b as u64 };
-                    self.sl = v as u32;
-                    self.sh = (v >> 32) as u32;
-                }
+                let (a, b) = (self.regs[rs1(w)], self.regs[rs2(w)]);
                 self.land();
+                if go {
+                    let v = if w & 1 == 0 { (a as i32 as i64 * b as i32 as i64) as u64 } else { a as u64 * b as u64 };
+                    self.later = Some((v as u32, (v >> 32) as u32));
+                }
             }
             0b00000..=0b01000 => {
                 let s = self.common(w).ok_or(3u32)?;
@@ -510,8 +526,9 @@ impl Machine {
                 }
                 match w >> 4 & 7 {
                     2 => {
+                        let v = self.regs[rs1(w)];
+                        self.land();
                         if go {
-                            let v = self.regs[rs1(w)];
                             if let Some(s) = self.special(n) {
                                 *s = v;
                             } else {
@@ -520,7 +537,6 @@ impl Machine {
                                 }
                             }
                         }
-                        self.land();
                     }
                     3 => {
                         let v = match self.special(n) {
@@ -775,7 +791,7 @@ fn workload(name: &str, code: &[u32], budget: u32, mainlen: usize, w: u32) {
 
 fn main() {
     let args: Vec<String> = std::env::args().collect();
-    let all = [("loop", LOOP), ("calls", CALLS), ("memory", MEMORY)];
+    let all = [("loop", LOOP), ("calls", CALLS), ("memory", MEMORY), ("products", PRODUCTS)];
     let parsed = if args.len() == 5 {
         match (args[2].parse::<u32>(), args[3].parse::<usize>(), args[4].parse::<u32>()) {
             (Ok(b), Ok(m), Ok(w)) => Some((b, m, w)),
@@ -785,7 +801,7 @@ fn main() {
         None
     };
     let Some((budget, mainlen, w)) = parsed else {
-        eprintln!("usage: plain loop|calls|memory|all BUDGET MAINLEN W");
+        eprintln!("usage: plain loop|calls|memory|products|all BUDGET MAINLEN W");
         std::process::exit(2);
     };
     for (name, code) in all {

@@ -20,7 +20,7 @@ use Rattle.alu_effects.specs.declared.AluEffect.{AluEffect}
 use Rattle.effects.specs.declared.Effect.{Effect}
 use Rattle.effects.specs.declared.Effect.the-variants as effect
 use Rattle.effects.specs.Effect.{slotOne, slotTwo, onEffect}
-use Rattle.core_state.specs.State.{State, startOf, withSpecial, withProduct, withStack, withLoad, landed, wellFormed, ended as hasEnded}
+use Rattle.core_state.specs.State.{State, startOf, withSpecial, withStack, withLoad, landed, arrived, withBegun, wellFormed, ended as hasEnded}
 use Rattle.core_state.specs.declared.WaitingTransfer.{WaitingTransfer}
 use Rattle.core_state.specs.declared.WaitingLoad.the-variants as load
 use Rattle.bundle_model.specs.declared.Answer.{Answer}
@@ -63,7 +63,7 @@ buffersAfter g x s effect.Exception b = b
 unfoldable pub writeOne : Settings → Buffers → State → Effect → State → State
 writeOne g b from (effect.Alu a) onto = writeAlu a onto
 writeOne g b from (effect.Special d v) onto = withSpecial onto d v
-writeOne g b from (effect.Product l h) onto = withProduct onto l h
+writeOne g b from (effect.Product l h) onto = withBegun onto l h
 writeOne g b from (effect.Load k w r a) onto = withLoad onto (load.Waits r (loadedValue b k w a))
 writeOne g b from (effect.Store k w a v) onto = onto
 writeOne g b from (effect.Stack c n m) onto = withStack onto (topAfter c (from .specials .st) n) (spillAfter c (g .words) (from .specials .st) (from .specials .ss) n)
@@ -74,10 +74,10 @@ writeOne g b from effect.Exception onto = onto
 abbrev pub onward : Effect → WaitingTransfer → ℕ → State → State
 onward e waiting following onto = let other = nearer waiting following onto in onEffect other (λ c n m. other) (λ d t. begun d t following onto) e
 
--- The order of the writes, of which a later one hides an earlier one: the load that waited, slot one, slot two, and a transfer that
--- falls due.
+-- The order of the writes, of which a later one hides an earlier one: the load that waited, the product that falls due, slot one, slot
+-- two, and a transfer that falls due.
 unfoldable pub written : Settings → Buffers → State → Effect → AluEffect → ℕ → State
-written g b s one two following = onward one (s .transfer) following (writeAlu two (writeOne g b s one (landed s)))
+written g b s one two following = onward one (s .transfer) following (writeAlu two (writeOne g b s one (arrived (landed s))))
 
 -- Cycles: 1, but 3 where a brnd is executed and 4 where it is another transfer without delay.
 abbrev pub undelayedCycles : Transfer → ℕ

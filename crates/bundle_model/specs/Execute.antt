@@ -17,7 +17,7 @@ use Rattle.effects.specs.declared.Effect.{Effect}
 use Rattle.effects.specs.declared.Effect.the-variants as effect
 use Rattle.effects.specs.Effect.{onEffect}
 use Rattle.core_state.specs.declared.WaitingLoad.the-variants as load
-use Rattle.core_state.specs.State.{State, withSpecial, withProduct, withLoad, withStack}
+use Rattle.core_state.specs.State.{State, withSpecial, withLoad, withBegun, withStack}
 use Rattle.core_state.specs.Writes.{writeAlu}
 use Rattle.bundle_model.specs.declared.Carried.{Carried}
 use Rattle.bundle_model.specs.declared.Carried.the-variants as carried
@@ -96,7 +96,7 @@ carriedOut g x s one b =
 unfoldable pub writeDone : Effect → ℕ → ℕ → ℕ → State → State
 writeDone (effect.Alu a) loaded st ss onto = writeAlu a onto
 writeDone (effect.Special d v) loaded st ss onto = withSpecial onto d v
-writeDone (effect.Product l h) loaded st ss onto = withProduct onto l h
+writeDone (effect.Product l h) loaded st ss onto = withBegun onto l h
 writeDone (effect.Load k w r a) loaded st ss onto = withLoad onto (load.Waits r loaded)
 writeDone (effect.Store k w a v) loaded st ss onto = onto
 writeDone (effect.Stack c n m) loaded st ss onto = withStack onto st ss

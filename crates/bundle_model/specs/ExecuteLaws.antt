@@ -11,7 +11,7 @@ use Rattle.stack_cache.specs.declared.Plan.the-variants as plan
 use Rattle.stack_control.specs.PlanLaws.{planned-told}
 use Rattle.stack_cache.specs.Stack.{badWindow, badAmount, movedOutside, planned, topAfter, spillAfter, spills, fills}
 use Rattle.settings.specs.declared.Settings.{Settings}
-use Rattle.core_state.specs.State.{State, landed}
+use Rattle.core_state.specs.State.{State, landed, arrived}
 use Rattle.alu_effects.specs.declared.AluEffect.{AluEffect}
 use Rattle.effects.specs.declared.Effect.{Effect}
 use Rattle.effects.specs.declared.Effect.the-variants as effect
@@ -102,14 +102,14 @@ module _ (g : Settings) (x : Setup) (s : State) (one : Effect) (two : AluEffect)
           ap (λ (x : ℕ). outcome (refused x) s noCounts b′) k ∙ ap (λ (x : Buffers). outcome (refused m) s noCounts x) (ap (λ (c : CarriedOut). c .buffers) e)
 
   done-as : (v st ss j k : ℕ) → carriedAs (carried.Done v st ss j k) b′ ≡ carriedOut g x s one b
-      → full (doneWith (onward one (s .transfer) following (writeAlu two (writeDone one v st ss (landed s)))) (cyclesOf one) j k) b′ ≡ executed g x s one two following b
+      → full (doneWith (onward one (s .transfer) following (writeAlu two (writeDone one v st ss (arrived (landed s))))) (cyclesOf one) j k) b′ ≡ executed g x s one two following b
   unfolding carriedOut executed written
   done-as v st ss j k = go (verdict (effectTests g x s one))
     where
       go : (v′ : Verdict)
           → carriedAs (carried.Done v st ss j k) b′ ≡ unlessRefused v′ b (carriedAs (carried.Done (loadedBy b one) (topBy s one) (spillBy g s one) (spilledBy g s one) (filledBy s one)) (buffersAfter g x s one b))
-          → full (doneWith (onward one (s .transfer) following (writeAlu two (writeDone one v st ss (landed s)))) (cyclesOf one) j k) b′
-          ≡ refusedOr v′ s b (outcome done (onward one (s .transfer) following (writeAlu two (writeOne g b s one (landed s)))) (countsOf g s one) (buffersAfter g x s one b))
+          → full (doneWith (onward one (s .transfer) following (writeAlu two (writeDone one v st ss (arrived (landed s))))) (cyclesOf one) j k) b′
+          ≡ refusedOr v′ s b (outcome done (onward one (s .transfer) following (writeAlu two (writeOne g b s one (arrived (landed s))))) (countsOf g s one) (buffersAfter g x s one b))
       go Fine e =
           let p : carried.Done v st ss j k ≡ carried.Done (loadedBy b one) (topBy s one) (spillBy g s one) (spilledBy g s one) (filledBy s one) = ap (λ (c : CarriedOut). c .carried) e in
           let q : b′ ≡ buffersAfter g x s one b = ap (λ (c : CarriedOut). c .buffers) e in
@@ -118,7 +118,7 @@ module _ (g : Settings) (x : Setup) (s : State) (one : Effect) (two : AluEffect)
           let ps : ss ≡ spillBy g s one = cc in
           let pj : j ≡ spilledBy g s one = cc in
           let pk : k ≡ filledBy s one = cc in
-          rw (pv, pt, ps, pj, pk, q, write-done g b s (landed s) one)
+          rw (pv, pt, ps, pj, pk, q, write-done g b s (arrived (landed s)) one)
       go (Refused m) e =
           let p : carried.Done v st ss j k ≡ carried.Refused m = ap (λ (c : CarriedOut). c .carried) e in
           cc
@@ -128,10 +128,10 @@ module _ (g : Settings) (x : Setup) (s : State) (one : Effect) (two : AluEffect)
   executed-refused r n z e f h = ap (λ (y : Stepped). full y b′) h ∙ refused-as n (ap (λ (c : Carried). carriedAs c b′) (sym e) ∙ f)
 
   pub executed-done : (r : Carried) (v st ss j k : ℕ) (t : State) (n : ℕ) (z : Stepped) → r ≡ carried.Done v st ss j k → carriedAs r b′ ≡ carriedOut g x s one b
-      → t ≡ onward one (s .transfer) following (writeAlu two (writeDone one v st ss (landed s))) → n ≡ cyclesOf one → z ≡ doneWith t n j k
+      → t ≡ onward one (s .transfer) following (writeAlu two (writeDone one v st ss (arrived (landed s)))) → n ≡ cyclesOf one → z ≡ doneWith t n j k
       → full z b′ ≡ executed g x s one two following b
   executed-done r v st ss j k t n z e f p q h =
-      ap (λ (y : Stepped). full y b′) (h ∙ ap (λ (y : State). doneWith y n j k) p ∙ ap (λ (m : ℕ). doneWith (onward one (s .transfer) following (writeAlu two (writeDone one v st ss (landed s)))) m j k) q)
+      ap (λ (y : Stepped). full y b′) (h ∙ ap (λ (y : State). doneWith y n j k) p ∙ ap (λ (m : ℕ). doneWith (onward one (s .transfer) following (writeAlu two (writeDone one v st ss (arrived (landed s))))) m j k) q)
       ∙ done-as v st ss j k (ap (λ (c : Carried). carriedAs c b′) (sym e) ∙ f)
 
 -- equal results with the same buffers

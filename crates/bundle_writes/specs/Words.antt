@@ -4,6 +4,7 @@ use mathlib.Core.Path.{_≡_}
 use Rattle.effects.specs.declared.Effect.{Effect}
 use Rattle.effects.specs.declared.Effect.the-variants as effect
 use Rattle.effects.specs.Effect.{onEffect}
+use Rattle.products.specs.Words.{Fixed as FixedProducts}
 use Rattle.core_state.specs.declared.TransferWords.{TransferWords}
 use Rattle.core_state.specs.declared.LoadWords.{LoadWords}
 use Rattle.core_state.specs.declared.WaitingLoad.the-variants as load
@@ -48,6 +49,7 @@ after-fixed effect.Exception v = load-fixed load.Nothing
 
 -- A bundle keeps a core canonical.
 pub written-canonical : (e : Effect) (v : ℕ) (c r : Core) → r .transfer ≡ onwardWords e (c .transfer)
-    → r .load ≡ loadAfter e v (loadWords load.Nothing) → Canonical c → Canonical r
-written-canonical e v c r t l k =
-    canonical-with r (onwardWords e (c .transfer)) (loadAfter e v (loadWords load.Nothing)) t l (onward-fixed e (c .transfer) (k .transfer)) (after-fixed e v)
+    → r .load ≡ loadAfter e v (loadWords load.Nothing)
+    → (FixedProducts (c .products) → FixedProducts (r .products)) → Canonical c → Canonical r
+written-canonical e v c r t l p k =
+    canonical-with r (onwardWords e (c .transfer)) (loadAfter e v (loadWords load.Nothing)) t l (onward-fixed e (c .transfer) (k .transfer)) (after-fixed e v) (p (k .products))

@@ -4,7 +4,7 @@ ghost use mathlib.Core.Path.{_≡_};
 ghost use mathlib.Core.Bool.{Bool, cond};
 ghost use mathlib.Core.List.{List};
 ghost use Prim.Native.Nat.{ℕ};
-ghost use Rattle.core_state.specs.State.{landed};
+ghost use Rattle.core_state.specs.State.{landed, arrived};
 ghost use Rattle.core_state.specs.Writes.{writeAlu};
 ghost use Rattle.core_state.specs.Core.{joined, waitingTransfer, foundState, leftState, loadWords, Written};
 ghost use Rattle.bundle_model.specs.Bundle.{onward, cyclesOf, undelayedCycles};
@@ -30,12 +30,12 @@ fn write_one(
     st: u32,
     ss: u32,
 ) -> Core
-    ensures { λ r. ⌜ Written (leftState registers predicates r ≡ writeDone one loaded st ss (foundState registers predicates core)) r (core .transfer) (loadAfter one loaded (core .load)) ⌝ }
+    ensures { λ r. ⌜ Written (leftState registers predicates r ≡ writeDone one loaded st ss (foundState registers predicates core)) r (core .transfer) (loadAfter one loaded (core .load)) (core .products) ⌝ }
 {
     match one {
         Effect::Alu(a) => core.write_alu(&mut *registers, &mut *predicates, a),
         Effect::Special { special, value } => core.write_special(&mut *predicates, special, value),
-        Effect::Product { low, high } => core.write_product(low, high),
+        Effect::Product { low, high } => core.begin_product(low, high),
         Effect::Load {
             kind: _,
             width: _,
@@ -53,7 +53,7 @@ fn write_one(
 
 // The end of a bundle: its own transfer begins, or one that waits comes nearer.
 fn onward(core: Core, one: Effect, waiting: TransferWords, following: u32) -> Core
-    ensures { λ r. ⌜ Written ((rs : List ℕ) (ps : List Bool) → joined rs ps r ≡ onward one (waitingTransfer waiting) following (joined rs ps core)) r (onwardWords one waiting) (core .load) ⌝ }
+    ensures { λ r. ⌜ Written ((rs : List ℕ) (ps : List Bool) → joined rs ps r ≡ onward one (waitingTransfer waiting) following (joined rs ps core)) r (onwardWords one waiting) (core .load) (core .products) ⌝ }
 {
     if let Effect::Transfer { delayed, transfer } = one {
         return core.begin(delayed, transfer, following);
@@ -61,7 +61,7 @@ fn onward(core: Core, one: Effect, waiting: TransferWords, following: u32) -> Co
     core.nearer(waiting, following)
 }
 
-// The order of the writes: the load that waited, slot one, slot two, and a transfer that falls due.
+// The order of the writes: the load that waited, the product that falls due, slot one, slot two, and a transfer that falls due.
 pub fn write(
     core: Core,
     registers: &mut [u32; 32],
@@ -73,10 +73,10 @@ pub fn write(
     st: u32,
     ss: u32,
 ) -> Core
-    ensures { λ r. ⌜ Written (leftState registers predicates r ≡ onward one (waitingTransfer (core .transfer)) following (writeAlu two (writeDone one loaded st ss (landed (foundState registers predicates core))))) r (onwardWords one (core .transfer)) (loadAfter one loaded (loadWords WaitingLoad.Nothing)) ⌝ }
+    ensures { λ r. ⌜ Written (leftState registers predicates r ≡ onward one (waitingTransfer (core .transfer)) following (writeAlu two (writeDone one loaded st ss (arrived (landed (foundState registers predicates core)))))) r (onwardWords one (core .transfer)) (loadAfter one loaded (loadWords WaitingLoad.Nothing)) (core .products) ⌝ }
 {
     let waiting = core.transfer;
-    let onto = core.land_load(&mut *registers);
+    let onto = core.land_load(&mut *registers).arrive();
     let after = write_one(onto, &mut *registers, &mut *predicates, one, loaded, st, ss);
     let last = after.write_alu(&mut *registers, &mut *predicates, two);
     onward(last, one, waiting, following)

@@ -107,6 +107,8 @@ lineAfter line at Keyword.Step = end line at Line.Step
 lineAfter line at Keyword.Check = end line at Line.Check
 lineAfter line at Keyword.Write = list line at (Line.Write at)
 lineAfter line at Keyword.Listing = end line at Line.Listing
+lineAfter line at Keyword.Product =
+    number line at (λ wait at. word line at (λ low at. word line at (λ high at. end line at (Line.Product wait low high))))
 lineAfter line at Keyword.Unknown = Line.Mistake Reason.UnknownWord
 
 -- What a line says: nothing, or by its first field.

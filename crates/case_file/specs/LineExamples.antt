@@ -4,7 +4,7 @@ use mathlib.Core.List.{List, [], _∷_}
 use mathlib.Core.Path.{_≡_, refl}
 use Prim.Native.String as Text
 use Rattle.case_file.specs.declared.Line.{Line}
-use Rattle.case_file.specs.declared.Line.the-variants.{Empty, Mistake, Case, Code, Private, Main, Local, Stack, Entry, Fetch, Base, Reg, Pred, Special, Br, Call, Block, Load, MainWord, LocalWord, CacheWord, Run, Step, Check, Write, Listing}
+use Rattle.case_file.specs.declared.Line.the-variants.{Empty, Mistake, Case, Code, Private, Main, Local, Stack, Entry, Fetch, Base, Reg, Pred, Special, Br, Call, Block, Load, MainWord, LocalWord, CacheWord, Run, Step, Check, Write, Listing, Product}
 use Rattle.case_words.specs.declared.SpecialName.the-variants.{Sro}
 use Rattle.case_file.specs.declared.Reason.the-variants as Reason
 use Rattle.text.specs.Field.{spaces, fieldLength, fieldFrom, sameBytes, isNameByte, areNameBytes, isName}
@@ -51,6 +51,7 @@ rows =
     ∷ ("check", Check)
     ∷ ("write add r1 r2 r3 ; nor r4 r5 r6", Write 5)
     ∷ ("list", Listing)
+    ∷ ("product 2 0000002A FFFFFFFF", Product 2 42 4294967295)
     ∷ []
 
 -- Spaces, comments, and what has no meaning.

@@ -54,6 +54,7 @@ pub enum Line {
     Check,
     Write { text: usize },
     Listing,
+    Product { wait: u32, low: u32, high: u32 },
 }
 
 // Why a line is a mistake.
@@ -83,4 +84,5 @@ pub enum Reason {
     NotAPredicate,
     NotASpecial,
     NotAnOffset,
+    TooManyProducts,
 }

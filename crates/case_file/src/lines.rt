@@ -239,6 +239,26 @@ fn transfer_line(line: &[u8], at: usize) -> Line
     }
 }
 
+// A product under way: WAIT, LOW and HIGH.
+fn product_line(line: &[u8], at: usize) -> Line
+    ensures { λ r. ⌜ r ≡ lineAfter (now (line .entry)) at Keyword.Product ⌝ }
+{
+    match number_field(line, at) {
+        Argument::Mistake(r) => Line::Mistake(r),
+        Argument::Value { value: wait, next } => match word_field(line, next) {
+            Argument::Mistake(r) => Line::Mistake(r),
+            Argument::Value { value: low, next } => match word_field(line, next) {
+                Argument::Mistake(r) => Line::Mistake(r),
+                Argument::Value { value: high, next } => whole(
+                    line,
+                    next,
+                    Line::Product { wait, low, high },
+                ),
+            },
+        },
+    }
+}
+
 fn after_keyword(line: &[u8], at: usize, k: Keyword) -> Line
     ensures { λ r. ⌜ r ≡ lineAfter (now (line .entry)) at k ⌝ }
 {
@@ -256,6 +276,7 @@ fn after_keyword(line: &[u8], at: usize, k: Keyword) -> Line
         Keyword::Check => whole(line, at, Line::Check),
         Keyword::Write => list_line(line, at, Line::Write { text: at }),
         Keyword::Listing => whole(line, at, Line::Listing),
+        Keyword::Product => product_line(line, at),
         Keyword::Unknown => Line::Mistake(Reason::UnknownWord),
     }
 }

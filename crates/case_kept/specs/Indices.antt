@@ -6,7 +6,7 @@ abbrev pub ALL : ℕ
 ALL = 150200
 
 abbrev pub CASE-END : ℕ
-CASE-END = 180
+CASE-END = 190
 
 -- The lengths of code and memories, the stack cache's words, the stack area, and the entry.
 abbrev pub CODE : ℕ
@@ -102,11 +102,18 @@ REACH = 176
 abbrev pub NOTED : ℕ
 NOTED = 179
 
+-- The products under way: how many, and from PRODUCT on three numbers of each, by rising wait.
+abbrev pub PRODUCTS : ℕ
+PRODUCTS = 180
+
+abbrev pub PRODUCT : ℕ
+PRODUCT = 181
+
 abbrev pub LINE : ℕ
-LINE = 180
+LINE = 190
 
 abbrev pub PHASE : ℕ
-PHASE = 181
+PHASE = 191
 
 -- The phase of a report that has ended.
 abbrev pub STOPPED : ℕ

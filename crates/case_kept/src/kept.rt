@@ -75,12 +75,17 @@ pub const REACH: usize = 176;
 
 pub const NOTED: usize = 179;
 
+// How many products are under way, and at PRODUCT three numbers of each, by rising wait: wait, low and high word.
+pub const PRODUCTS: usize = 180;
+
+pub const PRODUCT: usize = 181;
+
 // The case's numbers end here. The line and the phase outlast a case.
-pub const CASE_END: usize = 180;
+pub const CASE_END: usize = 190;
 
-pub const LINE: usize = 180;
+pub const LINE: usize = 190;
 
-pub const PHASE: usize = 181;
+pub const PHASE: usize = 191;
 
 // The notes, three numbers each.
 pub const NOTES: usize = 200;

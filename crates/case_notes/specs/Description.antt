@@ -2,15 +2,15 @@
 use Prim.Native.Nat.{ℕ, _+_}
 use mathlib.Core.Bool.{Bool, cond}
 use mathlib.Core.List.{List}
-use lib.Dec.{ltb}
+use lib.Dec.{eqb, leb, ltb}
 use Rattle.case_file.specs.declared.Line.{Line}
 use Rattle.case_file.specs.declared.Line.the-variants as Line
 use Rattle.case_file.specs.declared.Reason.the-variants as Reason
 use Rattle.case_words.specs.declared.SpecialName.{SpecialName}
 use Rattle.case_words.specs.declared.SpecialName.the-variants as SpecialName
-use Rattle.case_kept.specs.Indices.{MAIN, LOCAL, WORDS, LO, HI, ENTRY, FETCH, BASE, SPECIALS, TRANSFER, BR, CALL, BLOCK, LOAD, REGISTERS, PREDICATES, GIVEN}
-use Rattle.case_kept.specs.Kept.{isSet, put, flag}
-use Rattle.case_notes.specs.Waiting.{withTransfer, withLoad}
+use Rattle.case_kept.specs.Indices.{MAIN, LOCAL, WORDS, LO, HI, ENTRY, FETCH, BASE, SPECIALS, TRANSFER, BR, CALL, BLOCK, LOAD, REGISTERS, PREDICATES, GIVEN, PRODUCTS, PRODUCT}
+use Rattle.case_kept.specs.Kept.{keptNumber, isSet, put, flag}
+use Rattle.case_notes.specs.Waiting.{withTransfer, withLoad, withProduct}
 use Rattle.case_notes.specs.declared.Judged.{Judged}
 use Rattle.case_notes.specs.declared.Judged.the-variants as Judged
 
@@ -76,6 +76,18 @@ predicate kept p v = fine (cond (ltb p 8) (put kept (PREDICATES + p) (flag v)) k
 abbrev pub special : List ℕ → SpecialName → ℕ → Noted
 special kept name w = fine (cond (ltb (specialIndex name) 8) (give kept (SPECIALS + specialIndex name) w) kept)
 
+-- Products under way, by rising wait: one that waits as long as the one before stands behind it. A third is a mistake.
+abbrev pub beforeFirst : List ℕ → ℕ → ℕ → ℕ → List ℕ
+beforeFirst kept wait low high =
+    withProduct (withProduct kept (PRODUCT + 3) (keptNumber kept PRODUCT) (keptNumber kept (PRODUCT + 1)) (keptNumber kept (PRODUCT + 2))) PRODUCT wait low high
+
+unfoldable pub productMore : List ℕ → ℕ → ℕ → ℕ → Noted
+productMore kept wait low high =
+    cond (eqb (keptNumber kept PRODUCTS) 0) (fine (withProduct (put kept PRODUCTS 1) PRODUCT wait low high))
+    (cond (eqb (keptNumber kept PRODUCTS) 1)
+    (fine (put (cond (leb (keptNumber kept PRODUCT) wait) (withProduct kept (PRODUCT + 3) wait low high) (beforeFirst kept wait low high)) PRODUCTS 2))
+    (noted (Judged.Mistake Reason.TooManyProducts) kept))
+
 -- The lines that need nothing but their own numbers, by the table of the description lines. Every other line leaves the numbers alone.
 unfoldable pub given : Line → List ℕ → Noted
 given (Line.Main bytes) kept = lengthOnce kept MAIN bytes
@@ -104,3 +116,4 @@ given Line.Step kept = fine kept
 given Line.Check kept = fine kept
 given (Line.Write text) kept = fine kept
 given Line.Listing kept = fine kept
+given (Line.Product wait low high) kept = productMore kept wait low high

@@ -128,3 +128,4 @@ module _ (line code main local cache kept : List ℕ) where
   describedBy Line.Check = inKept (given Line.Check kept)
   describedBy (Line.Write text) = inKept (given (Line.Write text) kept)
   describedBy Line.Listing = inKept (given Line.Listing kept)
+  describedBy (Line.Product wait low high) = inKept (given (Line.Product wait low high) kept)

@@ -11,3 +11,7 @@ withTransfer kept kind a b c = put (put (put (put kept TRANSFER kind) TARGET a) 
 -- A waiting load: that there is one, its register and its value.
 abbrev pub withLoad : List ℕ → ℕ → ℕ → List ℕ
 withLoad kept register value = put (put (put kept LOAD 1) LOADED register) (LOADED + 1) value
+
+-- The three numbers of a product under way.
+abbrev pub withProduct : List ℕ → ℕ → ℕ → ℕ → ℕ → List ℕ
+withProduct kept first wait low high = put (put (put kept first wait) (first + 1) low) (first + 2) high

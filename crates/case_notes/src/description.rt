@@ -1,8 +1,9 @@
 // What the description lines of a case say of its numbers, gathered in any order. Each function answers whether the line is a mistake.
 ghost use mathlib.Core.Path.{_≡_};
-ghost use Rattle.case_notes.specs.Description.{noted, isGiven, markGiven, give as giveAt, numberOnce, lengthOnce, transferOnce, specialIndex, register, predicate, special, given};
+ghost use Rattle.case_notes.specs.Description.{noted, isGiven, markGiven, give as giveAt, numberOnce, lengthOnce, transferOnce, specialIndex, register, predicate, special, productMore, given};
 use crate::Judged;
 use crate::waiting::keep_load;
+use crate::waiting::keep_product;
 use crate::waiting::keep_transfer;
 use case_file::Line;
 use case_file::Reason;
@@ -20,6 +21,8 @@ use case_kept::kept::LOAD;
 use case_kept::kept::LOCAL;
 use case_kept::kept::MAIN;
 use case_kept::kept::PREDICATES;
+use case_kept::kept::PRODUCT;
+use case_kept::kept::PRODUCTS;
 use case_kept::kept::REGISTERS;
 use case_kept::kept::SPECIALS;
 use case_kept::kept::TRANSFER;
@@ -160,6 +163,39 @@ fn give_load(kept: &mut Kept, register: u32, value: u32) -> Judged
     Judged::Fine
 }
 
+// One product more under way, put in its place by rising wait.
+fn give_product(kept: &mut Kept, wait: u32, low: u32, high: u32) -> Judged
+    ensures { λ r. ⌜ noted r (now (kept .exit)) ≡ productMore (now (kept .entry)) wait low high ⌝ }
+{
+    let count = kept[PRODUCTS];
+    if count == 0 {
+        kept[PRODUCTS] = 1;
+        keep_product(&mut *kept, PRODUCT, wait as u64, low as u64, high as u64);
+        return Judged::Fine;
+    }
+    if count != 1 {
+        return Judged::Mistake(Reason::TooManyProducts);
+    }
+    let first = kept[PRODUCT];
+    if first <= wait as u64 {
+        keep_product(
+            &mut *kept,
+            PRODUCT + 3,
+            wait as u64,
+            low as u64,
+            high as u64,
+        );
+        kept[PRODUCTS] = 2;
+        return Judged::Fine;
+    }
+    let first_low = kept[PRODUCT + 1];
+    let first_high = kept[PRODUCT + 2];
+    keep_product(&mut *kept, PRODUCT + 3, first, first_low, first_high);
+    keep_product(&mut *kept, PRODUCT, wait as u64, low as u64, high as u64);
+    kept[PRODUCTS] = 2;
+    Judged::Fine
+}
+
 // A line that needs nothing but its own numbers.
 pub fn give(kept: &mut Kept, said: Line) -> Judged
     ensures { λ r. ⌜ noted r (now (kept .exit)) ≡ given said (now (kept .entry)) ⌝ }
@@ -180,6 +216,7 @@ pub fn give(kept: &mut Kept, said: Line) -> Judged
             give_transfer(&mut *kept, BLOCK, target, base, wait)
         }
         Line::Load { number, word } => give_load(&mut *kept, number, word),
+        Line::Product { wait, low, high } => give_product(&mut *kept, wait, low, high),
         _ => Judged::Fine,
     }
 }

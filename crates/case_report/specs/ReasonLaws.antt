@@ -34,3 +34,4 @@ reason-row Reason.NotARegister = refl
 reason-row Reason.NotAPredicate = refl
 reason-row Reason.NotASpecial = refl
 reason-row Reason.NotAnOffset = refl
+reason-row Reason.TooManyProducts = refl

@@ -32,6 +32,7 @@ numberOf Reason.NotARegister = 21
 numberOf Reason.NotAPredicate = 22
 numberOf Reason.NotASpecial = 23
 numberOf Reason.NotAnOffset = 24
+numberOf Reason.TooManyProducts = 25
 
 -- All reasons, in the order of their rows.
 unfoldable pub reasons : List Reason
@@ -61,6 +62,7 @@ reasons =
     ∷ Reason.NotAPredicate
     ∷ Reason.NotASpecial
     ∷ Reason.NotAnOffset
+    ∷ Reason.TooManyProducts
     ∷ []
 
 unfoldable pub texts : List Reason → List (List ℕ)

@@ -1,11 +1,11 @@
 -- The lines of a report on a state, which is among the kept numbers.
 use Prim.Native.Nat.{ℕ}
 use mathlib.Core.Bool.{cond}
-use mathlib.Core.List.{List, _++_}
+use mathlib.Core.List.{List, [], _++_}
 use lib.ListN.{drop}
 use lib.Dec.{eqb}
 use Rattle.case_words.specs.Names.{bytes}
-use Rattle.case_kept.specs.Indices.{FETCH, REGISTERS, PREDICATES, SPECIALS, TRANSFER, BR, CALL, BLOCK, TARGET, LOAD, LOADED}
+use Rattle.case_kept.specs.Indices.{FETCH, REGISTERS, PREDICATES, SPECIALS, TRANSFER, BR, CALL, BLOCK, TARGET, LOAD, LOADED, PRODUCTS, PRODUCT}
 use Rattle.case_kept.specs.Kept.{keptNumber, isSet}
 use Rattle.case_report.specs.Form.{filled}
 
@@ -20,6 +20,13 @@ transferLine kept =
 unfoldable pub loadLine : List ℕ → List ℕ
 loadLine kept = cond (isSet kept LOAD) (filled (bytes "load % #\n") (drop LOADED kept)) (bytes "load none\n")
 
+-- The products under way, by rising wait. Where there is none there is no line.
+unfoldable pub productsLine : List ℕ → List ℕ
+productsLine kept =
+    cond (eqb (keptNumber kept PRODUCTS) 0) []
+    (cond (eqb (keptNumber kept PRODUCTS) 1) (filled (bytes "products % # #\n") (drop PRODUCT kept))
+    (filled (bytes "products % # # % # #\n") (drop PRODUCT kept)))
+
 -- All lines on the state, each with the numbers that are kept from an index on.
 unfoldable pub stateText : List ℕ → List ℕ
 stateText kept =
@@ -27,4 +34,4 @@ stateText kept =
     ++ (filled (bytes "regs # # # # # # # # # # # # # # # # # # # # # # # # # # # # # # # #\n") (drop REGISTERS kept)
     ++ (filled (bytes "preds % % % % % % % %\n") (drop PREDICATES kept)
     ++ (filled (bytes "specials sl # sh # ss # st # srb # sro # sxb # sxo #\n") (drop SPECIALS kept)
-    ++ (transferLine kept ++ loadLine kept))))
+    ++ (transferLine kept ++ (loadLine kept ++ productsLine kept)))))

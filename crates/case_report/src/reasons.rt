@@ -36,6 +36,7 @@ fn number_of(r: Reason) -> usize
         Reason::NotAPredicate => 22,
         Reason::NotASpecial => 23,
         Reason::NotAnOffset => 24,
+        Reason::TooManyProducts => 25,
     }
 }
 
@@ -69,7 +70,8 @@ no instruction has this name\n\
 a register is expected, as r3\n\
 a predicate is expected, as p3, or !p3 where its negation may stand\n\
 a special register is expected: s0, sl, sh, ss, st, srb, sro, sxb or sxo\n\
-a decimal number from -2147483648 to 2147483647 is expected\n",
+a decimal number from -2147483648 to 2147483647 is expected\n\
+at most two products are under way\n",
         number_of(r),
     )
 }

@@ -1,7 +1,7 @@
 // The lines on a state, which is among the kept numbers.
 ghost use mathlib.Core.Path.{_≡_};
 ghost use Rattle.text.specs.Page.{page, withText};
-ghost use Rattle.case_report.specs.StateLines.{transferLine, loadLine, stateText};
+ghost use Rattle.case_report.specs.StateLines.{transferLine, loadLine, productsLine, stateText};
 use crate::form::say_kept;
 use case_kept::kept::BLOCK;
 use case_kept::kept::BR;
@@ -11,6 +11,8 @@ use case_kept::kept::Kept;
 use case_kept::kept::LOAD;
 use case_kept::kept::LOADED;
 use case_kept::kept::PREDICATES;
+use case_kept::kept::PRODUCT;
+use case_kept::kept::PRODUCTS;
 use case_kept::kept::REGISTERS;
 use case_kept::kept::SPECIALS;
 use case_kept::kept::TARGET;
@@ -40,6 +42,17 @@ fn put_load(out: &mut [u8], used: usize, kept: &Kept) -> usize
     put(&mut *out, used, b"load none\n")
 }
 
+fn put_products(out: &mut [u8], used: usize, kept: &Kept) -> usize
+    ensures { λ r. ⌜ page r (now (out .exit)) ≡ withText (page used (now (out .entry))) (productsLine (now (kept .entry))) ⌝ }
+{
+    let count = number(kept, PRODUCTS);
+    match count {
+        0 => used,
+        1 => say_kept(&mut *out, used, b"products % # #\n", kept, PRODUCT),
+        _ => say_kept(&mut *out, used, b"products % # # % # #\n", kept, PRODUCT),
+    }
+}
+
 // The state lines, all of them.
 pub fn put_state(out: &mut [u8], used: usize, kept: &Kept) -> usize
     ensures { λ r. ⌜ page r (now (out .exit)) ≡ withText (page used (now (out .entry))) (stateText (now (kept .entry))) ⌝ }
@@ -61,5 +74,6 @@ pub fn put_state(out: &mut [u8], used: usize, kept: &Kept) -> usize
         SPECIALS,
     );
     let e = put_transfer(&mut *out, d, kept);
-    put_load(&mut *out, e, kept)
+    let f = put_load(&mut *out, e, kept);
+    put_products(&mut *out, f, kept)
 }

@@ -1,5 +1,5 @@
 -- Parts of a state among the kept numbers of a case.
-use Prim.Native.Nat.{ℕ, _+_}
+use Prim.Native.Nat.{ℕ, _+_, _-_, _%_}
 use mathlib.Core.Bool.{Bool, false, cond}
 use mathlib.Core.List.{List, [], _∷_}
 use lib.ListN.{length, getD}
@@ -7,13 +7,17 @@ use lib.Dec.{eqb}
 use Rattle.alu_effects.specs.declared.Specials.{Specials}
 use Rattle.effects.specs.declared.Transfer.{Transfer}
 use Rattle.effects.specs.declared.Transfer.the-variants as Transfer
+use Rattle.products.specs.declared.Product.{Product}
+use Rattle.products.specs.declared.Products.{Products}
+use Rattle.products.specs.declared.Products.the-variants as Products
+use Rattle.products.specs.Products.{product}
 use Rattle.core_state.specs.declared.WaitingTransfer.{WaitingTransfer}
 use Rattle.core_state.specs.declared.WaitingTransfer.the-variants as WaitingTransfer
 use Rattle.core_state.specs.declared.WaitingLoad.{WaitingLoad}
 use Rattle.core_state.specs.declared.WaitingLoad.the-variants as WaitingLoad
-use Rattle.case_kept.specs.Indices.{SPECIALS, TRANSFER, TARGET, BR, CALL, BLOCK, LOAD, LOADED, REGISTERS, PREDICATES}
+use Rattle.case_kept.specs.Indices.{SPECIALS, TRANSFER, TARGET, BR, CALL, BLOCK, LOAD, LOADED, REGISTERS, PREDICATES, PRODUCTS, PRODUCT}
 use Rattle.case_kept.specs.Kept.{keptNumber, keptWord, isSet, put, flag, keptWords, putEach}
-use Rattle.case_notes.specs.Waiting.{withTransfer, withLoad}
+use Rattle.case_notes.specs.Waiting.{withTransfer, withLoad, withProduct}
 
 abbrev pub registersOf : List ℕ → List ℕ
 registersOf kept = keptWords 32 kept REGISTERS
@@ -50,6 +54,20 @@ transferWith kind a b c =
 abbrev pub transferOf : List ℕ → WaitingTransfer
 transferOf kept = transferWith (keptNumber kept TRANSFER) (keptWord kept TARGET) (keptWord kept (TARGET + 1)) (keptWord kept (TARGET + 2))
 
+-- The products under way stand by rising wait. In a state the second's wait is counted from the landing of the first.
+abbrev pub productOf : List ℕ → ℕ → ℕ → Product
+productOf kept first wait = product wait (keptWord kept (first + 1)) (keptWord kept (first + 2))
+
+abbrev pub waitBehind : List ℕ → ℕ
+waitBehind kept = (keptNumber kept (PRODUCT + 3) - keptNumber kept PRODUCT) % 4294967296
+
+unfoldable pub productsOf : List ℕ → Products
+productsOf kept =
+    let first = productOf kept PRODUCT (keptWord kept PRODUCT) in
+    cond (eqb (keptNumber kept PRODUCTS) 0) Products.Nothing
+    (cond (eqb (keptNumber kept PRODUCTS) 1) (Products.One first)
+    (Products.Two first (productOf kept (PRODUCT + 3) (waitBehind kept))))
+
 abbrev pub loadOf : List ℕ → WaitingLoad
 loadOf kept = cond (isSet kept LOAD) (WaitingLoad.Waits (keptWord kept LOADED) (keptWord kept (LOADED + 1))) WaitingLoad.Nothing
 
@@ -67,3 +85,10 @@ withWaiting kept (WaitingTransfer.Waits t wait) = withTarget kept t wait
 abbrev pub withWaitingLoad : List ℕ → WaitingLoad → List ℕ
 withWaitingLoad kept WaitingLoad.Nothing = put kept LOAD 0
 withWaitingLoad kept (WaitingLoad.Waits register value) = withLoad kept register value
+
+-- The products under way: how many, and the numbers of each.
+unfoldable pub withProducts : List ℕ → Products → List ℕ
+withProducts kept Products.Nothing = put kept PRODUCTS 0
+withProducts kept (Products.One p) = withProduct (put kept PRODUCTS 1) PRODUCT (p .wait) (p .low) (p .high)
+withProducts kept (Products.Two p q) =
+    withProduct (withProduct (put kept PRODUCTS 2) PRODUCT (p .wait) (p .low) (p .high)) (PRODUCT + 3) (p .wait + q .wait) (q .low) (q .high)

@@ -1,6 +1,8 @@
 // Parts of a state among the kept numbers of a case.
 ghost use mathlib.Core.Path.{_≡_};
-ghost use Rattle.case_state.specs.KeptState.{registersOf, specialsOf, listOf, withWords, withPredicates, transferWith, transferOf, loadOf, withTarget, withWaiting, withWaitingLoad};
+ghost use Prim.Native.Nat.{_<_};
+ghost use Rattle.case_kept.specs.Indices.{ALL};
+ghost use Rattle.case_state.specs.KeptState.{registersOf, specialsOf, listOf, withWords, withPredicates, transferWith, transferOf, loadOf, withTarget, withWaiting, withWaitingLoad, productOf, waitBehind, productsOf, withProducts};
 use alu_effects::Specials;
 use case_kept::kept::BLOCK;
 use case_kept::kept::BR;
@@ -9,6 +11,8 @@ use case_kept::kept::Kept;
 use case_kept::kept::LOAD;
 use case_kept::kept::LOADED;
 use case_kept::kept::PREDICATES;
+use case_kept::kept::PRODUCT;
+use case_kept::kept::PRODUCTS;
 use case_kept::kept::REGISTERS;
 use case_kept::kept::SPECIALS;
 use case_kept::kept::TARGET;
@@ -19,10 +23,13 @@ use case_kept::kept::keep_flag;
 use case_kept::kept::number;
 use case_kept::kept::word;
 use case_notes::waiting::keep_load;
+use case_notes::waiting::keep_product;
 use case_notes::waiting::keep_transfer;
 use core_state::WaitingLoad;
 use core_state::WaitingTransfer;
 use effects::Transfer;
+use products::Product;
+use products::Products;
 
 // All 32 registers.
 pub fn registers_of(kept: &Kept) -> [u32; 32]
@@ -151,5 +158,80 @@ pub fn keep_waiting_load(kept: &mut Kept, w: WaitingLoad)
     match w {
         WaitingLoad::Nothing => kept[LOAD] = 0,
         WaitingLoad::Waits { register, value } => keep_load(&mut *kept, register, value),
+    }
+}
+
+// A product from an index on, which waits so long.
+fn product_of(kept: &Kept, first: usize, wait: u32) -> Product
+    requires { ⌜ first < ALL ⌝ }
+    ensures { λ r. ⌜ r ≡ productOf (now (kept .entry)) first wait ⌝ }
+{
+    Product {
+        wait,
+        low: word(kept, first + 1),
+        high: word(kept, first + 2),
+    }
+}
+
+// How long after the first the second lands.
+fn wait_behind(kept: &Kept) -> u32
+    ensures { λ r. ⌜ r ≡ waitBehind (now (kept .entry)) ⌝ }
+{
+    let first = number(kept, PRODUCT);
+    let second = number(kept, PRODUCT + 3);
+    if second < first {
+        return 0;
+    }
+    ((second - first) % 4294967296) as u32
+}
+
+pub fn products_of(kept: &Kept) -> Products
+    ensures { λ r. ⌜ r ≡ productsOf (now (kept .entry)) ⌝ }
+{
+    let count = number(kept, PRODUCTS);
+    if count == 0 {
+        return Products::Nothing;
+    }
+    let first = product_of(kept, PRODUCT, word(kept, PRODUCT));
+    if count == 1 {
+        return Products::One(first);
+    }
+    let second = product_of(kept, PRODUCT + 3, wait_behind(kept));
+    Products::Two { first, second }
+}
+
+// Where nothing is under way only the count is put.
+pub fn keep_products(kept: &mut Kept, p: Products)
+    ensures { λ _. ⌜ now (kept .exit) ≡ withProducts (now (kept .entry)) p ⌝ }
+{
+    match p {
+        Products::Nothing => kept[PRODUCTS] = 0,
+        Products::One(first) => {
+            kept[PRODUCTS] = 1;
+            keep_product(
+                &mut *kept,
+                PRODUCT,
+                first.wait as u64,
+                first.low as u64,
+                first.high as u64,
+            );
+        }
+        Products::Two { first, second } => {
+            kept[PRODUCTS] = 2;
+            keep_product(
+                &mut *kept,
+                PRODUCT,
+                first.wait as u64,
+                first.low as u64,
+                first.high as u64,
+            );
+            keep_product(
+                &mut *kept,
+                PRODUCT + 3,
+                first.wait as u64 + second.wait as u64,
+                second.low as u64,
+                second.high as u64,
+            );
+        }
     }
 }

@@ -72,6 +72,7 @@ keywords =
     ∷ ("check", Keyword.Check)
     ∷ ("write", Keyword.Write)
     ∷ ("list", Keyword.Listing)
+    ∷ ("product", Keyword.Product)
     ∷ []
 
 abbrev pub keywordOf : List ℕ → Keyword

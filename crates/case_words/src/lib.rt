@@ -21,6 +21,7 @@ pub enum Keyword {
     Check,
     Write,
     Listing,
+    Product,
     Unknown,
 }
 
@@ -103,6 +104,7 @@ fn keyword_at(row: usize) -> Keyword
         19 => Keyword::Check,
         20 => Keyword::Write,
         21 => Keyword::Listing,
+        22 => Keyword::Product,
         _ => Keyword::Unknown,
     }
 }
@@ -113,7 +115,7 @@ pub fn first_word(s: &[u8]) -> Keyword
     keyword_at(row_of(
         b"case\ncode\nmain\nlocal\nstack\nprivate\n\
 entry\nfetch\nbase\nreg\npred\nspecial\ntransfer\nload\n\
-mainword\nlocalword\ncacheword\nrun\nstep\ncheck\nwrite\nlist\n",
+mainword\nlocalword\ncacheword\nrun\nstep\ncheck\nwrite\nlist\nproduct\n",
         s,
     ))
 }

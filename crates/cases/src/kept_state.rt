@@ -8,11 +8,13 @@ use case_kept::kept::SPECIALS;
 use case_kept::kept::flags_of;
 use case_kept::kept::word;
 use case_state::keep_predicates;
+use case_state::keep_products;
 use case_state::keep_waiting;
 use case_state::keep_waiting_load;
 use case_state::keep_words;
 use case_state::listed;
 use case_state::load_of;
+use case_state::products_of;
 use case_state::registers_of;
 use case_state::specials_of;
 use case_state::transfer_of;
@@ -24,6 +26,7 @@ pub(crate) fn state_of(kept: &Kept) -> State {
     let specials = specials_of(kept);
     let transfer = transfer_of(kept);
     let load = load_of(kept);
+    let products = products_of(kept);
     State {
         registers,
         predicates,
@@ -32,6 +35,7 @@ pub(crate) fn state_of(kept: &Kept) -> State {
         base: word(kept, BASE),
         transfer,
         load,
+        products,
     }
 }
 
@@ -41,6 +45,7 @@ pub(crate) fn keep_state(kept: &mut Kept, s: State) {
     let specials = listed(s.specials);
     let transfer = s.transfer;
     let load = s.load;
+    let products = s.products;
     kept[FETCH] = s.fetch as u64;
     kept[BASE] = s.base as u64;
     keep_words(&mut *kept, SPECIALS, &specials);
@@ -48,4 +53,5 @@ pub(crate) fn keep_state(kept: &mut Kept, s: State) {
     keep_predicates(&mut *kept, predicates);
     keep_waiting(&mut *kept, transfer);
     keep_waiting_load(&mut *kept, load);
+    keep_products(&mut *kept, products);
 }

@@ -8,13 +8,15 @@ use denote.Triple.Both.{Both}
 use lib.Dec.{eqb, leb}
 use Rattle.effects.specs.declared.Transfer.{Transfer}
 use Rattle.effects.specs.declared.Transfer.the-variants.{Br, Call, Block}
+use Rattle.products.specs.declared.ProductWords.{ProductWords}
+use Rattle.products.specs.Words.{productsIn, Fixed}
 use Rattle.core_state.specs.declared.TransferWords.{TransferWords}
 use Rattle.core_state.specs.declared.LoadWords.{LoadWords}
 use Rattle.core_state.specs.declared.WaitingTransfer.{WaitingTransfer}
 use Rattle.core_state.specs.declared.WaitingTransfer.the-variants as transfer
 use Rattle.core_state.specs.declared.WaitingLoad.{WaitingLoad}
 use Rattle.core_state.specs.declared.WaitingLoad.the-variants as load
-use Rattle.core_state.specs.State.{State, state}
+use Rattle.core_state.specs.State.{State, state, further}
 use Rattle.core_state.specs.Writes.{delaySlots}
 use Rattle.core_state.specs.declared.Core.{Core}
 
@@ -53,16 +55,19 @@ nearerWords w = cond (eqb (w .kind) 0) w (cond (leb (w .wait) 1) (transferWords 
 unfoldable pub begunWords : Bool → Transfer → TransferWords
 begunWords delayed t = cond delayed (transferWords (transfer.Waits t (delaySlots t))) (transferWords transfer.Nothing)
 
--- In contracts, what a function says of the core that it gives: the state that it makes, and the words of what waits in it.
-pub record Written (Makes : Type 0) (c : Core) (w : TransferWords) (l : LoadWords) : Type 0 where
+-- In contracts, what a function says of the core that it gives: the state that it makes, the words of what waits in it, and that the words
+-- of the products are those of what is under way if they were so in p, which it was given.
+pub record Written (Makes : Type 0) (c : Core) (w : TransferWords) (l : LoadWords) (p : ProductWords) : Type 0 where
   pub state : Makes
   pub transfer : c .transfer ≡ w
   pub load : c .load ≡ l
+  pub products : Fixed p → Fixed (c .products)
 
--- A core whose words are those of what waits in it. Such a core is determined by its state.
+-- A core whose words are those of what waits and is under way in it. Such a core is determined by its state.
 pub record Canonical (c : Core) : Type 0 where
   pub transfer : transferWords (waitingTransfer (c .transfer)) ≡ c .transfer
   pub load : loadWords (waitingLoad (c .load)) ≡ c .load
+  pub products : Fixed (c .products)
 
 -- In contracts, that a function keeps a core canonical, beside what it gives.
 pub record Kept (Given : Type 0) (c r : Core) : Type 0 where
@@ -71,7 +76,8 @@ pub record Kept (Given : Type 0) (c r : Core) : Type 0 where
 
 -- A state of its registers, its predicates and the rest.
 abbrev pub joined : List ℕ → List Bool → Core → State
-joined rs ps c = state rs ps (c .specials) (c .fetch) (c .base) (waitingTransfer (c .transfer)) (waitingLoad (c .load))
+joined rs ps c =
+    state rs ps (c .specials) (c .fetch) (c .base) (waitingTransfer (c .transfer)) (waitingLoad (c .load)) (further (productsIn (c .products)))
 
 -- In contracts, the state of the registers and predicates that a function is lent, when it is called and when it returns, and of the rest.
 abbrev pub Registers : Type 0

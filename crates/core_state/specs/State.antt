@@ -2,6 +2,7 @@
 use Prim.Native.Nat.{ℕ, zero, suc, _/_, _%_}
 use mathlib.Core.Bool.{Bool, true, false, _&&_}
 use mathlib.Core.List.{List, [], _∷_}
+use mathlib.Core.Option.{Option, none, some}
 use mathlib.Core.Path.{_≡_}
 use lib.Dec.{eqb, leb}
 use lib.ListN.{length, getD, replicate}
@@ -13,12 +14,23 @@ use Rattle.alu_effects.specs.declared.Specials.{Specials}
 use Rattle.effects.specs.declared.Transfer.{Transfer}
 use Rattle.effects.specs.declared.Transfer.the-variants.{Br, Call, Block}
 use Rattle.effects.specs.Effect.{Start, start}
+use Rattle.products.specs.declared.Product.{Product}
+use Rattle.products.specs.declared.Products.{Products}
+use Rattle.products.specs.declared.Products.the-variants as products
+use Rattle.products.specs.Products.{productsOk, dueProduct, nearerProducts, withOneMore}
 use Rattle.core_state.specs.declared.WaitingTransfer.{WaitingTransfer}
 use Rattle.core_state.specs.declared.WaitingTransfer.the-variants as transfer
 use Rattle.core_state.specs.declared.WaitingLoad.{WaitingLoad}
 use Rattle.core_state.specs.declared.WaitingLoad.the-variants as load
 
--- The state: registers, predicates, special registers, the fetch address, the base, and what waits.
+-- What the requests of document 02 add to the state: the products under way.
+pub record Further : Type 0 where
+  pub products : Products
+
+abbrev pub further : Products → Further
+further products = record { products = products }
+
+-- The state: registers, predicates, special registers, the fetch address, the base, what waits, and what is added to it.
 pub record State : Type 0 where
   pub registers : List ℕ
   pub predicates : List Bool
@@ -27,11 +39,12 @@ pub record State : Type 0 where
   pub base : ℕ
   pub transfer : WaitingTransfer
   pub load : WaitingLoad
+  pub further : Further
 
 -- A state of its parts, in this order.
-abbrev pub state : List ℕ → List Bool → Specials → ℕ → ℕ → WaitingTransfer → WaitingLoad → State
-state registers predicates specials fetch base transfer load =
-    record { registers = registers; predicates = predicates; specials = specials; fetch = fetch; base = base; transfer = transfer; load = load }
+abbrev pub state : List ℕ → List Bool → Specials → ℕ → ℕ → WaitingTransfer → WaitingLoad → Further → State
+state registers predicates specials fetch base transfer load further =
+    record { registers = registers; predicates = predicates; specials = specials; fetch = fetch; base = base; transfer = transfer; load = load; further = further }
 
 -- There are 32 registers and 8 predicates.
 pub record Shaped (s : State) : Type 0 where
@@ -48,11 +61,11 @@ startOf s = start (s .registers) (s .predicates) (s .specials) (s .fetch)
 -- Registers and predicates. r0 and p0 are never written.
 unfoldable pub withRegister : State → ℕ → ℕ → State
 withRegister s r v =
-    state (putLater (s .registers) r v) (s .predicates) (s .specials) (s .fetch) (s .base) (s .transfer) (s .load)
+    state (putLater (s .registers) r v) (s .predicates) (s .specials) (s .fetch) (s .base) (s .transfer) (s .load) (s .further)
 
 abbrev pub withPredicates : State → List Bool → State
 withPredicates s ps =
-    state (s .registers) ps (s .specials) (s .fetch) (s .base) (s .transfer) (s .load)
+    state (s .registers) ps (s .specials) (s .fetch) (s .base) (s .transfer) (s .load) (s .further)
 
 unfoldable pub withPredicate : State → ℕ → Bool → State
 withPredicate s p b = withPredicates s (putLater (s .predicates) p b)
@@ -63,7 +76,7 @@ predicatesOf zero v = []
 predicatesOf (suc k) v = eqb (v % 2) 1 ∷ predicatesOf k (v / 2)
 
 abbrev pub withSpecials : State → Specials → State
-withSpecials s specials = state (s .registers) (s .predicates) specials (s .fetch) (s .base) (s .transfer) (s .load)
+withSpecials s specials = state (s .registers) (s .predicates) specials (s .fetch) (s .base) (s .transfer) (s .load) (s .further)
 
 -- A special register written. Of s0 bits 1 to 7 are p1 to p7; p0 stays true and the other bits have no effect.
 unfoldable pub withSpecial : State → Special → ℕ → State
@@ -92,7 +105,7 @@ returningTo x srb sro = specials (x .sl) (x .sh) (x .ss) (x .st) srb sro (x .sxb
 -- The waiting load.
 abbrev pub withLoad : State → WaitingLoad → State
 withLoad s l =
-    state (s .registers) (s .predicates) (s .specials) (s .fetch) (s .base) (s .transfer) l
+    state (s .registers) (s .predicates) (s .specials) (s .fetch) (s .base) (s .transfer) l (s .further)
 
 -- The load that waits since the bundle before is written, and waits no more.
 abbrev pub landing : WaitingLoad → State → State
@@ -102,10 +115,25 @@ landing (load.Waits r v) s = withLoad (withRegister s r v) load.Nothing
 unfoldable pub landed : State → State
 landed s = landing (s .load) s
 
+-- The products under way. One that falls due is written, and the others come one bundle nearer; a multiply begins one more.
+abbrev pub withProducts : State → Products → State
+withProducts s p =
+    state (s .registers) (s .predicates) (s .specials) (s .fetch) (s .base) (s .transfer) (s .load) (further p)
+
+abbrev pub withLanded : Option Product → State → State
+withLanded none s = s
+withLanded (some p) s = withProduct s (p .low) (p .high)
+
+unfoldable pub arrived : State → State
+arrived s = withLanded (dueProduct (s .further .products)) (withProducts s (nearerProducts (s .further .products)))
+
+abbrev pub withBegun : State → ℕ → ℕ → State
+withBegun s low high = withProducts s (withOneMore (s .further .products) low high)
+
 -- Where the core goes on: fetch address, base, the return registers, and what waits.
 abbrev pub withFlow : State → ℕ → ℕ → ℕ → ℕ → WaitingTransfer → State
 withFlow s srb sro fetch base waiting =
-    state (s .registers) (s .predicates) (returningTo (s .specials) srb sro) fetch base waiting (s .load)
+    state (s .registers) (s .predicates) (returningTo (s .specials) srb sro) fetch base waiting (s .load) (s .further)
 
 -- Going on at an address, with a transfer that waits or none.
 abbrev pub goingOn : State → ℕ → WaitingTransfer → State
@@ -119,8 +147,8 @@ transferred s (Br target) following = withFlow s (s .specials .srb) (s .specials
 transferred s (Call target) following = withFlow s (s .base) (sub following (s .base)) target target transfer.Nothing
 transferred s (Block target base) following = withFlow s (s .specials .srb) (s .specials .sro) target base transfer.Nothing
 
--- Refusal 11 is for a state that is not well formed: r0 is not 0, p0 is not true, a load waits for a register that there is not, or a
--- transfer waits 0 or more than 3 bundles.
+-- Refusal 11 is for a state that is not well formed: r0 is not 0, p0 is not true, a load waits for a register that there is not, a
+-- transfer waits 0 or more than 3 bundles, or `productsOk` does not hold of the products under way.
 abbrev pub loadOk : WaitingLoad → Bool
 loadOk load.Nothing = true
 loadOk (load.Waits r v) = leb r 31
@@ -130,7 +158,8 @@ waitOk transfer.Nothing = true
 waitOk (transfer.Waits t n) = leb 1 n && leb n 3
 
 unfoldable pub wellFormed : State → Bool
-wellFormed s = (eqb (getD (s .registers) 0 0) 0 && getD (s .predicates) 0 false) && (loadOk (s .load) && waitOk (s .transfer))
+wellFormed s =
+    (eqb (getD (s .registers) 0 0) 0 && getD (s .predicates) 0 false) && ((loadOk (s .load) && waitOk (s .transfer)) && productsOk (s .further .products))
 
 -- A state has ended if it would fetch at the end of the code and no transfer waits.
 abbrev pub noneWaits : WaitingTransfer → Bool
@@ -143,4 +172,4 @@ ended s codeLength = eqb (s .fetch) codeLength && noneWaits (s .transfer)
 -- The fresh state at an entry.
 unfoldable pub fresh : ℕ → ℕ → ℕ → State
 fresh codeLength hi entry =
-    state (replicate 32 0) (true ∷ predicatesOf 7 0) (specials 0 0 hi hi 0 codeLength 0 0) entry entry transfer.Nothing load.Nothing
+    state (replicate 32 0) (true ∷ predicatesOf 7 0) (specials 0 0 hi hi 0 codeLength 0 0) entry entry transfer.Nothing load.Nothing (further products.Nothing)

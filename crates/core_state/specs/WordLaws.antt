@@ -4,6 +4,7 @@ use mathlib.Core.Bool.{Bool, true, false, cond}
 use mathlib.Core.List.{List}
 use mathlib.Core.Path.{_≡_, refl, sym, ap, subst, _∙_}
 use lib.Dec.{leb}
+use Rattle.products.specs.Words.{productWords, Fixed as FixedProducts}
 use Rattle.effects.specs.declared.Transfer.{Transfer}
 use Rattle.effects.specs.declared.Transfer.the-variants.{Br, Call, Block}
 use Rattle.core_state.specs.declared.TransferWords.{TransferWords}
@@ -64,13 +65,14 @@ nearer-fixed w e = subst (λ (v : TransferWords). Fixed (nearerWords v)) e (go (
     go (transfer.Waits (Block target base) n) = due transfer.Nothing (transfer.Waits (Block target base) (n - 1)) (leb n 1)
 
 -- A core with such words is canonical.
-pub canonical-with : (c : Core) (w : TransferWords) (l : LoadWords) → c .transfer ≡ w → c .load ≡ l → Fixed w → loadWords (waitingLoad l) ≡ l → Canonical c
-canonical-with c w l e f g h =
-    record { transfer = subst Fixed (sym e) g; load = subst (λ (y : LoadWords). loadWords (waitingLoad y) ≡ y) (sym f) h }
+pub canonical-with : (c : Core) (w : TransferWords) (l : LoadWords) → c .transfer ≡ w → c .load ≡ l → Fixed w → loadWords (waitingLoad l) ≡ l → FixedProducts (c .products) → Canonical c
+canonical-with c w l e f g h p =
+    record { transfer = subst Fixed (sym e) g; load = subst (λ (y : LoadWords). loadWords (waitingLoad y) ≡ y) (sym f) h; products = p }
 
 -- A state has one canonical core.
 pub determined : (rs us : List ℕ) (ps qs : List Bool) (c d : Core) → Canonical c → Canonical d → joined rs ps c ≡ joined us qs d → c ≡ d
 determined rs us ps qs c d k m e =
     let t : c .transfer ≡ d .transfer = sym (k .transfer) ∙ (λ i. transferWords (e i .transfer)) ∙ m .transfer in
     let l : c .load ≡ d .load = sym (k .load) ∙ (λ i. loadWords (e i .load)) ∙ m .load in
-    λ i. record { specials = e i .specials; fetch = e i .fetch; base = e i .base; transfer = t i; load = l i }
+    let p : c .products ≡ d .products = sym (k .products) ∙ (λ i. productWords (e i .further .products)) ∙ m .products in
+    λ i. record { specials = e i .specials; fetch = e i .fetch; base = e i .base; transfer = t i; load = l i; products = p i }

@@ -32,7 +32,7 @@ impl Core {
         predicates: &mut [bool; 8],
         e: AluEffect,
     ) -> Core
-        ensures { λ r. ⌜ Written (leftState registers predicates r ≡ writeAlu e (foundState registers predicates self)) r (self .transfer) (self .load) ⌝ }
+        ensures { λ r. ⌜ Written (leftState registers predicates r ≡ writeAlu e (foundState registers predicates self)) r (self .transfer) (self .load) (self .products) ⌝ }
     {
         match e {
             AluEffect::Nothing => self,
@@ -43,7 +43,7 @@ impl Core {
 
     // A transfer that waits comes one bundle nearer, and is carried out when it falls due.
     pub fn nearer(self, waiting: TransferWords, following: u32) -> Core
-        ensures { λ r. ⌜ Written ((rs : List ℕ) (ps : List Bool) → joined rs ps r ≡ nearer (waitingTransfer waiting) following (joined rs ps self)) r (nearerWords waiting) (self .load) ⌝ }
+        ensures { λ r. ⌜ Written ((rs : List ℕ) (ps : List Bool) → joined rs ps r ≡ nearer (waitingTransfer waiting) following (joined rs ps self)) r (nearerWords waiting) (self .load) (self .products) ⌝ }
     {
         if waiting.kind == 0 {
             return self.go_on(following, waiting);
@@ -56,7 +56,7 @@ impl Core {
 
     // A transfer of this bundle: it waits for its delay slots, or is carried out at once.
     pub fn begin(self, delayed: bool, transfer: Transfer, following: u32) -> Core
-        ensures { λ r. ⌜ Written ((rs : List ℕ) (ps : List Bool) → joined rs ps r ≡ begun delayed transfer following (joined rs ps self)) r (begunWords delayed transfer) (self .load) ⌝ }
+        ensures { λ r. ⌜ Written ((rs : List ℕ) (ps : List Bool) → joined rs ps r ≡ begun delayed transfer following (joined rs ps self)) r (begunWords delayed transfer) (self .load) (self .products) ⌝ }
     {
         if delayed {
             let wait = delay_slots(transfer);

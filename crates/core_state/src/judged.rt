@@ -9,6 +9,7 @@ use crate::Core;
 use crate::waiting::load_ok;
 use crate::waiting::none_waits;
 use crate::waiting::wait_ok;
+use products::words::products_ok;
 
 // Whether refusal 11 does not describe the state.
 pub fn is_well_formed(core: Core, registers: &[u32; 32], predicates: &[bool; 8]) -> bool
@@ -16,7 +17,9 @@ pub fn is_well_formed(core: Core, registers: &[u32; 32], predicates: &[bool; 8])
 {
     let load = core.load;
     let transfer = core.transfer;
-    ((registers[0] == 0) & predicates[0]) & (load_ok(load) & wait_ok(transfer))
+    let products = core.products;
+    ((registers[0] == 0) & predicates[0])
+        & ((load_ok(load) & wait_ok(transfer)) & products_ok(products))
 }
 
 pub fn has_ended(core: Core, code: usize) -> bool

@@ -7,6 +7,7 @@ mod writes;
 
 use alu_effects::Specials;
 use effects::Transfer;
+use products::ProductWords;
 
 // The transfer that waits, and how many bundles are to be done before it has happened.
 pub enum WaitingTransfer {
@@ -42,4 +43,5 @@ pub struct Core {
     pub base: u32,
     pub transfer: TransferWords,
     pub load: LoadWords,
+    pub products: ProductWords,
 }

@@ -1,12 +1,15 @@
-// Writing the special registers.
+// Writing the special registers, at once or with a product that arrives.
 ghost use mathlib.Core.Path.{_≡_};
 ghost use mathlib.Core.Bool.{Bool, true};
 ghost use mathlib.Core.List.{List, _∷_};
 ghost use Prim.Native.Nat.{ℕ, _/_};
 ghost use Rattle.core_state.specs.Core.{joined, Written};
-ghost use Rattle.core_state.specs.State.{predicatesOf, withSpecial, withProduct, withStack};
+ghost use Rattle.core_state.specs.State.{predicatesOf, withSpecial, withStack, arrived, withBegun};
 use crate::Core;
 use isa::Special;
+use products::words::is_due;
+use products::words::nearer;
+use products::words::one_more;
 
 // The predicates that a word written to s0 makes: p0 is true, p1 to p7 are bits 1 to 7.
 fn predicates_of(v: u32) -> [bool; 8]
@@ -33,7 +36,7 @@ fn predicates_of(v: u32) -> [bool; 8]
 
 impl Core {
     pub fn write_special(mut self, predicates: &mut [bool; 8], s: Special, v: u32) -> Core
-        ensures { λ r. ⌜ Written ((rs : List ℕ) → joined rs (now (predicates .exit)) r ≡ withSpecial (joined rs (now (predicates .entry)) self) s v) r (self .transfer) (self .load) ⌝ }
+        ensures { λ r. ⌜ Written ((rs : List ℕ) → joined rs (now (predicates .exit)) r ≡ withSpecial (joined rs (now (predicates .entry)) self) s v) r (self .transfer) (self .load) (self .products) ⌝ }
     {
         match s {
             Special::S0 => *predicates = predicates_of(v),
@@ -49,16 +52,37 @@ impl Core {
         self
     }
 
-    pub fn write_product(mut self, low: u32, high: u32) -> Core
-        ensures { λ r. ⌜ Written ((rs : List ℕ) (ps : List Bool) → joined rs ps r ≡ withProduct (joined rs ps self) low high) r (self .transfer) (self .load) ⌝ }
+    // The product that falls due is written to sl and sh, and those under way come one bundle nearer.
+    pub fn arrive(mut self) -> Core
+        ensures { λ r. ⌜ Written ((rs : List ℕ) (ps : List Bool) → joined rs ps r ≡ arrived (joined rs ps self)) r (self .transfer) (self .load) (self .products) ⌝ }
     {
-        self.specials.sl = low;
-        self.specials.sh = high;
+        let products = self.products;
+        if products.count == 0 {
+            return self;
+        }
+        let next = nearer(products);
+        self.products = next;
+        if is_due(products) {
+            let landing = products.first;
+            self.specials.sl = landing.low;
+            self.specials.sh = landing.high;
+            return self;
+        }
+        self
+    }
+
+    // A multiply begins a product.
+    pub fn begin_product(mut self, low: u32, high: u32) -> Core
+        ensures { λ r. ⌜ Written ((rs : List ℕ) (ps : List Bool) → joined rs ps r ≡ withBegun (joined rs ps self) low high) r (self .transfer) (self .load) (self .products) ⌝ }
+    {
+        let products = self.products;
+        let more = one_more(products, low, high);
+        self.products = more;
         self
     }
 
     pub fn write_stack(mut self, st: u32, ss: u32) -> Core
-        ensures { λ r. ⌜ Written ((rs : List ℕ) (ps : List Bool) → joined rs ps r ≡ withStack (joined rs ps self) st ss) r (self .transfer) (self .load) ⌝ }
+        ensures { λ r. ⌜ Written ((rs : List ℕ) (ps : List Bool) → joined rs ps r ≡ withStack (joined rs ps self) st ss) r (self .transfer) (self .load) (self .products) ⌝ }
     {
         self.specials.st = st;
         self.specials.ss = ss;

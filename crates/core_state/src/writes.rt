@@ -17,7 +17,7 @@ use effects::Transfer;
 impl Core {
     // A register written; r0 stays zero.
     pub fn write_register(self, registers: &mut [u32; 32], r: u32, v: u32) -> Core
-        ensures { λ x. ⌜ Written ((ps : List Bool) → joined (now (registers .exit)) ps x ≡ withRegister (joined (now (registers .entry)) ps self) r v) x (self .transfer) (self .load) ⌝ }
+        ensures { λ x. ⌜ Written ((ps : List Bool) → joined (now (registers .exit)) ps x ≡ withRegister (joined (now (registers .entry)) ps self) r v) x (self .transfer) (self .load) (self .products) ⌝ }
     {
         registers::write_register(&mut *registers, r, v);
         self
@@ -25,7 +25,7 @@ impl Core {
 
     // A predicate written; p0 stays true.
     pub(crate) fn write_predicate(self, predicates: &mut [bool; 8], p: u32, v: bool) -> Core
-        ensures { λ x. ⌜ Written ((rs : List ℕ) → joined rs (now (predicates .exit)) x ≡ withPredicate (joined rs (now (predicates .entry)) self) p v) x (self .transfer) (self .load) ⌝ }
+        ensures { λ x. ⌜ Written ((rs : List ℕ) → joined rs (now (predicates .exit)) x ≡ withPredicate (joined rs (now (predicates .entry)) self) p v) x (self .transfer) (self .load) (self .products) ⌝ }
     {
         registers::write_predicate(&mut *predicates, p, v);
         self
@@ -33,23 +33,25 @@ impl Core {
 
     // The waiting load replaced.
     pub fn with_load(self, load: LoadWords) -> Core
-        ensures { λ x. ⌜ Written ((rs : List ℕ) (ps : List Bool) → joined rs ps x ≡ withLoad (joined rs ps self) (waitingLoad load)) x (self .transfer) load ⌝ }
+        ensures { λ x. ⌜ Written ((rs : List ℕ) (ps : List Bool) → joined rs ps x ≡ withLoad (joined rs ps self) (waitingLoad load)) x (self .transfer) load (self .products) ⌝ }
     {
         let specials = self.specials;
         let transfer = self.transfer;
+        let products = self.products;
         Core {
             specials,
             fetch: self.fetch,
             base: self.base,
             transfer,
             load,
+            products,
         }
     }
 
     // The load waiting from the bundle before is written, and waits no more. The result is built anew on both ways: one that is
     // handed back as it came would be copied whole.
     pub fn land_load(self, registers: &mut [u32; 32]) -> Core
-        ensures { λ x. ⌜ Written ((ps : List Bool) → joined (now (registers .exit)) ps x ≡ landed (joined (now (registers .entry)) ps self)) x (self .transfer) (loadWords WaitingLoad.Nothing) ⌝ }
+        ensures { λ x. ⌜ Written ((ps : List Bool) → joined (now (registers .exit)) ps x ≡ landed (joined (now (registers .entry)) ps self)) x (self .transfer) (loadWords WaitingLoad.Nothing) (self .products) ⌝ }
     {
         let load = self.load;
         if load.waits == 0 {
@@ -61,22 +63,24 @@ impl Core {
 
     // Going on at an address, with a transfer that waits or none.
     pub(crate) fn go_on(self, fetch: u32, transfer: TransferWords) -> Core
-        ensures { λ x. ⌜ Written ((rs : List ℕ) (ps : List Bool) → joined rs ps x ≡ goingOn (joined rs ps self) fetch (waitingTransfer transfer)) x transfer (self .load) ⌝ }
+        ensures { λ x. ⌜ Written ((rs : List ℕ) (ps : List Bool) → joined rs ps x ≡ goingOn (joined rs ps self) fetch (waitingTransfer transfer)) x transfer (self .load) (self .products) ⌝ }
     {
         let specials = self.specials;
         let load = self.load;
+        let products = self.products;
         Core {
             specials,
             fetch,
             base: self.base,
             transfer,
             load,
+            products,
         }
     }
 
     // A transfer carried out at the end of a bundle, whose following address a call keeps, relative to the old base.
     pub fn transfer(mut self, transfer: Transfer, following: u32) -> Core
-        ensures { λ x. ⌜ Written ((rs : List ℕ) (ps : List Bool) → joined rs ps x ≡ transferred (joined rs ps self) transfer following) x (transferWords WaitingTransfer.Nothing) (self .load) ⌝ }
+        ensures { λ x. ⌜ Written ((rs : List ℕ) (ps : List Bool) → joined rs ps x ≡ transferred (joined rs ps self) transfer following) x (transferWords WaitingTransfer.Nothing) (self .load) (self .products) ⌝ }
     {
         match transfer {
             Transfer::Br { target } => self.go_on(target, no_transfer()),

@@ -26,8 +26,9 @@ use Rattle.marking.specs.declared.Marking.{Marking}
 use Rattle.marking.specs.Marking.{privateStore, publicRegister, publicPredicate, publicSpecial}
 use Rattle.even_pace.specs.Terms.{SameState, SameBuffers}
 use Rattle.even_pace.specs.StateLaws.{state-refl, state-sym, state-trans, register-both, predicate-both}
-use Rattle.even_pace.specs.WriteLaws.{special-both, product-both, stack-both, load-both, register-quiet, predicate-quiet, product-quiet, special-quiet, load-quiet, waits-private, waits-none}
+use Rattle.even_pace.specs.WriteLaws.{special-both, stack-both, load-both, register-quiet, predicate-quiet, special-quiet, load-quiet, waits-private, waits-none}
 use Rattle.even_pace.specs.FlowLaws.{nearer-both, begun-both}
+use Rattle.even_pace.specs.ProductLaws.{begun-product-both, begun-product-quiet}
 use Rattle.even_pace.specs.BufferLaws.{read-both}
 use Rattle.settings.specs.Setup.{Buffers, Setup}
 
@@ -102,7 +103,7 @@ module _ {m : Marking} (g : Settings) (x : Setup) {b₁ b₂ : Buffers} (b : Sam
   unfolding writeOne
   writeOne-both s (of-alu h) p = writeAlu-both s h
   writeOne-both s (special h) p = special-both s _ _ _ h
-  writeOne-both s (product h q) p = product-both s _ _ _ _ h q
+  writeOne-both s (product h q) p = begun-product-both s _ _ _ _ h q
   writeOne-both s (load {k} {w} {r} {a} h) p = load-both s r _ _ (λ q. loaded-both k w r a p (h q))
   writeOne-both s (store h) p = s
   writeOne-both s (stack {c} {n}) p =
@@ -116,7 +117,7 @@ module _ {m : Marking} (g : Settings) (x : Setup) {b₁ b₂ : Buffers} (b : Sam
   unfolding writeOne
   writeOne-quiet c z s (quiet-alu h) l p q = writeAlu-quiet s h
   writeOne-quiet c z s (quiet-special h) l p q = special-quiet s _ _ h p q
-  writeOne-quiet c z s (quiet-product h k) l p q = product-quiet s _ _ h k
+  writeOne-quiet c z s (quiet-product h k) l p q = begun-product-quiet s _ _ h k
   writeOne-quiet c z s (quiet-load h) l p q = load-quiet s _ (s .load) (waits-private m _ _ h) (λ r v t e. waits-none m r v t (sym l ∙ e))
   writeOne-quiet c z s (quiet-store h) l p q = state-refl s
 

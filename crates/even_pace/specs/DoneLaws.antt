@@ -10,16 +10,19 @@ use Rattle.memory.specs.Access.{storeScale}
 use Rattle.alu_effects.specs.declared.AluEffect.{AluEffect}
 use Rattle.effects.specs.declared.Effect.{Effect}
 use Rattle.effects.specs.declared.Effect.the-variants as effect
-use Rattle.core_state.specs.State.{State, state, specials, landed}
+use Rattle.products.specs.declared.Products.the-variants as products
+use Rattle.core_state.specs.State.{State, state, specials, further, landed, arrived}
 use Rattle.core_state.specs.declared.WaitingTransfer.{WaitingTransfer}
 use Rattle.core_state.specs.declared.WaitingLoad.the-variants.{Nothing}
 use Rattle.bundle_model.specs.Refusal.{effectTests}
 use Rattle.core_state.specs.Writes.{writeAlu}
 use Rattle.bundle_model.specs.Bundle.{writeOne, onward, written, buffersAfter, stackMoved, countsOf}
+use Rattle.step_laws.specs.KeptLaws.{arrived-cases}
 use Rattle.step_laws.specs.StackKept.{Passed, passed-open}
 use Rattle.marking.specs.declared.Marking.{Marking}
 use Rattle.even_pace.specs.Terms.{SameState, SameBuffers, Agree}
 use Rattle.even_pace.specs.FlowLaws.{landed-both, landed-predicates, landed-none}
+use Rattle.even_pace.specs.ProductLaws.{arrived-both}
 use Rattle.even_pace.specs.BufferLaws.{buffers-refl, buffers-sym, buffers-trans, store-both, store-quiet, moved-both}
 use Rattle.even_pace.specs.Alike.{SameEffect, of-alu, special, product, load, store, stack, transfer, exception, QuietEffect, quiet-alu, quiet-special, quiet-product, quiet-load, quiet-store, AlikeAlu, AlikeEffect, same-effect, quiet-effects, writeAlu-alike, writeOne-alike, onward-alike}
 use Rattle.settings.specs.Setup.{Buffers, Setup}
@@ -27,7 +30,7 @@ use Rattle.answers.specs.Test.{verdict as verdictOf}
 
 -- What of a state judges and counts a bundle: ss, st and the waiting transfer.
 judging : State → State
-judging s = state [] [] (specials 0 0 (s .specials .ss) (s .specials .st) 0 0 0 0) 0 0 (s .transfer) Nothing
+judging s = state [] [] (specials 0 0 (s .specials .ss) (s .specials .st) 0 0 0 0) 0 0 (s .transfer) Nothing (further products.Nothing)
 
 tests-judging : (g : Settings) (x : Setup) (s : State) (e : Effect) → effectTests g x s e ≡ effectTests g x (judging s) e
 unfolding judging
@@ -58,7 +61,7 @@ moved-judging g x s c n b = refl
 module _ {m : Marking} (g : Settings) (x : Setup) {s₁ s₂ : State} (a : SameState m s₁ s₂) where
   same-judging : judging s₁ ≡ judging s₂
   unfolding judging
-  same-judging = λ i. state [] [] (specials 0 0 (a .specials .ss i) (a .specials .st i) 0 0 0 0) 0 0 (a .transfer i) Nothing
+  same-judging = λ i. state [] [] (specials 0 0 (a .specials .ss i) (a .specials .st i) 0 0 0 0) 0 0 (a .transfer i) Nothing (further products.Nothing)
 
   tests-same : (e : Effect) → effectTests g x s₁ e ≡ effectTests g x s₂ e
   tests-same e = tests-judging g x s₁ e ∙ ap (λ (s : State). effectTests g x s e) same-judging ∙ sym (tests-judging g x s₂ e)
@@ -101,6 +104,13 @@ pub counts-alike : {m : Marking} {e₁ e₂ : Effect} (g : Settings) (x : Setup)
 counts-alike g x a (same-effect h) = counts-both g x a h
 counts-alike g x {s₁} {s₂} a (quiet-effects h k) = counts-quiet g s₁ h ∙ sym (counts-quiet g s₂ k)
 
+-- Onto what slot one writes: no load waits, and the predicates are those of the start.
+onto-none : (s : State) → arrived (landed s) .load ≡ Nothing
+onto-none s = arrived-cases (λ z. z .load ≡ Nothing) (landed s) (λ x. landed-none s)
+
+onto-predicates : (s : State) → arrived (landed s) .predicates ≡ s .predicates
+onto-predicates s = arrived-cases (λ z. z .predicates ≡ s .predicates) (landed s) (λ x. landed-predicates s)
+
 -- The buffers after a bundle.
 module _ {m : Marking} (g : Settings) (x : Setup) (ordered : x .lo ≤ x .hi) {s₁ s₂ : State} (a : SameState m s₁ s₂)
     {b₁ b₂ : Buffers} (b : SameBuffers m x b₁ b₂) (inside : x .hi ≤ length (b₁ .main)) where
@@ -137,10 +147,12 @@ module _ {m : Marking} (g : Settings) (x : Setup) (ordered : x .lo ≤ x .hi) {s
       → SameState m (written g b₁ s₁ e₁ two₁ following) (written g b₂ s₂ e₂ two₂ following)
   unfolding written
   written-alike {e₁} {e₂} {two₁} {two₂} following e two p n₁ n₂ t₁ t₂ =
-      let one = writeOne-alike g x b a (landed-both a) e p (landed-none s₁) (landed-none s₂) (ap length (landed-predicates s₁) ∙ n₁) (ap length (landed-predicates s₂) ∙ n₂)
-      (ap (λ (l : List Bool). getD l 0 false) (landed-predicates s₁) ∙ t₁) (ap (λ (l : List Bool). getD l 0 false) (landed-predicates s₂) ∙ t₂) in
-      let after₁ = writeAlu two₁ (writeOne g b₁ s₁ e₁ (landed s₁)) in
-      let after₂ = writeAlu two₂ (writeOne g b₂ s₂ e₂ (landed s₂)) in
+      let k₁ = onto-predicates s₁ in
+      let k₂ = onto-predicates s₂ in
+      let one = writeOne-alike g x b a (arrived-both (landed-both a)) e p (onto-none s₁) (onto-none s₂) (ap length k₁ ∙ n₁) (ap length k₂ ∙ n₂)
+      (ap (λ (l : List Bool). getD l 0 false) k₁ ∙ t₁) (ap (λ (l : List Bool). getD l 0 false) k₂ ∙ t₂) in
+      let after₁ = writeAlu two₁ (writeOne g b₁ s₁ e₁ (arrived (landed s₁))) in
+      let after₂ = writeAlu two₂ (writeOne g b₂ s₂ e₂ (arrived (landed s₂))) in
       subst (λ (w : WaitingTransfer). SameState m (onward e₁ (s₁ .transfer) following after₁) (onward e₂ w following after₂))
       (a .transfer) (onward-alike (writeAlu-alike one two) (s₁ .transfer) following e)
 

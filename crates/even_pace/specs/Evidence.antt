@@ -14,6 +14,7 @@ use Rattle.core_state.specs.declared.WaitingLoad.the-variants as load
 use Rattle.bundle_model.specs.declared.Counts.{Counts}
 use Rattle.bundle_model.specs.Bundle.{step}
 use Rattle.run_model.specs.Run.{run, Tried, triedAt, tries}
+use Rattle.marking.specs.declared.Marking.{Marking}
 use Rattle.marking.specs.Marking.{publicRegister}
 use Rattle.single_path.specs.Check.{Walked, first, accepted}
 use Rattle.single_path.specs.WalkLaws.{walked-inside}
@@ -45,32 +46,32 @@ pub program-even : (k v₁ v₂ : ℕ) (p₁ p₂ : Bool) → Even k program (be
 unfolding check
 program-even k v₁ v₂ p₁ p₂ =
     even-pace (within program) k marking (begin v₁ p₁ load.Nothing) (begin v₂ p₂ load.Nothing) lent lent program-accepted
-    (begin-shaped v₁ p₁ load.Nothing) (begin-shaped v₂ p₂ load.Nothing) (begin-well v₁ p₁) (begin-well v₂ p₂) (begin-agree program v₁ v₂ p₁ p₂)
+    (begin-shaped v₁ p₁ load.Nothing) (begin-shaped v₂ p₂ load.Nothing) (begin-well v₁ p₁) (begin-well v₂ p₂) (begin-agree false false program v₁ v₂ p₁ p₂)
 
 pub program-ends : (answered 3 program (begin 7 true load.Nothing) ≡ ended) × (answered 3 program (begin 9 false load.Nothing) ≡ ended)
 unfolding answered
 program-ends = (refl, refl)
 
 -- Lists of one bundle that is no stopping event.
-goes : (code : List ℕ) (t : Tried) → Walked code (t .fetch) → hasPrivateAccess marking (bundleAt code (t .fetch)) ≡ false → ¬ Stops marking code t
-goes code t w e (not-walked n) = n w
-goes code t w e (refused-access n p q) = false≢true (sym e ∙ q)
+pub goes : (m : Marking) (code : List ℕ) (t : Tried) → Walked code (t .fetch) → hasPrivateAccess m (bundleAt code (t .fetch)) ≡ false → ¬ Stops m code t
+goes m code t w e (not-walked n) = n w
+goes m code t w e (refused-access n p q) = false≢true (sym e ∙ q)
 
-module _ (code : List ℕ) (t₁ t₂ : Tried) (a₁ a₂ : Returned) (n₁ : ¬ Stops marking code t₁) (n₂ : ¬ Stops marking code t₂) where
-  not-at : (k : ℕ) → StopTried marking (within code) (t₁ ∷ []) (t₂ ∷ []) k → ⊥
+module _ (m : Marking) (code : List ℕ) (t₁ t₂ : Tried) (a₁ a₂ : Returned) (n₁ : ¬ Stops m code t₁) (n₂ : ¬ Stops m code t₂) where
+  not-at : (k : ℕ) → StopTried m (within code) (t₁ ∷ []) (t₂ ∷ []) k → ⊥
   not-at zero s = go (s .stops)
     where
-      go : Stops marking code (s .t₁) ⊎ Stops marking code (s .t₂) → ⊥
-      go (inl h) = n₁ (subst (Stops marking code) (sym (ap (orElse t₁) (s .tried₁))) h)
-      go (inr h) = n₂ (subst (Stops marking code) (sym (ap (orElse t₂) (s .tried₂))) h)
+      go : Stops m code (s .t₁) ⊎ Stops m code (s .t₂) → ⊥
+      go (inl h) = n₁ (subst (Stops m code) (sym (ap (orElse t₁) (s .tried₁))) h)
+      go (inr h) = n₂ (subst (Stops m code) (sym (ap (orElse t₂) (s .tried₂))) h)
   not-at (suc k) s = false≢true (ap isSome (s .tried₁))
 
-  uneven : (SameTried marking (within code) t₁ t₂ → a₁ ≡ a₂ → ⊥) → EvenPace marking (within code) (t₁ ∷ []) (t₂ ∷ []) a₁ a₂ → ⊥
+  pub uneven : (SameTried m (within code) t₁ t₂ → a₁ ≡ a₂ → ⊥) → EvenPace m (within code) (t₁ ∷ []) (t₂ ∷ []) a₁ a₂ → ⊥
   uneven d (inl s) = not-at (s .0) (s .1)
   uneven d (inr w) = d (w .each 0 t₁ t₂ refl refl .2) (w .answers)
 
 -- One bundle of a program, as it is tried from a state.
-abbrev one : List ℕ → State → Tried
+abbrev pub one : List ℕ → State → Tried
 one code s = triedAt 0 noCounts (step (within code) s lent)
 
 -- A: (p1) brnd 1 takes 3 cycles or 1.
@@ -86,7 +87,7 @@ unfolding tried answered hasAccess
 uneven-A =
     let t₁ = one programA (begin 0 true load.Nothing) in
     let t₂ = one programA (begin 0 false load.Nothing) in
-    uneven programA t₁ t₂ _ _ (goes programA t₁ (first (omega arith)) refl) (goes programA t₂ (first (omega arith)) refl)
+    uneven marking programA t₁ t₂ _ _ (goes marking programA t₁ (first (omega arith)) refl) (goes marking programA t₂ (first (omega arith)) refl)
     (λ s e. absurd (omega (arith, ap (λ (c : Counts). c .cycles) (s .counts))))
 
 -- B: add r2 = r1 + 0 brings a private value into a public register.
@@ -102,7 +103,7 @@ unfolding tried answered hasAccess
 uneven-B =
     let t₁ = one programB (begin 5 true load.Nothing) in
     let t₂ = one programB (begin 6 true load.Nothing) in
-    uneven programB t₁ t₂ _ _ (goes programB t₁ (first (omega arith)) refl) (goes programB t₂ (first (omega arith)) refl)
+    uneven marking programB t₁ t₂ _ _ (goes marking programB t₁ (first (omega arith)) refl) (goes marking programB t₂ (first (omega arith)) refl)
     (λ s e. absurd (omega (arith, s .contents .state .registers .places 2 refl)))
 
 -- C: lwl r0 = [r1] is refused or not by a private address.
@@ -122,7 +123,7 @@ unfolding tried answered hasAccess
 uneven-C =
     let t₁ = one programC (begin 0 true load.Nothing) in
     let t₂ = one programC (begin 4 true load.Nothing) in
-    uneven programC t₁ t₂ _ _ (goes programC t₁ (first (omega arith)) refl) (goes programC t₂ (first (omega arith)) refl)
+    uneven marking programC t₁ t₂ _ _ (goes marking programC t₁ (first (omega arith)) refl) (goes marking programC t₂ (first (omega arith)) refl)
     (λ s e. false≢true (ap isRefused e))
 
 -- D: swl [r0] = r1 brings a private value into public local memory.
@@ -138,7 +139,7 @@ unfolding tried answered hasAccess
 uneven-D =
     let t₁ = one programD (begin 5 true load.Nothing) in
     let t₂ = one programD (begin 6 true load.Nothing) in
-    uneven programD t₁ t₂ _ _ (goes programD t₁ (first (omega arith)) refl) (goes programD t₂ (first (omega arith)) refl)
+    uneven marking programD t₁ t₂ _ _ (goes marking programD t₁ (first (omega arith)) refl) (goes marking programD t₂ (first (omega arith)) refl)
     (λ s e. absurd (omega (arith, s .contents .buffers .local .places 3 refl)))
 
 -- E: brnd r1 goes to a private address.
@@ -154,7 +155,7 @@ unfolding tried answered hasAccess
 uneven-E =
     let t₁ = one programE (begin 0 true load.Nothing) in
     let t₂ = one programE (begin 4 true load.Nothing) in
-    uneven programE t₁ t₂ _ _ (goes programE t₁ (first (omega arith)) refl) (goes programE t₂ (first (omega arith)) refl)
+    uneven marking programE t₁ t₂ _ _ (goes marking programE t₁ (first (omega arith)) refl) (goes marking programE t₂ (first (omega arith)) refl)
     (λ s e. absurd (omega (arith, s .contents .state .fetch)))
 
 -- A load to a register that is no public destination waits in one run only.

@@ -16,7 +16,9 @@ use Rattle.settings.specs.Settings.{admits}
 use Rattle.memory.specs.Access.{loadScale, storeScale, readNumber, extended, loadedValue, stored, mainOpen, accessOpen}
 use Rattle.alu_effects.specs.AluEffects.{predicatesWord, special, op2Value, aluEffect, slotTwoEffect}
 use Rattle.effects.specs.Effect.{accessAddress, amountWords, amountAligned, stackEffect, transferOf, effectOf, slotOneEffect}
-use Rattle.core_state.specs.State.{State, Shaped, state, specials, withRegister, withPredicate, predicatesOf, withSpecial, landed, transferred, wellFormed, ended as hasEnded}
+use Rattle.products.specs.declared.Products.the-variants as products
+use Rattle.products.specs.Products.{productsOk, dueProduct, nearerProducts, withOneMore}
+use Rattle.core_state.specs.State.{State, Shaped, state, specials, withRegister, withPredicate, predicatesOf, withSpecial, landed, transferred, arrived, further, wellFormed, ended as hasEnded}
 use Rattle.core_state.specs.declared.WaitingTransfer.the-variants as transfer
 use Rattle.core_state.specs.declared.WaitingLoad.{WaitingLoad}
 use Rattle.core_state.specs.declared.WaitingLoad.the-variants as load
@@ -48,29 +50,36 @@ within code = record { code = code; lo = 16; hi = 32 }
 abbrev pub lent : Buffers
 lent = buffers (replicate 32 0) (replicate 4 0) (replicate 4 0)
 
--- r1 and p1 are private, and nothing else is.
-abbrev pub marking : Marking
-marking =
+-- r1 and p1 are private, sl and sh as given, and nothing else is.
+abbrev pub markingWith : Bool → Bool → Marking
+markingWith sl sh =
     record {
       registers = false ∷ true ∷ replicate 30 false;
       predicates = false ∷ true ∷ replicate 6 false;
-      sl = false;
-      sh = false;
+      sl = sl;
+      sh = sh;
       main = false;
       local = false;
       stack = false;
     }
 
+abbrev pub marking : Marking
+marking = markingWith false false
+
 -- A state at address 0 with a value in r1, one in p1, and a load that waits or none.
 abbrev pub begin : ℕ → Bool → WaitingLoad → State
-begin v p waiting = state (0 ∷ v ∷ replicate 30 0) (true ∷ p ∷ replicate 6 false) (specials 0 0 32 32 0 4 0 0) 0 0 transfer.Nothing waiting
+begin v p waiting = state (0 ∷ v ∷ replicate 30 0) (true ∷ p ∷ replicate 6 false) (specials 0 0 32 32 0 4 0 0) 0 0 transfer.Nothing waiting (further products.Nothing)
 
 -- What the check answers, which rules the bundle at 0 breaks, what a run tries, and what it answers. (The first line of each names
 -- the definitions by which it is computed.)
-unfoldable pub check : List ℕ → CheckAnswer
+unfoldable pub checkUnder : Marking → List ℕ → CheckAnswer
 unfolding checked walkFrom verdict admits isCacheSize markingOk outsideCode numberAt bundleWords decode guardOf decoder.slotOne slotTwo reading row signed
     keeps breaks operationBreaks asked breaksA breaksB breaksC breaksD breaksE privateStore someOf
-check code = checked (within code) 32 4 4 marking
+checkUnder m code = checked (within code) 32 4 4 m
+
+unfoldable pub check : List ℕ → CheckAnswer
+unfolding checkUnder
+check code = checkUnder marking code
 
 unfoldable pub broken : List ℕ → List Bool
 unfolding numberAt bundleWords decode guardOf decoder.slotOne slotTwo reading row signed breaks operationBreaks asked breaksA breaksB breaksC breaksD breaksE privateStore someOf
@@ -87,7 +96,7 @@ unfolding tries step readiness admits isCacheSize wellFormed hasEnded bundle
     lessSigned lessEqualSigned shiftRightSigned copyBit productSigned predicatesWord special
     loadScale storeScale accessAddress stackEffect amountWords amountAligned transferOf
     verdict touches mainOpen accessOpen badWindow badAmount movedOutside every spills spillWhile below fills fillWhile topAfter spillAfter
-    written landed writeOne writeAlu withRegister withPredicate withSpecial predicatesOf delaySlots transferred
+    written landed arrived productsOk dueProduct nearerProducts withOneMore writeOne writeAlu withRegister withPredicate withSpecial predicatesOf delaySlots transferred
     loadedValue extended signExtend readNumber cacheNumber cacheWord partOf
     buffersAfter stored putNumber putCacheNumber putCacheWord putPart stackMoved spilled filled
 tried k code s = tries (within code) k s lent noCounts
@@ -101,11 +110,12 @@ pub begin-shaped : (v : ℕ) (p : Bool) (w : WaitingLoad) → Shaped (begin v p 
 begin-shaped v p w = record { registers = refl; predicates = refl }
 
 pub begin-well : (v : ℕ) (p : Bool) → wellFormed (begin v p load.Nothing) ≡ true
-unfolding wellFormed
+unfolding wellFormed productsOk
 begin-well v p = refl
 
-pub begin-agree : (code : List ℕ) (v₁ v₂ : ℕ) (p₁ p₂ : Bool) → Agree marking (within code) (begin v₁ p₁ load.Nothing) lent (begin v₂ p₂ load.Nothing) lent
-begin-agree code v₁ v₂ p₁ p₂ =
+pub begin-agree : (sl sh : Bool) (code : List ℕ) (v₁ v₂ : ℕ) (p₁ p₂ : Bool)
+    → Agree (markingWith sl sh) (within code) (begin v₁ p₁ load.Nothing) lent (begin v₂ p₂ load.Nothing) lent
+begin-agree sl sh code v₁ v₂ p₁ p₂ =
     record {
       state = with-predicates (with-registers (state-refl (begin v₁ p₁ load.Nothing)) (0 ∷ v₁ ∷ replicate 30 0) (0 ∷ v₂ ∷ replicate 30 0) (record { lengths = refl; places = registers }))
           (true ∷ p₁ ∷ replicate 6 false) (true ∷ p₂ ∷ replicate 6 false) (record { lengths = refl; places = predicates });

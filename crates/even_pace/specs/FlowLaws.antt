@@ -62,6 +62,7 @@ module _ {m : Marking} {s₁ s₂ : State} (a : SameState m s₁ s₂) where
         base = r;
         transfer = refl;
         load = a .load;
+        further = a .further;
       }
 
   transferred-both : (t : Transfer) (following : ℕ) → SameState m (transferred s₁ t following) (transferred s₂ t following)

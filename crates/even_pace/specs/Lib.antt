@@ -5,6 +5,7 @@ pub mod SameLaws
 pub mod StateLaws
 pub mod WriteLaws
 pub mod FlowLaws
+pub mod ProductLaws
 pub mod BufferLaws
 pub mod Alike
 pub mod DoneLaws
@@ -18,4 +19,5 @@ pub mod Pace
 pub mod Theorem
 pub mod Examples
 pub mod Evidence
+pub mod ProductEvidence
 pub mod Frame

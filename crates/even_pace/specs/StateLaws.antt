@@ -8,12 +8,13 @@ use native.Mathlib.Omega.{arith}
 use native.Mathlib.Decide.{ℕ-discrete}
 use Rattle.word.specs.BoolLaws.{or-left, or-right}
 use Rattle.alu_effects.specs.declared.Specials.{Specials}
-use Rattle.core_state.specs.State.{State, state, withRegister, withPredicate, withLoad, withPredicates, withSpecials}
+use Rattle.products.specs.declared.Products.{Products}
+use Rattle.core_state.specs.State.{Further, State, state, withRegister, withPredicate, withLoad, withProducts, withPredicates, withSpecials}
 use Rattle.core_state.specs.declared.WaitingLoad.{WaitingLoad}
 use Rattle.core_state.specs.declared.WaitingLoad.the-variants.{Nothing, Waits}
 use Rattle.marking.specs.declared.Marking.{Marking}
 use Rattle.marking.specs.Marking.{privateRegister, privatePredicate, publicRegister, publicPredicate, some}
-use Rattle.even_pace.specs.Terms.{Same, SameSpecials, SameState}
+use Rattle.even_pace.specs.Terms.{Same, SameSpecials, SameProducts, SameFurther, SameState}
 use Rattle.even_pace.specs.SameLaws.{same-refl, same-sym, same-trans, same-write}
 
 -- It is an equivalence.
@@ -37,6 +38,15 @@ specials-trans a b =
       sxo = a .sxo ∙ b .sxo;
     }
 
+further-refl : {m : Marking} (f : Further) → SameFurther m f f
+further-refl f = record { products = λ p. refl }
+
+further-sym : {m : Marking} {f g : Further} → SameFurther m f g → SameFurther m g f
+further-sym a = record { products = λ p. sym (a .products p) }
+
+further-trans : {m : Marking} {f g h : Further} → SameFurther m f g → SameFurther m g h → SameFurther m f h
+further-trans a b = record { products = λ p. a .products p ∙ b .products p }
+
 pub state-refl : {m : Marking} (s : State) → SameState m s s
 state-refl s =
     record {
@@ -47,6 +57,7 @@ state-refl s =
       base = refl;
       transfer = refl;
       load = λ r v p. (λ e. e, λ e. e);
+      further = further-refl (s .further);
     }
 
 pub state-sym : {m : Marking} {s t : State} → SameState m s t → SameState m t s
@@ -59,6 +70,7 @@ state-sym a =
       base = sym (a .base);
       transfer = sym (a .transfer);
       load = λ r v p. (a .load r v p .1, a .load r v p .0);
+      further = further-sym (a .further);
     }
 
 pub state-trans : {m : Marking} {s t u : State} → SameState m s t → SameState m t u → SameState m s u
@@ -71,6 +83,7 @@ state-trans a b =
       base = a .base ∙ b .base;
       transfer = a .transfer ∙ b .transfer;
       load = λ r v p. (λ e. b .load r v p .0 (a .load r v p .0 e), λ e. a .load r v p .1 (b .load r v p .1 e));
+      further = further-trans (a .further) (b .further);
     }
 
 -- The register of a waiting load.
@@ -89,7 +102,7 @@ some-none f (suc k) e i p = go (ℕ-discrete i k) (some-none f k (or-left (some 
     go (no q) ih = ih (omega (arith, q))
 
 abbrev pub withRegisters : State → List ℕ → State
-withRegisters s l = state l (s .predicates) (s .specials) (s .fetch) (s .base) (s .transfer) (s .load)
+withRegisters s l = state l (s .predicates) (s .specials) (s .fetch) (s .base) (s .transfer) (s .load) (s .further)
 
 -- One part of two states that agree replaced by parts that agree.
 module _ {m : Marking} {s₁ s₂ : State} (a : SameState m s₁ s₂) where
@@ -103,6 +116,7 @@ module _ {m : Marking} {s₁ s₂ : State} (a : SameState m s₁ s₂) where
         base = a .base;
         transfer = a .transfer;
         load = a .load;
+        further = a .further;
       }
 
   pub register-both : (r v₁ v₂ : ℕ) → (publicRegister m r ≡ true → v₁ ≡ v₂) → SameState m (withRegister s₁ r v₁) (withRegister s₂ r v₂)
@@ -119,6 +133,7 @@ module _ {m : Marking} {s₁ s₂ : State} (a : SameState m s₁ s₂) where
         base = a .base;
         transfer = a .transfer;
         load = a .load;
+        further = a .further;
       }
 
   pub predicate-both : (p : ℕ) (v₁ v₂ : Bool) → (publicPredicate m p ≡ true → v₁ ≡ v₂) → SameState m (withPredicate s₁ p v₁) (withPredicate s₂ p v₂)
@@ -135,6 +150,7 @@ module _ {m : Marking} {s₁ s₂ : State} (a : SameState m s₁ s₂) where
         base = a .base;
         transfer = a .transfer;
         load = a .load;
+        further = a .further;
       }
 
   pub with-loads : (l₁ l₂ : WaitingLoad) → ((r v : ℕ) → publicRegister m r ≡ true → (l₁ ≡ Waits r v) ↔ (l₂ ≡ Waits r v))
@@ -148,4 +164,18 @@ module _ {m : Marking} {s₁ s₂ : State} (a : SameState m s₁ s₂) where
         base = a .base;
         transfer = a .transfer;
         load = h;
+        further = a .further;
+      }
+
+  pub with-products : (p₁ p₂ : Products) → SameProducts m p₁ p₂ → SameState m (withProducts s₁ p₁) (withProducts s₂ p₂)
+  with-products p₁ p₂ h =
+      record {
+        registers = a .registers;
+        predicates = a .predicates;
+        specials = a .specials;
+        fetch = a .fetch;
+        base = a .base;
+        transfer = a .transfer;
+        load = a .load;
+        further = record { products = h };
       }

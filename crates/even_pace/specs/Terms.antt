@@ -11,7 +11,11 @@ use Rattle.isa.specs.declared.Bundle.{Bundle}
 use Rattle.isa.specs.declared.Bundle.the-variants.{Undecodable, One, Two, Long}
 use Rattle.answers.specs.Answer.{Returned, refused}
 use Rattle.alu_effects.specs.declared.Specials.{Specials}
-use Rattle.core_state.specs.State.{State}
+use Rattle.products.specs.declared.Product.{Product}
+use Rattle.products.specs.declared.Products.{Products}
+use Rattle.products.specs.declared.Products.the-variants as products
+use Rattle.products.specs.Products.{product}
+use Rattle.core_state.specs.State.{Further, State}
 use Rattle.core_state.specs.declared.WaitingLoad.the-variants.{Waits}
 use Rattle.run_model.specs.Run.{Tried}
 use Rattle.marking.specs.declared.Marking.{Marking}
@@ -44,6 +48,25 @@ pub record SameSpecials (m : Marking) (x₁ x₂ : Specials) : Type 0 where
   pub sxb : x₁ .sxb ≡ x₂ .sxb
   pub sxo : x₁ .sxo ≡ x₂ .sxo
 
+-- Public contents: the products under way. The two words are marked as sl and sh are; a private one is left out by putting 0 in its place.
+-- That a product is there, and its wait, are private if both words are, and only then.
+abbrev pub blank : Bool → ℕ → ℕ
+blank private v = cond private 0 v
+
+abbrev pub shownProduct : Bool → Bool → Product → Product
+shownProduct sl sh p = product (p .wait) (blank sl (p .low)) (blank sh (p .high))
+
+unfoldable pub shown : Bool → Bool → Products → Products
+shown sl sh products.Nothing = products.Nothing
+shown sl sh (products.One p) = products.One (shownProduct sl sh p)
+shown sl sh (products.Two p q) = products.Two (shownProduct sl sh p) (shownProduct sl sh q)
+
+abbrev pub SameProducts : Marking → Products → Products → Type 0
+SameProducts m p₁ p₂ = (m .sl && m .sh) ≡ false → shown (m .sl) (m .sh) p₁ ≡ shown (m .sl) (m .sh) p₂
+
+pub record SameFurther (m : Marking) (f₁ f₂ : Further) : Type 0 where
+  pub products : SameProducts m (f₁ .products) (f₂ .products)
+
 -- Public contents: the state. A waiting load counts if its register is public and not r0: then both runs have it, with one value. All
 -- others are left out of the comparison, also where one run has none.
 pub record SameState (m : Marking) (s₁ s₂ : State) : Type 0 where
@@ -54,6 +77,7 @@ pub record SameState (m : Marking) (s₁ s₂ : State) : Type 0 where
   pub base : s₁ .base ≡ s₂ .base
   pub transfer : s₁ .transfer ≡ s₂ .transfer
   pub load : (r v : ℕ) → publicRegister m r ≡ true → (s₁ .load ≡ Waits r v) ↔ (s₂ .load ≡ Waits r v)
+  pub further : SameFurther m (s₁ .further) (s₂ .further)
 
 -- A byte of main memory is private as the stack is, or as main memory is.
 abbrev pub privateByte : Marking → Setup → ℕ → Bool

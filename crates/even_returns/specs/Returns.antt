@@ -9,6 +9,7 @@ use Rattle.word.specs.Word.{isMultipleOf4}
 use Rattle.answers.specs.Answer.{accepted as accepts, refused}
 use Rattle.settings.specs.Settings.{admits}
 use Rattle.settings.specs.Setup.{Setup, Buffers, lent}
+use Rattle.products.specs.Products.{productsOk}
 use Rattle.core_state.specs.State.{State, Shaped, predicatesOf, wellFormed, fresh}
 use Rattle.bundle_model.specs.Counts.{noCounts}
 use Rattle.bundle_model.specs.Bundle.{Outcome}
@@ -52,7 +53,7 @@ unfolding fresh predicatesOf
 fresh-shaped n hi entry = record { registers = refl; predicates = refl }
 
 pub fresh-well-formed : (n hi entry : ℕ) → wellFormed (fresh n hi entry) ≡ true
-unfolding fresh wellFormed
+unfolding fresh wellFormed productsOk
 fresh-well-formed n hi entry = refl
 
 -- Whatever is handed to the opening, the state that it hands back is so.

@@ -10,7 +10,8 @@ use Rattle.isa.specs.Format.{reading, row}
 use Rattle.decoder.specs.Decode as decoder
 use Rattle.decoder.specs.Decode.{bundleWords, guardOf, slotTwo, decode}
 use Rattle.stack_cache.specs.Stack.{isCacheSize, cacheWord, putCacheWord, partOf, putPart, cacheNumber, putCacheNumber, below, spillWhile, fillWhile, topAfter, spills, fills, spillAfter, badWindow, badAmount, every, movedOutside, spilled, filled}
-use Rattle.core_state.specs.State.{State, startOf, withRegister, withPredicate, predicatesOf, withSpecial, withStack, landed, goingOn, transferred, wellFormed, ended as hasEnded, fresh}
+use Rattle.products.specs.Products.{productsOk, dueProduct, nearerProducts, withOneMore}
+use Rattle.core_state.specs.State.{State, startOf, withRegister, withPredicate, predicatesOf, withSpecial, withStack, landed, arrived, goingOn, transferred, wellFormed, ended as hasEnded, fresh}
 use Rattle.core_state.specs.declared.WaitingTransfer.{WaitingTransfer}
 use Rattle.answers.specs.Answer.{Returned, accepted, done, ended, spent, refused}
 use Rattle.bundle_model.specs.declared.Counts.{Counts}
@@ -72,7 +73,7 @@ unfolding step readiness admits isCacheSize wellFormed hasEnded bundle
     lessSigned lessEqualSigned shiftRightSigned copyBit productSigned predicatesWord special
     loadScale storeScale accessAddress stackEffect amountWords amountAligned transferOf
     verdict touches mainOpen accessOpen badWindow badAmount movedOutside every spills spillWhile below fills fillWhile topAfter spillAfter
-    written landed writeOne writeAlu withRegister withPredicate withSpecial predicatesOf delaySlots transferred
+    written landed arrived productsOk dueProduct nearerProducts withOneMore writeOne writeAlu withRegister withPredicate withSpecial predicatesOf delaySlots transferred
     loadedValue extended signExtend readNumber cacheNumber cacheWord partOf
     buffersAfter stored putNumber putCacheNumber putCacheWord putPart stackMoved spilled filled
 seen code s b =

@@ -175,13 +175,16 @@ fn measure_wanted(asked: &[u8], s: Setting) {
     if wanted(asked, b"memory") {
         measure(b"memory", &workload::MEMORY, s);
     }
+    if wanted(asked, b"products") {
+        measure(b"products", &workload::PRODUCTS, s);
+    }
 }
 
 fn main() {
     if os::arg_count() != 5 {
         io::write_all(
             STDERR_FILENO,
-            b"usage: speed loop|calls|memory|all BUDGET MAINLEN W\n",
+            b"usage: speed loop|calls|memory|products|all BUDGET MAINLEN W\n",
         );
         return;
     }

@@ -128,3 +128,32 @@ pub const MEMORY: [u32; 55] = [
     0x0202118C,
     0x00084001,
 ];
+
+// Multiplies one after the other, some of them guarded, their words read too early and in time, and overwritten.
+pub const PRODUCTS: [u32; 25] = [
+    0x87C20000,
+    0x12345678,
+    0x87C40000,
+    0x9ABCDEF1,
+    0x02001120,
+    0x020020A1,
+    0x820030A0,
+    0x02084080,
+    0x024A0032,
+    0x824C0033,
+    0x02084282,
+    0x02021282,
+    0x02005320,
+    0x02042302,
+    0x020211E6,
+    0x0A001320,
+    0x4A006121,
+    0x024E0032,
+    0x02405023,
+    0x82500033,
+    0x02063380,
+    0x02063402,
+    0x04FFFFEE,
+    0x02003120,
+    0x00129001,
+];

@@ -3,7 +3,8 @@ use Prim.Native.Nat.{ℕ}
 use mathlib.Core.Bool.{Bool}
 use mathlib.Core.List.{List}
 use mathlib.Core.Path.{_≡_, sym, _∙_}
-use Rattle.core_state.specs.State.{State, state}
+use Rattle.products.specs.Words as product
+use Rattle.core_state.specs.State.{State, state, further}
 use Rattle.core_state.specs.declared.Core.{Core}
 use Rattle.core_state.specs.Core.{joined, transferWords, loadWords, Canonical}
 use Rattle.core_state.specs.WordLaws.{transfer-back, load-back, words-fixed, load-fixed, determined}
@@ -12,19 +13,26 @@ use Rattle.state.specs.declared.State as struct
 use Rattle.state.specs.declared.Stepped as struct-step
 
 unfoldable pub stateOf : struct.State → State
-stateOf s = state (s .registers) (s .predicates) (s .specials) (s .fetch) (s .base) (s .transfer) (s .load)
+stateOf s = state (s .registers) (s .predicates) (s .specials) (s .fetch) (s .base) (s .transfer) (s .load) (further (s .products))
 
 -- The core of a struct State, which is canonical and makes its state; and any canonical core that makes this state is the same.
 abbrev pub coreOf : struct.State → Core
 coreOf s =
-    record { specials = s .specials; fetch = s .fetch; base = s .base; transfer = transferWords (s .transfer); load = loadWords (s .load) }
+    record {
+      specials = s .specials;
+      fetch = s .fetch;
+      base = s .base;
+      transfer = transferWords (s .transfer);
+      load = loadWords (s .load);
+      products = product.productWords (s .products);
+    }
 
 pub core-canonical : (s : struct.State) → Canonical (coreOf s)
-core-canonical s = record { transfer = words-fixed (s .transfer); load = load-fixed (s .load) }
+core-canonical s = record { transfer = words-fixed (s .transfer); load = load-fixed (s .load); products = product.words-fixed (s .products) }
 
 pub core-joined : (s : struct.State) → joined (s .registers) (s .predicates) (coreOf s) ≡ stateOf s
 unfolding stateOf
-core-joined s = λ i. state (s .registers) (s .predicates) (s .specials) (s .fetch) (s .base) (transfer-back (s .transfer) i) (load-back (s .load) i)
+core-joined s = λ i. state (s .registers) (s .predicates) (s .specials) (s .fetch) (s .base) (transfer-back (s .transfer) i) (load-back (s .load) i) (further (product.products-back (s .products) i))
 
 pub core-determined : (s : struct.State) (rs : List ℕ) (ps : List Bool) (c : Core) → Canonical c → joined rs ps c ≡ stateOf s → c ≡ coreOf s
 core-determined s rs ps c k e = determined rs (s .registers) ps (s .predicates) c (coreOf s) k (core-canonical s) (e ∙ sym (core-joined s))

@@ -7,6 +7,7 @@ use bundle_model::Answer;
 use bundle_model::Counts;
 use core_state::WaitingLoad;
 use core_state::WaitingTransfer;
+use products::Products;
 
 pub struct State {
     pub registers: [u32; 32],
@@ -16,6 +17,7 @@ pub struct State {
     pub base: u32,
     pub transfer: WaitingTransfer,
     pub load: WaitingLoad,
+    pub products: Products,
 }
 
 // A step's answer, with the state handed back and the counts of that one bundle.

@@ -14,6 +14,7 @@ use crate::State;
 use alu_effects::Specials;
 use core_state::WaitingLoad;
 use core_state::WaitingTransfer;
+use products::Products;
 use settings::Config;
 
 fn initial(code: u32, hi: u32, entry: u32) -> State
@@ -36,6 +37,7 @@ fn initial(code: u32, hi: u32, entry: u32) -> State
         base: entry,
         transfer: WaitingTransfer::Nothing,
         load: WaitingLoad::Nothing,
+        products: Products::Nothing,
     }
 }
 

@@ -12,6 +12,8 @@ use core_state::waiting::load_words;
 use core_state::waiting::transfer_words;
 use core_state::waiting::waiting_load;
 use core_state::waiting::waiting_transfer;
+use products::words::product_words;
+use products::words::products_in;
 use settings::Config;
 
 impl State {
@@ -24,12 +26,15 @@ impl State {
         let transfer = transfer_words(waiting);
         let landing = self.load;
         let load = load_words(landing);
+        let under_way = self.products;
+        let products = product_words(under_way);
         Core {
             specials,
             fetch: self.fetch,
             base: self.base,
             transfer,
             load,
+            products,
         }
     }
 
@@ -42,6 +47,8 @@ impl State {
         let transfer = waiting_transfer(waiting);
         let landing = core.load;
         let load = waiting_load(landing);
+        let under_way = core.products;
+        let products = products_in(under_way);
         State {
             registers,
             predicates,
@@ -50,6 +57,7 @@ impl State {
             base: core.base,
             transfer,
             load,
+            products,
         }
     }
 

@@ -2,6 +2,7 @@
 use Prim.Native.Nat.{ℕ, zero, suc, _-_, _/_}
 use mathlib.Core.Bool.{Bool, true, false, cond}
 use mathlib.Core.List.{List, _∷_}
+use mathlib.Core.Option.{Option, none, some}
 use mathlib.Core.Path.{_≡_, refl, _∙_}
 use native.Mathlib.Omega.{arith}
 use borrow.Author.Tests.{leb-true, leb-false, le-leb}
@@ -11,7 +12,9 @@ use Rattle.isa.specs.declared.Special.{Special}
 use Rattle.isa.specs.declared.Special.the-variants.{S0, Sl, Sh, Ss, St, Srb, Sro, Sxb, Sxo}
 use Rattle.word.specs.BoolLaws.{and-right}
 use Rattle.settings.specs.declared.Settings.{Settings}
-use Rattle.core_state.specs.State.{State, Shaped, state, withRegister, withPredicate, withPredicates, withSpecial, withSpecials, predicatesOf, withFlow, goingOn, landing, landed, transferred, waitOk}
+use Rattle.products.specs.declared.Product.{Product}
+use Rattle.products.specs.Products.{dueProduct, nearerProducts}
+use Rattle.core_state.specs.State.{State, Shaped, state, withRegister, withPredicate, withPredicates, withSpecial, withSpecials, predicatesOf, withFlow, goingOn, landing, landed, withProducts, withLanded, arrived, transferred, waitOk}
 use Rattle.effects.specs.declared.Transfer.{Transfer}
 use Rattle.effects.specs.declared.Transfer.the-variants.{Br, Call, Block}
 use Rattle.core_state.specs.declared.WaitingTransfer.{WaitingTransfer}
@@ -44,12 +47,21 @@ withSpecial-cases P s Sxo v p q = q _
 
 -- An ALU effect changes registers and predicates alone.
 pub writeAlu-cases : (P : State → Type 0) (e : AluEffect) (s : State)
-    → ((rs : List ℕ) (ps : List Bool) → P (state rs ps (s .specials) (s .fetch) (s .base) (s .transfer) (s .load)))
+    → ((rs : List ℕ) (ps : List Bool) → P (state rs ps (s .specials) (s .fetch) (s .base) (s .transfer) (s .load) (s .further)))
     → P (writeAlu e s)
 unfolding writeAlu withRegister withPredicate
 writeAlu-cases P alu.Nothing s h = h _ _
 writeAlu-cases P (alu.Register r v) s h = h _ _
 writeAlu-cases P (alu.Predicate p v) s h = h _ _
+
+-- What arrives changes special registers and the products under way alone.
+pub arrived-cases : (P : State → Type 0) (s : State) → ((x : Specials) → P (withSpecials (withProducts s (nearerProducts (s .further .products))) x)) → P (arrived s)
+unfolding arrived
+arrived-cases P s h = go (dueProduct (s .further .products))
+  where
+    go : (due : Option Product) → P (withLanded due (withProducts s (nearerProducts (s .further .products))))
+    go none = h _
+    go (some p) = h _
 
 -- The end of a bundle changes srb, sro, fetch address, base and the waiting transfer alone, and a transfer that waits then waits
 -- 1 to 3 bundles if the one before did.
@@ -139,7 +151,8 @@ module _ (R : List ℕ → Type 0) (P : List Bool → Type 0) (k : Lasting R P) 
   pub written-lasts : (g : Settings) (b : Buffers) (s : State) (one : Effect) (two : AluEffect) (following : ℕ) → Has R P s → Has R P (written g b s one two following)
   unfolding written
   written-lasts g b s one two following h =
-      let t = writeAlu-lasts two (writeOne g b s one (landed s)) (writeOne-lasts g b s one (landed s) (landed-lasts s h)) in
+      let onto = arrived-cases (Has R P) (landed s) (λ x. landed-lasts s h) in
+      let t = writeAlu-lasts two (writeOne g b s one (arrived (landed s))) (writeOne-lasts g b s one (arrived (landed s)) onto) in
       onward-cases (Has R P) following _ one (s .transfer) (λ srb sro fetch base w q. t)
 
 -- The lengths last.

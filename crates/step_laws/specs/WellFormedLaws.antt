@@ -1,7 +1,7 @@
 -- The parts of a well-formed state, and what a bundle writes onto one.
 use Prim.Native.Nat.{ℕ, suc}
 use mathlib.Core.Bool.{true, false, _&&_}
-use mathlib.Core.Path.{_≡_, refl, ap, _∙_}
+use mathlib.Core.Path.{_≡_, refl, sym, ap, subst, _∙_}
 use native.Mathlib.Omega.{arith}
 use borrow.Author.Tests.{eq-eqb, eqb-true}
 use lib.Dec.{eqb}
@@ -9,7 +9,9 @@ use lib.ListN.{getD}
 use lib.Seq.{getD-set-other}
 use Rattle.word.specs.BoolLaws.{and-left, and-right}
 use Rattle.settings.specs.declared.Settings.{Settings}
-use Rattle.core_state.specs.State.{State, landing, landed, loadOk, waitOk, wellFormed}
+use Rattle.products.specs.Products.{productsOk, nearerProducts}
+use Rattle.products.specs.ProductLaws.{hasRoom, nearer-room, room-ok, more-ok}
+use Rattle.core_state.specs.State.{Further, State, withRegister, landing, landed, arrived, loadOk, waitOk, wellFormed}
 use Rattle.core_state.specs.declared.WaitingLoad.{WaitingLoad}
 use Rattle.core_state.specs.declared.WaitingLoad.the-variants as load
 use Rattle.alu_effects.specs.declared.AluEffect.{AluEffect}
@@ -17,7 +19,7 @@ use Rattle.effects.specs.declared.Effect.{Effect}
 use Rattle.effects.specs.declared.Effect.the-variants as effect
 use Rattle.memory.specs.Access.{loadedValue}
 use Rattle.bundle_model.specs.Bundle.{writeOne, written}
-use Rattle.step_laws.specs.KeptLaws.{withSpecial-cases, writeAlu-cases, onward-cases, Lasting, written-lasts}
+use Rattle.step_laws.specs.KeptLaws.{withSpecial-cases, writeAlu-cases, arrived-cases, onward-cases, Lasting, written-lasts}
 use Rattle.settings.specs.Setup.{Buffers}
 
 -- The parts of a well-formed state.
@@ -26,6 +28,7 @@ pub record WellFormed (s : State) : Type 0 where
   pub true-predicate : getD (s .predicates) 0 false ≡ true
   pub load : loadOk (s .load) ≡ true
   pub transfer : waitOk (s .transfer) ≡ true
+  pub products : productsOk (s .further .products) ≡ true
 
 -- A well-formed state has them.
 pub well-formed-parts : (s : State) → wellFormed s ≡ true → WellFormed s
@@ -35,14 +38,22 @@ well-formed-parts s e =
     let p = getD (s .predicates) 0 false in
     let l = loadOk (s .load) in
     let w = waitOk (s .transfer) in
-    let x = and-left (r && p) (l && w) e in
-    let y = and-right (r && p) (l && w) e in
-    record { zero-register = eqb-true _ _ (and-left r p x); true-predicate = and-right r p x; load = and-left l w y; transfer = and-right l w y }
+    let u = productsOk (s .further .products) in
+    let x = and-left (r && p) ((l && w) && u) e in
+    let y = and-right (r && p) ((l && w) && u) e in
+    let z = and-left (l && w) u y in
+    record {
+      zero-register = eqb-true _ _ (and-left r p x);
+      true-predicate = and-right r p x;
+      load = and-left l w z;
+      transfer = and-right l w z;
+      products = and-right (l && w) u y;
+    }
 
 -- A state that has them is well formed.
 pub well-formed-whole : (s : State) → WellFormed s → wellFormed s ≡ true
 unfolding wellFormed
-well-formed-whole s h = rw (eq-eqb _ _ (h .zero-register), h .true-predicate, h .load, h .transfer)
+well-formed-whole s h = rw (eq-eqb _ _ (h .zero-register), h .true-predicate, h .load, h .transfer, h .products)
 
 -- The load that slot one begins.
 abbrev pub loadBegun : Buffers → Effect → WaitingLoad
@@ -80,8 +91,41 @@ writeOne-load g b from effect.Exception onto h = h
 pub written-load : (g : Settings) (b : Buffers) (s : State) (one : Effect) (two : AluEffect) (following : ℕ) → written g b s one two following .load ≡ loadBegun b one
 unfolding written
 written-load g b s one two following =
-    let t = writeOne-load g b s one (landed s) (landed-load s) in
+    let t = writeOne-load g b s one (arrived (landed s)) (arrived-cases (λ x. x .load ≡ load.Nothing) (landed s) (λ x. landed-load s)) in
     onward-cases (λ x. x .load ≡ loadBegun b one) following _ one (s .transfer) (λ srb sro fetch base w q. writeAlu-cases (λ x. x .load ≡ loadBegun b one) two _ (λ rs ps. t))
+
+-- A load that lands leaves the products under way.
+landed-further : (s : State) → landed s .further ≡ s .further
+unfolding landed withRegister
+landed-further s = go (s .load)
+  where
+    go : (l : WaitingLoad) → landing l s .further ≡ s .further
+    go load.Nothing = refl
+    go (load.Waits r v) = refl
+
+-- Slot one leaves the products such as 11 lets pass, where there is room for the one that it may begin.
+writeOne-products : (g : Settings) (b : Buffers) (from : State) (e : Effect) (onto : State) → hasRoom (onto .further .products) ≡ true
+    → productsOk (writeOne g b from e onto .further .products) ≡ true
+unfolding writeOne
+writeOne-products g b from (effect.Alu a) onto h = writeAlu-cases (λ s. productsOk (s .further .products) ≡ true) a onto (λ rs ps. room-ok _ h)
+writeOne-products g b from (effect.Special d v) onto h = withSpecial-cases (λ s. productsOk (s .further .products) ≡ true) onto d v (room-ok _ h) (λ x. room-ok _ h)
+writeOne-products g b from (effect.Product x y) onto h = more-ok _ x y h
+writeOne-products g b from (effect.Load j w r a) onto h = room-ok _ h
+writeOne-products g b from (effect.Store j w a v) onto h = room-ok _ h
+writeOne-products g b from (effect.Stack c n m) onto h = room-ok _ h
+writeOne-products g b from (effect.Transfer d t) onto h = room-ok _ h
+writeOne-products g b from effect.Exception onto h = room-ok _ h
+
+-- So does a bundle: each product under way came one bundle nearer, which makes room.
+written-products : (g : Settings) (b : Buffers) (s : State) (one : Effect) (two : AluEffect) (following : ℕ) → productsOk (s .further .products) ≡ true
+    → productsOk (written g b s one two following .further .products) ≡ true
+unfolding written
+written-products g b s one two following h =
+    let landing = subst (λ (f : Further). hasRoom (nearerProducts (f .products)) ≡ true) (sym (landed-further s)) (nearer-room (s .further .products) h) in
+    let room = arrived-cases (λ x. hasRoom (x .further .products) ≡ true) (landed s) (λ x. landing) in
+    let t = writeOne-products g b s one (arrived (landed s)) room in
+    onward-cases (λ x. productsOk (x .further .products) ≡ true) following _ one (s .transfer) (λ srb sro fetch base w q.
+    writeAlu-cases (λ x. productsOk (x .further .products) ≡ true) two _ (λ rs ps. t))
 
 -- r0 stays zero and p0 true.
 firsts-last : Lasting (λ l. getD l 0 0 ≡ 0) (λ l. getD l 0 false ≡ true)
@@ -103,4 +147,5 @@ written-well-formed g b s one two following p h =
       true-predicate = t .1;
       load = ap loadOk (written-load g b s one two following) ∙ p;
       transfer = onward-cases (λ x. waitOk (x .transfer) ≡ true) following _ one (s .transfer) (λ srb sro fetch base w q. q (h .transfer));
+      products = written-products g b s one two following (h .products);
     }

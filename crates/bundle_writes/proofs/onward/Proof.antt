@@ -50,7 +50,7 @@ returns : tie.Need-returns
 returns c =
     let w = c .begin .ensures in
     let e = c .before .before .one .given .1 in
-    record { state = λ rs ps. rw e (w .state rs ps); transfer = rw e (w .transfer); load = w .load }
+    record { state = λ rs ps. rw e (w .state rs ps); transfer = rw e (w .transfer); load = w .load; products = w .products }
 
 nearer-requires : tie.Need-nearer-requires
 nearer-requires c κs = tt
@@ -63,6 +63,7 @@ returns-2 c =
       state = λ rs ps. w .state rs ps ∙ goes-on (waitingTransfer (a .waiting)) (a .following) (joined rs ps (a .core)) (a .one) (c .before .match .keys2);
       transfer = w .transfer ∙ words-go-on (a .waiting) (a .one) (c .before .match .keys2);
       load = w .load;
+      products = w .products;
     }
 
 pub onward-spec : {M : Type 1} → statement M

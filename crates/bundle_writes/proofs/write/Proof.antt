@@ -3,7 +3,7 @@ use Prim.Native.Nat.{ℕ}
 use Rattle.alu_effects.specs.declared.AluEffect.{AluEffect}
 use Rattle.effects.specs.declared.Effect.{Effect}
 use Rattle.core_state.specs.declared.WaitingTransfer.{WaitingTransfer}
-use Rattle.core_state.specs.State.{State}
+use Rattle.core_state.specs.State.{State, arrived}
 use Rattle.core_state.specs.Writes.{writeAlu}
 use Rattle.core_state.specs.Core.{waitingTransfer}
 use Rattle.bundle_model.specs.Bundle.{onward}
@@ -14,6 +14,9 @@ use Rattle.bundle_writes.proofs.write.Tie as tie
 
 land-load-requires : tie.Need-land-load-requires
 land-load-requires c κs = tt
+
+arrive-requires : tie.Need-arrive-requires
+arrive-requires c κs = tt
 
 write-one-requires : tie.Need-write-one-requires
 write-one-requires c κs = tt
@@ -33,17 +36,19 @@ in-order one two waiting following loaded st ss s s₁ s₂ s₃ s₄ e f g h =
 
 returns : tie.Need-returns
 returns c =
-    let a = c .before .before .before .before .before .before .before .before .before .before .args in
-    let onto = c .before .before .before .before .before .before .before .land-load .ensures in
+    let a = c .before .before .before .before .before .before .before .before .before .before .before .args in
+    let landing = c .before .before .before .before .before .before .before .before .land-load .ensures in
+    let onto = c .before .before .before .before .before .before .before .arrive .ensures in
     let after = c .before .before .before .before .write-one .ensures in
     let last = c .before .write-alu .ensures in
     record {
-      state = in-order (a .one) (a .two) (waitingTransfer (a .core .transfer)) (a .following) (a .loaded) (a .st) (a .ss) _ _ _ _ _ (onto .state _) (after .state) (last .state) (c .onward .ensures .state _ _);
+      state = in-order (a .one) (a .two) (waitingTransfer (a .core .transfer)) (a .following) (a .loaded) (a .st) (a .ss) _ _ _ _ _ (onto .state _ _ ∙ ap arrived (landing .state _)) (after .state) (last .state) (c .onward .ensures .state _ _);
       transfer = c .onward .ensures .transfer;
-      load = c .onward .ensures .load ∙ last .load ∙ after .load ∙ ap (loadAfter (a .one) (a .loaded)) (onto .load);
+      load = c .onward .ensures .load ∙ last .load ∙ after .load ∙ ap (loadAfter (a .one) (a .loaded)) (onto .load ∙ landing .load);
+      products = λ f. c .onward .ensures .products (last .products (after .products (onto .products (landing .products f))));
     }
 
 pub write-spec : {M : Type 1} → statement M
 write-spec =
     tie.close
-    (tie.spec land-load-requires write-one-requires write-alu-requires onward-requires returns)
+    (tie.spec land-load-requires arrive-requires write-one-requires write-alu-requires onward-requires returns)

@@ -54,8 +54,8 @@ write-special-requires c κs = tt
 enum-known-one-3 : tie.Need-enum-known-one-3
 enum-known-one-3 c = c .match .keys3
 
-write-product-requires : tie.Need-write-product-requires
-write-product-requires c κs = tt
+begin-product-requires : tie.Need-begin-product-requires
+begin-product-requires c κs = tt
 
 enum-known-one-4 : tie.Need-enum-known-one-4
 enum-known-one-4 c = c .match .keys4
@@ -77,21 +77,21 @@ unfolding writeDone
 returns c =
     let w = c .write-alu .ensures in
     let e = c .before .before .before .before .one .given .1 in
-    record { state = rw e (w .state); transfer = w .transfer; load = rw e (w .load) }
+    record { state = rw e (w .state); transfer = w .transfer; load = rw e (w .load); products = w .products }
 
 returns-2 : tie.Need-returns-2
 unfolding writeDone
 returns-2 c =
     let w = c .write-special .ensures in
     let e = c .before .before .before .one2 .given .1 in
-    record { state = rw e (w .state _); transfer = w .transfer; load = rw e (w .load) }
+    record { state = rw e (w .state _); transfer = w .transfer; load = rw e (w .load); products = w .products }
 
 returns-3 : tie.Need-returns-3
 unfolding writeDone
 returns-3 c =
-    let w = c .write-product .ensures in
+    let w = c .begin-product .ensures in
     let e = c .before .before .one3 .given .1 in
-    record { state = rw e (w .state _ _); transfer = w .transfer; load = rw e (w .load) }
+    record { state = rw e (w .state _ _); transfer = w .transfer; load = rw e (w .load); products = w .products }
 
 returns-4 : tie.Need-returns-4
 unfolding writeDone
@@ -99,20 +99,20 @@ returns-4 c =
     let w = c .with-load .ensures in
     let e = c .before .before .before .one4 .given .1 in
     let l = c .before .load-waits .ensures in
-    record { state = rw e (w .state _ _ ∙ rw (l, load-back _)); transfer = w .transfer; load = rw e (w .load ∙ l) }
+    record { state = rw e (w .state _ _ ∙ rw (l, load-back _)); transfer = w .transfer; load = rw e (w .load ∙ l); products = w .products }
 
 returns-5 : tie.Need-returns-5
 unfolding writeDone
 returns-5 c =
     let w = c .write-stack .ensures in
     let e = c .before .enum-told .given .1 in
-    record { state = rw e (w .state _ _); transfer = w .transfer; load = rw e (w .load) }
+    record { state = rw e (w .state _ _); transfer = w .transfer; load = rw e (w .load); products = w .products }
 
 returns-6 : tie.Need-returns-6
 unfolding writeDone
 returns-6 c =
     let a = c .before .args in
-    record { state = nothing-written _ _ _ _ (a .one) (c .match .keys6); transfer = refl; load = load-left _ _ (a .one) (c .match .keys6) }
+    record { state = nothing-written _ _ _ _ (a .one) (c .match .keys6); transfer = refl; load = load-left _ _ (a .one) (c .match .keys6); products = λ f. f }
 
 pub write-one-spec : {M : Type 1} → statement M
 write-one-spec =
@@ -123,7 +123,7 @@ write-one-spec =
     enum-known-one-2
     write-special-requires
     enum-known-one-3
-    write-product-requires
+    begin-product-requires
     enum-known-one-4
     load-waits-requires
     with-load-requires

@@ -60,7 +60,7 @@ returns-2 c =
     let w = c .before .before .write .ensures in
     record {
       given = λ code. executed-done (a .g) (setupOf code (a .g)) (joined (a .registers .now) (a .predicates .now) (a .core)) (a .one) (a .two) (a .following) _ _ _ _ _ _ _ _ _ _ _ (c .before .before .before .before .before .before .value .given .1) (c .before .before .before .before .before .before .before .before .before .before .before .before .before .before .carry-out .ensures code _ _) (w .state) (c .before .cycles .ensures) (c .done .ensures .0 _ _);
-      canonical = λ k. subst Canonical (sym (c .done .ensures .1)) (written-canonical (a .one) _ (a .core) _ (w .transfer) (w .load) k);
+      canonical = λ k. subst Canonical (sym (c .done .ensures .1)) (written-canonical (a .one) _ (a .core) _ (w .transfer) (w .load) (w .products) k);
     }
 
 pub execute-spec : {M : Type 1} → statement M

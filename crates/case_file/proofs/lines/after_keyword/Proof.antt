@@ -84,6 +84,12 @@ whole-requires-3 c κs = tt
 enum-told-12 : tie.Need-enum-told-12
 enum-told-12 c = search needs
 
+product-line-requires : tie.Need-product-line-requires
+product-line-requires c κs = tt
+
+enum-told-13 : tie.Need-enum-told-13
+enum-told-13 c = search needs
+
 returns : tie.Need-returns
 unfolding lineAfter
 returns c = rw (c .before .enum-told .given .1) (c .case-line .ensures)
@@ -138,7 +144,11 @@ returns-13 c = rw (c .before .enum-told11 .given .1) (c .whole3 .ensures)
 
 returns-14 : tie.Need-returns-14
 unfolding lineAfter
-returns-14 c = rw (c .enum-told12 .given .1)
+returns-14 c = rw (c .before .enum-told12 .given .1) (c .product-line .ensures)
+
+returns-15 : tie.Need-returns-15
+unfolding lineAfter
+returns-15 c = rw (c .enum-told13 .given .1)
 
 pub after-keyword-spec : {M : Type 1} → statement M
 after-keyword-spec =
@@ -171,6 +181,8 @@ after-keyword-spec =
     enum-told-11
     whole-requires-3
     enum-told-12
+    product-line-requires
+    enum-told-13
     returns
     returns-2
     returns-3
@@ -184,4 +196,5 @@ after-keyword-spec =
     returns-11
     returns-12
     returns-13
-    returns-14)
+    returns-14
+    returns-15)

@@ -1,3 +1,4 @@
+use Rattle.case_kept.specs.Indices.{CASE-END}
 use Prim.Native.Nat.{ℕ, _-_, _≤_}
 use mathlib.Core.List.{List}
 use native.Mathlib.Nat.{zero-add}
@@ -11,10 +12,10 @@ use Rattle.case_kept.proofs.kept.forget_case.Statement.{statement}
 use Rattle.case_kept.proofs.kept.forget_case.Tie as tie
 
 abbrev Inv-loop : tie.InvT-loop
-Inv-loop kept₀ i₀ kept i = (i ≤ 180) × (kept ≡ putEach 0 i (λ j. 0) kept₀)
+Inv-loop kept₀ i₀ kept i = (i ≤ CASE-END) × (kept ≡ putEach 0 i (λ j. 0) kept₀)
 
 abbrev μ-loop : tie.MeasureT-loop
-μ-loop kept₀ i₀ kept i = 180 - i
+μ-loop kept₀ i₀ kept i = CASE-END - i
 
 loop-holds : tie.Need-loop-holds Inv-loop μ-loop
 loop-holds c = (omega arith, put-none _ _ _)
@@ -41,7 +42,7 @@ element-write-kept-2 c = search needs
 returns : tie.Need-returns Inv-loop μ-loop
 unfolding forgotten
 returns c = let l = c .before .loop in
-    let e : l .i ≡ 180 = omega arith in
+    let e : l .i ≡ CASE-END = omega arith in
     ap (λ (m : List ℕ). set (set m 3 16) 56 1) (rw e at (l .inv .1))
 
 pub forget-case-spec : {M : Type 1} → statement M

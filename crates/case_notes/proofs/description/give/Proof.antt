@@ -42,6 +42,7 @@ other-line Line.Step kept h = refl
 other-line Line.Check kept h = refl
 other-line (Line.Write text) kept h = refl
 other-line Line.Listing kept h = refl
+other-line (Line.Product wait low high) kept h = absurd (miss others 26 tt h)
 
 enum-known-said : tie.Need-enum-known-said
 enum-known-said c = c .match .keys1
@@ -121,6 +122,12 @@ enum-known-said-13 c = c .match .keys13
 give-load-requires : tie.Need-give-load-requires
 give-load-requires c κs = tt
 
+enum-known-said-14 : tie.Need-enum-known-said-14
+enum-known-said-14 c = c .match .keys14
+
+give-product-requires : tie.Need-give-product-requires
+give-product-requires c κs = tt
+
 returns : tie.Need-returns
 unfolding given
 returns c = rw (c .before .before .before .said .given .1) (c .give-length .ensures)
@@ -172,7 +179,11 @@ returns-13 : tie.Need-returns-13
 returns-13 c = rw (c .before .before .before .said13 .given .1) (c .give-load .ensures)
 
 returns-14 : tie.Need-returns-14
-returns-14 c = rw (other-line _ (c .before .args .kept .now) (c .match .keys14))
+unfolding given
+returns-14 c = rw (c .before .before .before .said14 .given .1) (c .give-product .ensures)
+
+returns-15 : tie.Need-returns-15
+returns-15 c = rw (other-line _ (c .before .args .kept .now) (c .match .keys15))
 
 pub give-spec : {M : Type 1} → statement M
 give-spec =
@@ -204,6 +215,8 @@ give-spec =
     give-transfer-requires-3
     enum-known-said-13
     give-load-requires
+    enum-known-said-14
+    give-product-requires
     returns
     returns-2
     returns-3
@@ -217,4 +230,5 @@ give-spec =
     returns-11
     returns-12
     returns-13
-    returns-14)
+    returns-14
+    returns-15)

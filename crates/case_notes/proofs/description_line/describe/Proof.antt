@@ -13,7 +13,7 @@ use Rattle.case_notes.proofs.description_line.describe.Tie as tie
 
 -- The lines that fill no buffer but the kept numbers.
 abbrev others : List ℕ
-others = 0 ∷ 1 ∷ 2 ∷ 5 ∷ 6 ∷ 7 ∷ 8 ∷ 9 ∷ 10 ∷ 11 ∷ 12 ∷ 13 ∷ 14 ∷ 15 ∷ 16 ∷ 17 ∷ 21 ∷ 22 ∷ 23 ∷ 24 ∷ 25 ∷ []
+others = 0 ∷ 1 ∷ 2 ∷ 5 ∷ 6 ∷ 7 ∷ 8 ∷ 9 ∷ 10 ∷ 11 ∷ 12 ∷ 13 ∷ 14 ∷ 15 ∷ 16 ∷ 17 ∷ 21 ∷ 22 ∷ 23 ∷ 24 ∷ 25 ∷ 26 ∷ []
 
 module _ (line code main local cache kept : List ℕ) where
   other-line : (said : Line) → OneOf others (tagOf the-type said) → describedBy line code main local cache kept said ≡ inKept line code main local cache kept (given said kept)
@@ -44,6 +44,7 @@ module _ (line code main local cache kept : List ℕ) where
   other-line Line.Check h = refl
   other-line (Line.Write text) h = refl
   other-line Line.Listing h = refl
+  other-line (Line.Product wait low high) h = refl
 
 enum-known-said : tie.Need-enum-known-said
 enum-known-said c = c .match .keys1

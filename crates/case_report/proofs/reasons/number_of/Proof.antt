@@ -77,6 +77,9 @@ enum-told-24 c = search needs
 enum-told-25 : tie.Need-enum-told-25
 enum-told-25 c = search needs
 
+enum-told-26 : tie.Need-enum-told-26
+enum-told-26 c = search needs
+
 returns : tie.Need-returns
 returns c = rw (c .enum-told .given .1)
 
@@ -152,6 +155,9 @@ returns-24 c = rw (c .enum-told24 .given .1)
 returns-25 : tie.Need-returns-25
 returns-25 c = rw (c .enum-told25 .given .1)
 
+returns-26 : tie.Need-returns-26
+returns-26 c = rw (c .enum-told26 .given .1)
+
 pub number-of-spec : {M : Type 1} → statement M
 number-of-spec =
     tie.close
@@ -181,6 +187,7 @@ number-of-spec =
     enum-told-23
     enum-told-24
     enum-told-25
+    enum-told-26
     returns
     returns-2
     returns-3
@@ -205,4 +212,5 @@ number-of-spec =
     returns-22
     returns-23
     returns-24
-    returns-25)
+    returns-25
+    returns-26)

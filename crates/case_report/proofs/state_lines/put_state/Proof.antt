@@ -34,16 +34,20 @@ put-transfer-requires c κs = search needs
 put-load-requires : tie.Need-put-load-requires
 put-load-requires c κs = search needs
 
+put-products-requires : tie.Need-put-products-requires
+put-products-requires c κs = search needs
+
 same-length : tie.Need-same-length
 same-length c = search needs
 
 returns : tie.Need-returns
 unfolding stateText
-returns c = text-then _ _ _ _ _ (c .before .before .before .before .before .before .before .before .before .before .before .before .before .before .before .before .before .before .before .before .before .before .before .before .before .say-kept .ensures)
-    (text-then _ _ _ _ _ (c .before .before .before .before .before .before .before .before .before .before .before .before .before .before .before .before .before .before .before .before .say-kept2 .ensures)
-    (text-then _ _ _ _ _ (c .before .before .before .before .before .before .before .before .before .before .before .before .before .before .before .say-kept3 .ensures)
-    (text-then _ _ _ _ _ (c .before .before .before .before .before .before .before .before .before .before .say-kept4 .ensures)
-    (text-then _ _ _ _ _ (c .before .before .before .before .before .before .put-transfer .ensures) (c .before .before .put-load .ensures)))))
+returns c = text-then _ _ _ _ _ (c .before .before .before .before .before .before .before .before .before .before .before .before .before .before .before .before .before .before .before .before .before .before .before .before .before .before .before .before .before .say-kept .ensures)
+    (text-then _ _ _ _ _ (c .before .before .before .before .before .before .before .before .before .before .before .before .before .before .before .before .before .before .before .before .before .before .before .before .say-kept2 .ensures)
+    (text-then _ _ _ _ _ (c .before .before .before .before .before .before .before .before .before .before .before .before .before .before .before .before .before .before .before .say-kept3 .ensures)
+    (text-then _ _ _ _ _ (c .before .before .before .before .before .before .before .before .before .before .before .before .before .before .say-kept4 .ensures)
+    (text-then _ _ _ _ _ (c .before .before .before .before .before .before .before .before .before .before .put-transfer .ensures)
+    (text-then _ _ _ _ _ (c .before .before .before .before .before .before .put-load .ensures) (c .before .before .put-products .ensures))))))
 
 pub put-state-spec : {M : Type 1} → statement M
 put-state-spec =
@@ -59,5 +63,6 @@ put-state-spec =
     say-kept-requires-4
     put-transfer-requires
     put-load-requires
+    put-products-requires
     same-length
     returns)

@@ -22,6 +22,7 @@ returns c =
       state = λ rs ps. w .state rs ps ∙ rw (c .before .before .before .if1 .taken, t, transfer-back _, c .before .before .delay-slots .ensures);
       transfer = w .transfer ∙ t ∙ rw (c .before .before .before .if1 .taken, c .before .before .delay-slots .ensures);
       load = w .load;
+      products = w .products;
     }
 
 transfer-requires : tie.Need-transfer-requires
@@ -29,7 +30,7 @@ transfer-requires c κs = tt
 
 returns-2 : tie.Need-returns-2
 unfolding begunWords
-returns-2 c = let w = c .transfer .ensures in record { state = λ rs ps. rw (c .before .if1 .left, ← w .state rs ps); transfer = w .transfer ∙ rw (c .before .if1 .left); load = w .load }
+returns-2 c = let w = c .transfer .ensures in record { state = λ rs ps. rw (c .before .if1 .left, ← w .state rs ps); transfer = w .transfer ∙ rw (c .before .if1 .left); load = w .load; products = w .products }
 
 pub begin-spec : {M : Type 1} → statement M
 begin-spec =

@@ -12,7 +12,7 @@ go-on-requires c κs = tt
 
 returns : tie.Need-returns
 unfolding nearerWords
-returns c = let w = c .go-on .ensures in record { state = λ rs ps. w .state rs ps ∙ rw (no-transfer (c .before .before .before .args .waiting) (c .before .if1 .taken)); transfer = w .transfer ∙ rw (eq-eqb _ _ (c .before .if1 .taken)); load = w .load }
+returns c = let w = c .go-on .ensures in record { state = λ rs ps. w .state rs ps ∙ rw (no-transfer (c .before .before .before .args .waiting) (c .before .if1 .taken)); transfer = w .transfer ∙ rw (eq-eqb _ _ (c .before .if1 .taken)); load = w .load; products = w .products }
 
 transfer-in-requires : tie.Need-transfer-in-requires
 transfer-in-requires c κs = tt
@@ -22,7 +22,7 @@ transfer-requires c κs = tt
 
 returns-2 : tie.Need-returns-2
 unfolding nearerWords
-returns-2 c = let w = c .transfer .ensures in record { state = λ rs ps. w .state rs ps ∙ rw (some-transfer (c .before .before .before .before .before .before .args .waiting) (c .before .before .before .before .if1 .left), le-leb _ _ (c .before .before .if2 .taken), c .before .transfer-in .ensures); transfer = w .transfer ∙ rw (ne-eqb _ _ (c .before .before .before .before .if1 .left), le-leb _ _ (c .before .before .if2 .taken)); load = w .load }
+returns-2 c = let w = c .transfer .ensures in record { state = λ rs ps. w .state rs ps ∙ rw (some-transfer (c .before .before .before .before .before .before .args .waiting) (c .before .before .before .before .if1 .left), le-leb _ _ (c .before .before .if2 .taken), c .before .transfer-in .ensures); transfer = w .transfer ∙ rw (ne-eqb _ _ (c .before .before .before .before .if1 .left), le-leb _ _ (c .before .before .if2 .taken)); load = w .load; products = w .products }
 
 one-less-requires : tie.Need-one-less-requires
 one-less-requires c κs = search needs
@@ -32,7 +32,7 @@ go-on-requires-2 c κs = tt
 
 returns-3 : tie.Need-returns-3
 unfolding nearerWords
-returns-3 c = let w = c .go-on2 .ensures in record { state = λ rs ps. w .state rs ps ∙ rw (some-transfer (c .before .before .before .before .before .before .args .waiting) (c .before .before .before .before .if1 .left), lt-leb _ _ (c .before .before .if2 .left), c .before .one-less .ensures, one-nearer (c .before .before .before .before .before .before .args .waiting) (c .before .before .before .before .if1 .left)); transfer = w .transfer ∙ rw (c .before .one-less .ensures, ne-eqb _ _ (c .before .before .before .before .if1 .left), lt-leb _ _ (c .before .before .if2 .left)); load = w .load }
+returns-3 c = let w = c .go-on2 .ensures in record { state = λ rs ps. w .state rs ps ∙ rw (some-transfer (c .before .before .before .before .before .before .args .waiting) (c .before .before .before .before .if1 .left), lt-leb _ _ (c .before .before .if2 .left), c .before .one-less .ensures, one-nearer (c .before .before .before .before .before .before .args .waiting) (c .before .before .before .before .if1 .left)); transfer = w .transfer ∙ rw (c .before .one-less .ensures, ne-eqb _ _ (c .before .before .before .before .if1 .left), lt-leb _ _ (c .before .before .if2 .left)); load = w .load; products = w .products }
 
 pub nearer-spec : {M : Type 1} → statement M
 nearer-spec =

@@ -37,15 +37,15 @@ go-on-requires-3 c κs = tt
 
 returns : tie.Need-returns
 unfolding transferred
-returns c = let w = c .go-on .ensures in record { state = λ rs ps. rw (c .before .before .before .transfer .given .1) (w .state rs ps ∙ rw (c .before .no-transfer .ensures, transfer-back transfer.Nothing)); transfer = w .transfer ∙ c .before .no-transfer .ensures; load = w .load }
+returns c = let w = c .go-on .ensures in record { state = λ rs ps. rw (c .before .before .before .transfer .given .1) (w .state rs ps ∙ rw (c .before .no-transfer .ensures, transfer-back transfer.Nothing)); transfer = w .transfer ∙ c .before .no-transfer .ensures; load = w .load; products = w .products }
 
 returns-2 : tie.Need-returns-2
 unfolding transferred
-returns-2 c = let w = c .go-on2 .ensures in record { state = λ rs ps. rw (c .before .before .before .before .before .before .transfer2 .given .1) (w .state rs ps ∙ rw (c .before .before .before .before .sub .ensures, c .before .no-transfer2 .ensures, transfer-back transfer.Nothing)); transfer = w .transfer ∙ c .before .no-transfer2 .ensures; load = w .load }
+returns-2 c = let w = c .go-on2 .ensures in record { state = λ rs ps. rw (c .before .before .before .before .before .before .transfer2 .given .1) (w .state rs ps ∙ rw (c .before .before .before .before .sub .ensures, c .before .no-transfer2 .ensures, transfer-back transfer.Nothing)); transfer = w .transfer ∙ c .before .no-transfer2 .ensures; load = w .load; products = w .products }
 
 returns-3 : tie.Need-returns-3
 unfolding transferred
-returns-3 c = let w = c .go-on3 .ensures in record { state = λ rs ps. rw (c .before .before .before .transfer3 .given .1) (w .state rs ps ∙ rw (c .before .no-transfer3 .ensures, transfer-back transfer.Nothing)); transfer = w .transfer ∙ c .before .no-transfer3 .ensures; load = w .load }
+returns-3 c = let w = c .go-on3 .ensures in record { state = λ rs ps. rw (c .before .before .before .transfer3 .given .1) (w .state rs ps ∙ rw (c .before .no-transfer3 .ensures, transfer-back transfer.Nothing)); transfer = w .transfer ∙ c .before .no-transfer3 .ensures; load = w .load; products = w .products }
 
 pub transfer-spec : {M : Type 1} → statement M
 transfer-spec =

@@ -21,15 +21,15 @@ write-predicate-requires c κs = search needs
 
 returns : tie.Need-returns
 unfolding writeAlu
-returns c = record { state = rw (c .enum-told .given .1); transfer = refl; load = refl }
+returns c = record { state = rw (c .enum-told .given .1); transfer = refl; load = refl; products = λ f. f }
 
 returns-2 : tie.Need-returns-2
 unfolding writeAlu
-returns-2 c = let w = c .write-register .ensures in record { state = rw (c .before .before .before .e .given .1) (w .state _); transfer = w .transfer; load = w .load }
+returns-2 c = let w = c .write-register .ensures in record { state = rw (c .before .before .before .e .given .1) (w .state _); transfer = w .transfer; load = w .load; products = w .products }
 
 returns-3 : tie.Need-returns-3
 unfolding writeAlu
-returns-3 c = let w = c .write-predicate .ensures in record { state = rw (c .before .before .before .e2 .given .1) (w .state _); transfer = w .transfer; load = w .load }
+returns-3 c = let w = c .write-predicate .ensures in record { state = rw (c .before .before .before .e2 .given .1) (w .state _); transfer = w .transfer; load = w .load; products = w .products }
 
 pub write-alu-spec : {M : Type 1} → statement M
 write-alu-spec =

@@ -15,9 +15,12 @@ load-ok-requires c κs = tt
 wait-ok-requires : tie.Need-wait-ok-requires
 wait-ok-requires c κs = tt
 
+products-ok-requires : tie.Need-products-ok-requires
+products-ok-requires c κs = tt
+
 returns : tie.Need-returns
 unfolding wellFormed
-returns c = rw (← c .before .load-ok .ensures, ← c .wait-ok .ensures)
+returns c = rw (← c .before .before .load-ok .ensures, ← c .before .wait-ok .ensures, ← c .products-ok .ensures)
 
 pub is-well-formed-spec : {M : Type 1} → statement M
 is-well-formed-spec =
@@ -27,4 +30,5 @@ is-well-formed-spec =
     element-copy-out-result-2
     load-ok-requires
     wait-ok-requires
+    products-ok-requires
     returns)

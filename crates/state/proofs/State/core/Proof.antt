@@ -7,8 +7,11 @@ transfer-words-requires c κs = tt
 load-words-requires : tie.Need-load-words-requires
 load-words-requires c κs = tt
 
+product-words-requires : tie.Need-product-words-requires
+product-words-requires c κs = tt
+
 returns : tie.Need-returns
-returns c = rw (c .before .transfer-words .ensures, c .load-words .ensures)
+returns c = rw (c .before .before .transfer-words .ensures, c .before .load-words .ensures, c .product-words .ensures)
 
 pub core-spec : {M : Type 1} → statement M
-core-spec = tie.close (tie.spec transfer-words-requires load-words-requires returns)
+core-spec = tie.close (tie.spec transfer-words-requires load-words-requires product-words-requires returns)

@@ -8,9 +8,12 @@ waiting-transfer-requires c κs = tt
 waiting-load-requires : tie.Need-waiting-load-requires
 waiting-load-requires c κs = tt
 
+products-in-requires : tie.Need-products-in-requires
+products-in-requires c κs = tt
+
 returns : tie.Need-returns
 unfolding stateOf
-returns c = rw (c .before .before .waiting-transfer .ensures, c .waiting-load .ensures)
+returns c = rw (c .before .before .before .before .waiting-transfer .ensures, c .before .before .waiting-load .ensures, c .products-in .ensures)
 
 pub join-spec : {M : Type 1} → statement M
-join-spec = tie.close (tie.spec waiting-transfer-requires waiting-load-requires returns)
+join-spec = tie.close (tie.spec waiting-transfer-requires waiting-load-requires products-in-requires returns)
