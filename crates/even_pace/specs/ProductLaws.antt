@@ -4,13 +4,14 @@ use mathlib.Core.Bool.{Bool, true, false, false≢true, cond, _&&_}
 use mathlib.Core.Option.{Option, none, some}
 use mathlib.Core.Path.{_≡_, refl, sym, ap, _∙_}
 use lib.Dec.{leb}
+use Rattle.word.specs.BoolLaws.{and-left, and-right}
 use Rattle.products.specs.declared.Product.{Product}
 use Rattle.products.specs.declared.Products.{Products}
 use Rattle.products.specs.declared.Products.the-variants as products
 use Rattle.products.specs.Products.{productDelay, product, sooner, dueProduct, nearerProducts, withOneMore}
 use Rattle.core_state.specs.State.{State, withProducts, withLanded, arrived, withBegun}
 use Rattle.marking.specs.declared.Marking.{Marking}
-use Rattle.even_pace.specs.Terms.{blank, shownProduct, shown, SameProducts, SameState}
+use Rattle.even_pace.specs.Terms.{privateProducts, blank, shownProduct, shown, SameProducts, SameState}
 use Rattle.even_pace.specs.StateLaws.{state-refl, state-sym, state-trans, with-products}
 use Rattle.even_pace.specs.WriteLaws.{product-both, product-quiet}
 
@@ -65,16 +66,11 @@ module _ (sl sh : Bool) where
   more-shown (products.Two p q) low high = refl
 
 -- Where both words are private nothing is asked of the products.
-both-private : (m : Marking) (p q : Products) → (m .sl && m .sh) ≡ true → SameProducts m p q
+both-private : (m : Marking) (p q : Products) → privateProducts m ≡ true → SameProducts m p q
 both-private m p q e f = absurd (false≢true (sym f ∙ e))
 
-and-both : (a b : Bool) → (a && b) ≡ true → (a ≡ true) × (b ≡ true)
-and-both true true e = (refl, refl)
-and-both true false e = absurd (false≢true e)
-and-both false b e = absurd (false≢true e)
-
 -- One run alone: what arrives does not show.
-arrived-quiet : {m : Marking} (s : State) → (m .sl && m .sh) ≡ true → SameState m (arrived s) s
+arrived-quiet : {m : Marking} (s : State) → privateProducts m ≡ true → SameState m (arrived s) s
 unfolding arrived
 arrived-quiet {m} s e = go (dueProduct (s .further .products))
   where
@@ -83,7 +79,7 @@ arrived-quiet {m} s e = go (dueProduct (s .further .products))
 
     go : (due : Option Product) → SameState m (withLanded due (withProducts s (nearerProducts (s .further .products)))) s
     go none = nearer
-    go (some p) = let k = and-both (m .sl) (m .sh) e in state-trans (product-quiet (withProducts s (nearerProducts (s .further .products))) (p .low) (p .high) (k .0) (k .1)) nearer
+    go (some p) = state-trans (product-quiet _ (p .low) (p .high) (and-left (m .sl) (m .sh) e) (and-right (m .sl) (m .sh) e)) nearer
 
 module _ {m : Marking} {s₁ s₂ : State} (a : SameState m s₁ s₂) where
   -- The same falls due in both, with words that are equal where they are public.
@@ -104,13 +100,13 @@ module _ {m : Marking} {s₁ s₂ : State} (a : SameState m s₁ s₂) where
 -- What arrives in both runs.
 pub arrived-both : {m : Marking} {s₁ s₂ : State} → SameState m s₁ s₂ → SameState m (arrived s₁) (arrived s₂)
 unfolding arrived
-arrived-both {m} {s₁} {s₂} a = go (m .sl && m .sh) refl
+arrived-both {m} {s₁} {s₂} a = go (privateProducts m) refl
   where
-    due : (m .sl && m .sh) ≡ false → shownDue (m .sl) (m .sh) (dueProduct (s₁ .further .products)) ≡ shownDue (m .sl) (m .sh) (dueProduct (s₂ .further .products))
+    due : privateProducts m ≡ false → shownDue (m .sl) (m .sh) (dueProduct (s₁ .further .products)) ≡ shownDue (m .sl) (m .sh) (dueProduct (s₂ .further .products))
     due k =
         sym (due-shown (m .sl) (m .sh) (s₁ .further .products)) ∙ ap dueProduct (a .further .products k) ∙ due-shown (m .sl) (m .sh) (s₂ .further .products)
 
-    go : (t : Bool) → (m .sl && m .sh) ≡ t → SameState m (arrived s₁) (arrived s₂)
+    go : (t : Bool) → privateProducts m ≡ t → SameState m (arrived s₁) (arrived s₂)
     go true e = state-trans (arrived-quiet s₁ e) (state-trans a (state-sym (arrived-quiet s₂ e)))
     go false e = landed-product-both (with-products a _ _ (nearer-products a)) _ _ (due e)
 

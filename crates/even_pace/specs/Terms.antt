@@ -48,8 +48,11 @@ pub record SameSpecials (m : Marking) (x₁ x₂ : Specials) : Type 0 where
   pub sxb : x₁ .sxb ≡ x₂ .sxb
   pub sxo : x₁ .sxo ≡ x₂ .sxo
 
--- Public contents: the products under way. The two words are marked as sl and sh are; a private one is left out by putting 0 in its place.
--- That a product is there, and its wait, are private if both words are, and only then.
+-- Public contents: the products under way. That a product is there, and its wait, are private exactly if both of its words are. The words
+-- are marked as sl and sh are; of products that are public a private word is left out, by putting 0 in its place.
+abbrev pub privateProducts : Marking → Bool
+privateProducts m = m .sl && m .sh
+
 abbrev pub blank : Bool → ℕ → ℕ
 blank private v = cond private 0 v
 
@@ -62,7 +65,7 @@ shown sl sh (products.One p) = products.One (shownProduct sl sh p)
 shown sl sh (products.Two p q) = products.Two (shownProduct sl sh p) (shownProduct sl sh q)
 
 abbrev pub SameProducts : Marking → Products → Products → Type 0
-SameProducts m p₁ p₂ = (m .sl && m .sh) ≡ false → shown (m .sl) (m .sh) p₁ ≡ shown (m .sl) (m .sh) p₂
+SameProducts m p₁ p₂ = privateProducts m ≡ false → shown (m .sl) (m .sh) p₁ ≡ shown (m .sl) (m .sh) p₂
 
 pub record SameFurther (m : Marking) (f₁ f₂ : Further) : Type 0 where
   pub products : SameProducts m (f₁ .products) (f₂ .products)

@@ -4,4 +4,5 @@ pub mod Words
 pub mod Handbook
 pub mod Run
 pub mod Machine
+pub mod Late
 pub mod Cases
