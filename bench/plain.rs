@@ -495,7 +495,7 @@ impl Machine {
         }
     }
 
-    /// Slot one: decodes, judges, reads, lands the waiting load, writes.  A delayed
+    /// Slot one: decodes, judges, reads, lands the waiting load and a product that is due, writes.  A delayed
     /// transfer is left waiting; one without delay is handed back.
     #[inline]
     fn first(&mut self, w: u32) -> Result<Option<Waiting>, u32> {

@@ -1,10 +1,12 @@
 -- The words of what waits after a bundle, and that they are those of what waits in it.
 use Prim.Native.Nat.{ℕ}
-use mathlib.Core.Path.{_≡_}
+use mathlib.Core.Path.{_≡_, sym, subst}
 use Rattle.effects.specs.declared.Effect.{Effect}
 use Rattle.effects.specs.declared.Effect.the-variants as effect
 use Rattle.effects.specs.Effect.{onEffect}
-use Rattle.products.specs.Words.{Fixed as FixedProducts}
+use Rattle.products.specs.declared.ProductWords.{ProductWords}
+use Rattle.products.specs.Products.{withOneMore}
+use Rattle.products.specs.Words.{productsIn, nearerProductWords, moreProductWords, FixedProducts, words-fixed as product-words-fixed, nearer-fixed as nearer-products-fixed}
 use Rattle.core_state.specs.declared.TransferWords.{TransferWords}
 use Rattle.core_state.specs.declared.LoadWords.{LoadWords}
 use Rattle.core_state.specs.declared.WaitingLoad.the-variants as load
@@ -27,6 +29,17 @@ loadAfter (effect.Stack c n m) v l = l
 loadAfter (effect.Transfer d t) v l = l
 loadAfter effect.Exception v l = l
 
+-- A product of slot one is under way; any other effect leaves what is.
+abbrev pub productsAfter : Effect → ProductWords → ProductWords
+productsAfter (effect.Alu a) p = p
+productsAfter (effect.Special d w) p = p
+productsAfter (effect.Product l h) p = moreProductWords p l h
+productsAfter (effect.Load k b r a) p = p
+productsAfter (effect.Store k b a w) p = p
+productsAfter (effect.Stack c n m) p = p
+productsAfter (effect.Transfer d t) p = p
+productsAfter effect.Exception p = p
+
 onward-fixed : (e : Effect) (w : TransferWords) → Fixed w → Fixed (onwardWords e w)
 onward-fixed (effect.Alu a) w f = nearer-fixed w f
 onward-fixed (effect.Special d v) w f = nearer-fixed w f
@@ -47,9 +60,20 @@ after-fixed (effect.Stack c n m) v = load-fixed load.Nothing
 after-fixed (effect.Transfer d t) v = load-fixed load.Nothing
 after-fixed effect.Exception v = load-fixed load.Nothing
 
+products-fixed : (e : Effect) (p : ProductWords) → FixedProducts p → FixedProducts (productsAfter e p)
+products-fixed (effect.Alu a) p f = f
+products-fixed (effect.Special d w) p f = f
+products-fixed (effect.Product l h) p f = product-words-fixed (withOneMore (productsIn p) l h)
+products-fixed (effect.Load k b r a) p f = f
+products-fixed (effect.Store k b a w) p f = f
+products-fixed (effect.Stack c n m) p f = f
+products-fixed (effect.Transfer d t) p f = f
+products-fixed effect.Exception p f = f
+
 -- A bundle keeps a core canonical.
 pub written-canonical : (e : Effect) (v : ℕ) (c r : Core) → r .transfer ≡ onwardWords e (c .transfer)
     → r .load ≡ loadAfter e v (loadWords load.Nothing)
-    → (FixedProducts (c .products) → FixedProducts (r .products)) → Canonical c → Canonical r
+    → r .products ≡ productsAfter e (nearerProductWords (c .products)) → Canonical c → Canonical r
 written-canonical e v c r t l p k =
-    canonical-with r (onwardWords e (c .transfer)) (loadAfter e v (loadWords load.Nothing)) t l (onward-fixed e (c .transfer) (k .transfer)) (after-fixed e v) (p (k .products))
+    canonical-with r (onwardWords e (c .transfer)) (loadAfter e v (loadWords load.Nothing)) t l (onward-fixed e (c .transfer) (k .transfer)) (after-fixed e v)
+    (subst FixedProducts (sym p) (products-fixed e (nearerProductWords (c .products)) (nearer-products-fixed (c .products) (k .products))))

@@ -4,12 +4,13 @@ ghost use mathlib.Core.Path.{_≡_};
 ghost use mathlib.Core.Bool.{Bool, cond};
 ghost use mathlib.Core.List.{List};
 ghost use Prim.Native.Nat.{ℕ};
+ghost use Rattle.products.specs.Words.{nearerProductWords};
 ghost use Rattle.core_state.specs.State.{landed, arrived};
 ghost use Rattle.core_state.specs.Writes.{writeAlu};
 ghost use Rattle.core_state.specs.Core.{joined, waitingTransfer, foundState, leftState, loadWords, Written};
 ghost use Rattle.bundle_model.specs.Bundle.{onward, cyclesOf, undelayedCycles};
 ghost use Rattle.bundle_model.specs.Execute.{writeDone};
-ghost use Rattle.bundle_writes.specs.Words.{onwardWords, loadAfter};
+ghost use Rattle.bundle_writes.specs.Words.{onwardWords, loadAfter, productsAfter};
 use alu_effects::AluEffect;
 use core_state::Core;
 use core_state::TransferWords;
@@ -30,7 +31,7 @@ fn write_one(
     st: u32,
     ss: u32,
 ) -> Core
-    ensures { λ r. ⌜ Written (leftState registers predicates r ≡ writeDone one loaded st ss (foundState registers predicates core)) r (core .transfer) (loadAfter one loaded (core .load)) (core .products) ⌝ }
+    ensures { λ r. ⌜ Written (leftState registers predicates r ≡ writeDone one loaded st ss (foundState registers predicates core)) r (core .transfer) (loadAfter one loaded (core .load)) (productsAfter one (core .products)) ⌝ }
 {
     match one {
         Effect::Alu(a) => core.write_alu(&mut *registers, &mut *predicates, a),
@@ -73,7 +74,7 @@ pub fn write(
     st: u32,
     ss: u32,
 ) -> Core
-    ensures { λ r. ⌜ Written (leftState registers predicates r ≡ onward one (waitingTransfer (core .transfer)) following (writeAlu two (writeDone one loaded st ss (arrived (landed (foundState registers predicates core)))))) r (onwardWords one (core .transfer)) (loadAfter one loaded (loadWords WaitingLoad.Nothing)) (core .products) ⌝ }
+    ensures { λ r. ⌜ Written (leftState registers predicates r ≡ onward one (waitingTransfer (core .transfer)) following (writeAlu two (writeDone one loaded st ss (arrived (landed (foundState registers predicates core)))))) r (onwardWords one (core .transfer)) (loadAfter one loaded (loadWords WaitingLoad.Nothing)) (productsAfter one (nearerProductWords (core .products))) ⌝ }
 {
     let waiting = core.transfer;
     let onto = core.land_load(&mut *registers).arrive();

@@ -95,19 +95,19 @@ PRIVATE-LOCAL = 171
 abbrev pub PRIVATE-STACK : ℕ
 PRIVATE-STACK = 172
 
--- How far the places of each store reach, how many are noted, the number of the line, the phase, and the notes.
-abbrev pub REACH : ℕ
-REACH = 176
-
-abbrev pub NOTED : ℕ
-NOTED = 179
-
 -- The products under way: how many, and from PRODUCT on three numbers of each, by rising wait.
 abbrev pub PRODUCTS : ℕ
 PRODUCTS = 180
 
 abbrev pub PRODUCT : ℕ
 PRODUCT = 181
+
+-- How far the places of each store reach, how many are noted, the number of the line, the phase, and the notes.
+abbrev pub REACH : ℕ
+REACH = 176
+
+abbrev pub NOTED : ℕ
+NOTED = 179
 
 abbrev pub LINE : ℕ
 LINE = 190

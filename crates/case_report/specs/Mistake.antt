@@ -35,7 +35,7 @@ inWords Reason.NotARegister = "a register is expected, as r3"
 inWords Reason.NotAPredicate = "a predicate is expected, as p3, or !p3 where its negation may stand"
 inWords Reason.NotASpecial = "a special register is expected: s0, sl, sh, ss, st, srb, sro, sxb or sxo"
 inWords Reason.NotAnOffset = "a decimal number from -2147483648 to 2147483647 is expected"
-inWords Reason.TooManyProducts = "at most two products are under way"
+inWords Reason.TooManyProducts = "a case has at most two product lines"
 
 unfoldable pub reasonText : Reason → List ℕ
 reasonText r = bytes (inWords r)

@@ -71,7 +71,7 @@ a register is expected, as r3\n\
 a predicate is expected, as p3, or !p3 where its negation may stand\n\
 a special register is expected: s0, sl, sh, ss, st, srb, sro, sxb or sxo\n\
 a decimal number from -2147483648 to 2147483647 is expected\n\
-at most two products are under way\n",
+a case has at most two product lines\n",
         number_of(r),
     )
 }

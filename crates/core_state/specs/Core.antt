@@ -9,7 +9,7 @@ use lib.Dec.{eqb, leb}
 use Rattle.effects.specs.declared.Transfer.{Transfer}
 use Rattle.effects.specs.declared.Transfer.the-variants.{Br, Call, Block}
 use Rattle.products.specs.declared.ProductWords.{ProductWords}
-use Rattle.products.specs.Words.{productsIn, Fixed}
+use Rattle.products.specs.Words.{productsIn, FixedProducts}
 use Rattle.core_state.specs.declared.TransferWords.{TransferWords}
 use Rattle.core_state.specs.declared.LoadWords.{LoadWords}
 use Rattle.core_state.specs.declared.WaitingTransfer.{WaitingTransfer}
@@ -55,19 +55,18 @@ nearerWords w = cond (eqb (w .kind) 0) w (cond (leb (w .wait) 1) (transferWords 
 unfoldable pub begunWords : Bool → Transfer → TransferWords
 begunWords delayed t = cond delayed (transferWords (transfer.Waits t (delaySlots t))) (transferWords transfer.Nothing)
 
--- In contracts, what a function says of the core that it gives: the state that it makes, the words of what waits in it, and that the words
--- of the products are those of what is under way if they were so in p, which it was given.
+-- In contracts, what a function says of the core that it gives: the state that it makes, and the words of what waits and is under way in it.
 pub record Written (Makes : Type 0) (c : Core) (w : TransferWords) (l : LoadWords) (p : ProductWords) : Type 0 where
   pub state : Makes
   pub transfer : c .transfer ≡ w
   pub load : c .load ≡ l
-  pub products : Fixed p → Fixed (c .products)
+  pub products : c .products ≡ p
 
 -- A core whose words are those of what waits and is under way in it. Such a core is determined by its state.
 pub record Canonical (c : Core) : Type 0 where
   pub transfer : transferWords (waitingTransfer (c .transfer)) ≡ c .transfer
   pub load : loadWords (waitingLoad (c .load)) ≡ c .load
-  pub products : Fixed (c .products)
+  pub products : FixedProducts (c .products)
 
 -- In contracts, that a function keeps a core canonical, beside what it gives.
 pub record Kept (Given : Type 0) (c r : Core) : Type 0 where

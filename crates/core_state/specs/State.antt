@@ -120,12 +120,12 @@ abbrev pub withProducts : State → Products → State
 withProducts s p =
     state (s .registers) (s .predicates) (s .specials) (s .fetch) (s .base) (s .transfer) (s .load) (further p)
 
-abbrev pub withLanded : Option Product → State → State
-withLanded none s = s
-withLanded (some p) s = withProduct s (p .low) (p .high)
+abbrev pub withArrival : Option Product → State → State
+withArrival none s = s
+withArrival (some p) s = withProduct s (p .low) (p .high)
 
 unfoldable pub arrived : State → State
-arrived s = withLanded (dueProduct (s .further .products)) (withProducts s (nearerProducts (s .further .products)))
+arrived s = withArrival (dueProduct (s .further .products)) (withProducts s (nearerProducts (s .further .products)))
 
 abbrev pub withBegun : State → ℕ → ℕ → State
 withBegun s low high = withProducts s (withOneMore (s .further .products) low high)

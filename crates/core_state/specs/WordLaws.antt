@@ -4,7 +4,7 @@ use mathlib.Core.Bool.{Bool, true, false, cond}
 use mathlib.Core.List.{List}
 use mathlib.Core.Path.{_≡_, refl, sym, ap, subst, _∙_}
 use lib.Dec.{leb}
-use Rattle.products.specs.Words.{productWords, Fixed as FixedProducts}
+use Rattle.products.specs.Words.{productWords, FixedProducts}
 use Rattle.effects.specs.declared.Transfer.{Transfer}
 use Rattle.effects.specs.declared.Transfer.the-variants.{Br, Call, Block}
 use Rattle.core_state.specs.declared.TransferWords.{TransferWords}

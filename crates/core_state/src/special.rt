@@ -1,14 +1,15 @@
-// Writing the special registers, at once or with a product that arrives.
+// Writing the special registers, and the products: those that land there, and those that begin.
 ghost use mathlib.Core.Path.{_≡_};
 ghost use mathlib.Core.Bool.{Bool, true};
 ghost use mathlib.Core.List.{List, _∷_};
 ghost use Prim.Native.Nat.{ℕ, _/_};
+ghost use Rattle.products.specs.Words.{nearerProductWords, moreProductWords};
 ghost use Rattle.core_state.specs.Core.{joined, Written};
 ghost use Rattle.core_state.specs.State.{predicatesOf, withSpecial, withStack, arrived, withBegun};
 use crate::Core;
 use isa::Special;
 use products::words::is_due;
-use products::words::nearer;
+use products::words::nearer_products;
 use products::words::one_more;
 
 // The predicates that a word written to s0 makes: p0 is true, p1 to p7 are bits 1 to 7.
@@ -54,13 +55,10 @@ impl Core {
 
     // The product that falls due is written to sl and sh, and those under way come one bundle nearer.
     pub fn arrive(mut self) -> Core
-        ensures { λ r. ⌜ Written ((rs : List ℕ) (ps : List Bool) → joined rs ps r ≡ arrived (joined rs ps self)) r (self .transfer) (self .load) (self .products) ⌝ }
+        ensures { λ r. ⌜ Written ((rs : List ℕ) (ps : List Bool) → joined rs ps r ≡ arrived (joined rs ps self)) r (self .transfer) (self .load) (nearerProductWords (self .products)) ⌝ }
     {
         let products = self.products;
-        if products.count == 0 {
-            return self;
-        }
-        let next = nearer(products);
+        let next = nearer_products(products);
         self.products = next;
         if is_due(products) {
             let landing = products.first;
@@ -73,7 +71,7 @@ impl Core {
 
     // A multiply begins a product.
     pub fn begin_product(mut self, low: u32, high: u32) -> Core
-        ensures { λ r. ⌜ Written ((rs : List ℕ) (ps : List Bool) → joined rs ps r ≡ withBegun (joined rs ps self) low high) r (self .transfer) (self .load) (self .products) ⌝ }
+        ensures { λ r. ⌜ Written ((rs : List ℕ) (ps : List Bool) → joined rs ps r ≡ withBegun (joined rs ps self) low high) r (self .transfer) (self .load) (moreProductWords (self .products) low high) ⌝ }
     {
         let products = self.products;
         let more = one_more(products, low, high);

@@ -28,11 +28,14 @@ use Rattle.even_pace.specs.Examples.{bytesOf, within, lent, marking, beg
 use Rattle.bundle_model.specs.Counts.{noCounts}
 use Rattle.fetch.specs.Fetch.{bundleAt}
 
--- Even pace of two runs of a program from states that differ in r1 and p1.
-abbrev pub Even : ℕ → List ℕ → State → State → Type 0
-Even k code s₁ s₂ =
-    EvenPace marking (within code) (tries (within code) k s₁ lent noCounts) (tries (within code) k s₂ lent noCounts)
+-- Even pace of two runs of a program from two states under a marking; and where r1 and p1 alone are private.
+abbrev pub EvenUnder : Marking → ℕ → List ℕ → State → State → Type 0
+EvenUnder m k code s₁ s₂ =
+    EvenPace m (within code) (tries (within code) k s₁ lent noCounts) (tries (within code) k s₂ lent noCounts)
     (run (within code) k s₁ lent .answer) (run (within code) k s₂ lent .answer)
+
+abbrev pub Even : ℕ → List ℕ → State → State → Type 0
+Even = EvenUnder marking
 
 -- (p1) lwl r1 = [r0]; add r1 = r1, r1; add r2 = r2 + 1: accepted, and even whatever r1, p1 and the budget are.
 abbrev pub program : List ℕ

@@ -4,28 +4,19 @@ use mathlib.Core.Bool.{Bool, true, false}
 use mathlib.Core.List.{List, [], _∷_}
 use mathlib.Core.Path.{_≡_, refl, ap}
 use native.Mathlib.Omega.{arith}
-use Rattle.products.specs.declared.Product.{Product}
 use Rattle.products.specs.declared.Products.{Products}
 use Rattle.products.specs.declared.Products.the-variants.{Nothing, One, Two}
 use Rattle.products.specs.Products.{product}
 use Rattle.core_state.specs.State.{State, withProducts}
 use Rattle.core_state.specs.declared.WaitingLoad.the-variants as load
-use Rattle.run_model.specs.Run.{run, tries}
 use Rattle.single_path.specs.Check.{first, accepted}
 use Rattle.marking.specs.declared.Marking.{Marking}
-use Rattle.even_pace.specs.Terms.{shown, Agree, EvenPace}
+use Rattle.even_pace.specs.Terms.{shown, Agree}
 use Rattle.even_pace.specs.StateLaws.{state-refl, with-products}
 use Rattle.even_pace.specs.BufferLaws.{buffers-refl}
 use Rattle.even_pace.specs.Theorem.{even-pace}
 use Rattle.even_pace.specs.Examples.{bytesOf, within, lent, markingWith, begin, checkUnder, hasAccess, tried, answered, begin-shaped, begin-well, begin-agree}
-use Rattle.even_pace.specs.Evidence.{goes, uneven, one}
-use Rattle.bundle_model.specs.Counts.{noCounts}
-
--- Even pace of two runs of a program under a marking.
-abbrev pub EvenUnder : Marking → ℕ → List ℕ → State → State → Type 0
-EvenUnder m k code s₁ s₂ =
-    EvenPace m (within code) (tries (within code) k s₁ lent noCounts) (tries (within code) k s₂ lent noCounts)
-    (run (within code) k s₁ lent .answer) (run (within code) k s₂ lent .answer)
+use Rattle.even_pace.specs.Evidence.{EvenUnder, goes, uneven, one}
 
 -- (p1) mul r1, r1 with sl and sh private: accepted, and even whatever r1, p1 and the budget are, though the product is under way in one run
 -- only.

@@ -1,6 +1,6 @@
 -- Products under way in the two runs: those that arrive, and those that begin.
 use Prim.Native.Nat.{ℕ}
-use mathlib.Core.Bool.{Bool, true, false, false≢true, cond, _&&_}
+use mathlib.Core.Bool.{Bool, true, false, false≢true, cond}
 use mathlib.Core.Option.{Option, none, some}
 use mathlib.Core.Path.{_≡_, refl, sym, ap, _∙_}
 use lib.Dec.{leb}
@@ -8,8 +8,8 @@ use Rattle.word.specs.BoolLaws.{and-left, and-right}
 use Rattle.products.specs.declared.Product.{Product}
 use Rattle.products.specs.declared.Products.{Products}
 use Rattle.products.specs.declared.Products.the-variants as products
-use Rattle.products.specs.Products.{productDelay, product, sooner, dueProduct, nearerProducts, withOneMore}
-use Rattle.core_state.specs.State.{State, withProducts, withLanded, arrived, withBegun}
+use Rattle.products.specs.Products.{sooner, dueProduct, nearerProducts, withOneMore}
+use Rattle.core_state.specs.State.{State, withProducts, withArrival, arrived, withBegun}
 use Rattle.marking.specs.declared.Marking.{Marking}
 use Rattle.even_pace.specs.Terms.{privateProducts, blank, shownProduct, shown, SameProducts, SameState}
 use Rattle.even_pace.specs.StateLaws.{state-refl, state-sym, state-trans, with-products}
@@ -77,14 +77,14 @@ arrived-quiet {m} s e = go (dueProduct (s .further .products))
     nearer : SameState m (withProducts s (nearerProducts (s .further .products))) s
     nearer = with-products (state-refl s) _ _ (both-private m _ _ e)
 
-    go : (due : Option Product) → SameState m (withLanded due (withProducts s (nearerProducts (s .further .products)))) s
+    go : (due : Option Product) → SameState m (withArrival due (withProducts s (nearerProducts (s .further .products)))) s
     go none = nearer
     go (some p) = state-trans (product-quiet _ (p .low) (p .high) (and-left (m .sl) (m .sh) e) (and-right (m .sl) (m .sh) e)) nearer
 
 module _ {m : Marking} {s₁ s₂ : State} (a : SameState m s₁ s₂) where
   -- The same falls due in both, with words that are equal where they are public.
   landed-product-both : (due₁ due₂ : Option Product) → shownDue (m .sl) (m .sh) due₁ ≡ shownDue (m .sl) (m .sh) due₂
-      → SameState m (withLanded due₁ s₁) (withLanded due₂ s₂)
+      → SameState m (withArrival due₁ s₁) (withArrival due₂ s₂)
   unfolding shownDue
   landed-product-both none none e = a
   landed-product-both none (some q) e = let k : false ≡ true = cc in absurd (false≢true k)

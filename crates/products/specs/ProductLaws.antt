@@ -1,8 +1,8 @@
 -- Laws of products under way: they stay such as 11 lets pass, there is room for one more, and each lands in its turn.
-use Prim.Native.Nat.{ℕ, _+_, _-_, _<_, _≤_}
+use Prim.Native.Nat.{ℕ, _+_, _-_, _≤_}
 use mathlib.Core.Bool.{Bool, true, false, false≢true, cond, _&&_}
-use mathlib.Core.Option.{Option, none, some}
-use mathlib.Core.Path.{_≡_, refl, sym, ap, _∙_}
+use mathlib.Core.Option.{some}
+use mathlib.Core.Path.{_≡_, refl}
 use native.Mathlib.Omega.{arith}
 use borrow.Author.Tests.{leb-true, leb-false, le-leb}
 use lib.Dec.{leb}
@@ -20,6 +20,12 @@ hasRoom (Two p q) = false
 
 both : (a b : ℕ) (c d : ℕ) → a ≤ b → c ≤ d → (leb a b && leb c d) ≡ true
 both a b c d p q = rw (le-leb a b p, le-leb c d q)
+
+-- The wait of one product beside which there is room.
+room-wait : (p : Product) → hasRoom (One p) ≡ true → (1 ≤ p .wait) × (p .wait + 1 ≤ productDelay)
+unfolding hasRoom
+room-wait p e =
+    (leb-true 1 (p .wait) (and-left (leb 1 (p .wait)) (leb (p .wait + 1) productDelay) e), leb-true (p .wait + 1) productDelay (and-right (leb 1 (p .wait)) (leb (p .wait + 1) productDelay) e))
 
 -- After a bundle there is room.
 pub nearer-room : (p : Products) → productsOk p ≡ true → hasRoom (nearerProducts p) ≡ true
@@ -51,40 +57,29 @@ nearer-room (Two p q) e = go (leb (p .wait) 1) refl
 pub room-ok : (p : Products) → hasRoom p ≡ true → productsOk p ≡ true
 unfolding productsOk hasRoom
 room-ok Nothing e = refl
-room-ok (One p) e =
-    let least = leb-true 1 (p .wait) (and-left (leb 1 (p .wait)) (leb (p .wait + 1) productDelay) e) in
-    let most = leb-true (p .wait + 1) productDelay (and-right (leb 1 (p .wait)) (leb (p .wait + 1) productDelay) e) in
-    both 1 (p .wait) (p .wait) productDelay least (omega (arith, most))
+room-ok (One p) e = let w = room-wait p e in both 1 (p .wait) (p .wait) productDelay (w .0) (omega (arith, w .1))
 room-ok (Two p q) e = absurd (false≢true e)
 
 pub more-ok : (p : Products) (low high : ℕ) → hasRoom p ≡ true → productsOk (withOneMore p low high) ≡ true
 unfolding productsOk hasRoom withOneMore
 more-ok Nothing low high e = refl
 more-ok (One p) low high e =
-    let least = leb-true 1 (p .wait) (and-left (leb 1 (p .wait)) (leb (p .wait + 1) productDelay) e) in
-    let most = leb-true (p .wait + 1) productDelay (and-right (leb 1 (p .wait)) (leb (p .wait + 1) productDelay) e) in
-    rw (le-leb 1 (p .wait) least, le-leb 1 (productDelay - p .wait) (omega (arith, most)), le-leb (p .wait + (productDelay - p .wait)) productDelay (omega (arith, most)))
+    let w = room-wait p e in
+    rw (le-leb 1 (p .wait) (w .0), le-leb 1 (productDelay - p .wait) (omega (arith, w .1)), le-leb (p .wait + (productDelay - p .wait)) productDelay (omega (arith, w .1)))
 more-ok (Two p q) low high e = absurd (false≢true e)
 
 -- A product begun in a bundle does not fall due in the next one, where an earlier one may, and falls due in the second.
-pub more-next : (p : Products) (low high : ℕ) → hasRoom p ≡ true → dueProduct (withOneMore p low high) ≡ dueProduct p
-unfolding dueProduct hasRoom withOneMore
-more-next Nothing low high e = refl
-more-next (One p) low high e = refl
-more-next (Two p q) low high e = refl
+pub more-next : (p : Products) (low high : ℕ) → dueProduct (withOneMore p low high) ≡ dueProduct p
+unfolding dueProduct withOneMore
+more-next Nothing low high = refl
+more-next (One p) low high = refl
+more-next (Two p q) low high = refl
 
 pub more-second : (p : Products) (low high : ℕ) → hasRoom p ≡ true → dueProduct (nearerProducts (withOneMore p low high)) ≡ some (product 1 low high)
 unfolding dueProduct nearerProducts hasRoom withOneMore
 more-second Nothing low high e = refl
-more-second (One p) low high e = go (p .wait) refl (omega (arith, least, most))
+more-second (One p) low high e = let w = room-wait p e in rw (one (w .0) (w .1))
   where
-    least : 1 ≤ p .wait
-    least = leb-true 1 (p .wait) (and-left (leb 1 (p .wait)) (leb (p .wait + 1) productDelay) e)
-
-    most : p .wait + 1 ≤ productDelay
-    most = leb-true (p .wait + 1) productDelay (and-right (leb 1 (p .wait)) (leb (p .wait + 1) productDelay) e)
-
-    go : (n : ℕ) → p .wait ≡ n → n ≡ 1
-        → dueProduct (cond (leb n 1) (One (product (productDelay - n) low high)) (Two (sooner p) (product (productDelay - n) low high))) ≡ some (product 1 low high)
-    go n f g = rw g
+    one : 1 ≤ p .wait → p .wait + 1 ≤ productDelay → p .wait ≡ 1
+    one least most = omega (arith, least, most)
 more-second (Two p q) low high e = absurd (false≢true e)

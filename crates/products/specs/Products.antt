@@ -24,7 +24,7 @@ productsOk Nothing = true
 productsOk (One p) = leb 1 (p .wait) && leb (p .wait) productDelay
 productsOk (Two p q) = (leb 1 (p .wait) && leb 1 (q .wait)) && leb (p .wait + q .wait) productDelay
 
--- What falls due in a bundle: a product with one bundle to wait.
+-- What falls due in a bundle: a product with one bundle to wait. (One with none, which 11 describes, would fall due with it.)
 unfoldable pub dueProduct : Products → Option Product
 dueProduct Nothing = none
 dueProduct (One p) = cond (leb (p .wait) 1) (some p) none

@@ -3,8 +3,8 @@ ghost use mathlib.Core.Path.{_≡_};
 ghost use mathlib.Core.Bool.{cond};
 ghost use mathlib.Core.Option.{some, none};
 ghost use Prim.Native.Nat.{_≤_, _-_};
-ghost use Rattle.products.specs.Products.{productsOk, dueProduct, nearerProducts, withOneMore, productDelay, noProduct, sooner};
-ghost use Rattle.products.specs.Words.{productsIn, productWords};
+ghost use Rattle.products.specs.Products.{productsOk, dueProduct, productDelay, noProduct, sooner};
+ghost use Rattle.products.specs.Words.{productsIn, productWords, nearerProductWords, moreProductWords};
 use crate::Product;
 use crate::ProductWords;
 use crate::Products;
@@ -110,11 +110,11 @@ fn sooner(p: Product) -> Product
 }
 
 // What is still under way after this bundle.
-pub fn nearer(w: ProductWords) -> ProductWords
-    ensures { λ r. ⌜ r ≡ productWords (nearerProducts (productsIn w)) ⌝ }
+pub fn nearer_products(w: ProductWords) -> ProductWords
+    ensures { λ r. ⌜ r ≡ nearerProductWords w ⌝ }
 {
     if w.count == 0 {
-        return nothing();
+        return w;
     }
     let first = w.first;
     let second = w.second;
@@ -132,7 +132,7 @@ pub fn nearer(w: ProductWords) -> ProductWords
 
 // A product more, which lands at the end of the second bundle after this one.
 pub fn one_more(w: ProductWords, low: u32, high: u32) -> ProductWords
-    ensures { λ r. ⌜ r ≡ productWords (withOneMore (productsIn w) low high) ⌝ }
+    ensures { λ r. ⌜ r ≡ moreProductWords w low high ⌝ }
 {
     if w.count == 0 {
         return one(Product { wait: 2, low, high });

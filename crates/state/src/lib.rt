@@ -17,6 +17,7 @@ pub struct State {
     pub base: u32,
     pub transfer: WaitingTransfer,
     pub load: WaitingLoad,
+    // Of two the second's wait is counted from the landing of the first.
     pub products: Products,
 }
 

@@ -14,7 +14,7 @@ use Rattle.word.specs.BoolLaws.{and-right}
 use Rattle.settings.specs.declared.Settings.{Settings}
 use Rattle.products.specs.declared.Product.{Product}
 use Rattle.products.specs.Products.{dueProduct, nearerProducts}
-use Rattle.core_state.specs.State.{State, Shaped, state, withRegister, withPredicate, withPredicates, withSpecial, withSpecials, predicatesOf, withFlow, goingOn, landing, landed, withProducts, withLanded, arrived, transferred, waitOk}
+use Rattle.core_state.specs.State.{State, Shaped, state, withRegister, withPredicate, withPredicates, withSpecial, withSpecials, predicatesOf, withFlow, goingOn, landing, landed, withProducts, withArrival, arrived, transferred, waitOk}
 use Rattle.effects.specs.declared.Transfer.{Transfer}
 use Rattle.effects.specs.declared.Transfer.the-variants.{Br, Call, Block}
 use Rattle.core_state.specs.declared.WaitingTransfer.{WaitingTransfer}
@@ -59,7 +59,7 @@ pub arrived-cases : (P : State → Type 0) (s : State) → ((x : Specials) → P
 unfolding arrived
 arrived-cases P s h = go (dueProduct (s .further .products))
   where
-    go : (due : Option Product) → P (withLanded due (withProducts s (nearerProducts (s .further .products))))
+    go : (due : Option Product) → P (withArrival due (withProducts s (nearerProducts (s .further .products))))
     go none = h _
     go (some p) = h _
 

@@ -121,8 +121,8 @@ written-products : (g : Settings) (b : Buffers) (s : State) (one : Effect) (two 
     → productsOk (written g b s one two following .further .products) ≡ true
 unfolding written
 written-products g b s one two following h =
-    let landing = subst (λ (f : Further). hasRoom (nearerProducts (f .products)) ≡ true) (sym (landed-further s)) (nearer-room (s .further .products) h) in
-    let room = arrived-cases (λ x. hasRoom (x .further .products) ≡ true) (landed s) (λ x. landing) in
+    let nearer = subst (λ (f : Further). hasRoom (nearerProducts (f .products)) ≡ true) (sym (landed-further s)) (nearer-room (s .further .products) h) in
+    let room = arrived-cases (λ x. hasRoom (x .further .products) ≡ true) (landed s) (λ x. nearer) in
     let t = writeOne-products g b s one (arrived (landed s)) room in
     onward-cases (λ x. productsOk (x .further .products) ≡ true) following _ one (s .transfer) (λ srb sro fetch base w q.
     writeAlu-cases (λ x. productsOk (x .further .products) ≡ true) two _ (λ rs ps. t))

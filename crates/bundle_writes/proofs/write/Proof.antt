@@ -2,13 +2,14 @@ use mathlib.Core.Path.{_≡_, ap, _∙_}
 use Prim.Native.Nat.{ℕ}
 use Rattle.alu_effects.specs.declared.AluEffect.{AluEffect}
 use Rattle.effects.specs.declared.Effect.{Effect}
+use Rattle.products.specs.Words.{nearerProductWords}
 use Rattle.core_state.specs.declared.WaitingTransfer.{WaitingTransfer}
 use Rattle.core_state.specs.State.{State, arrived}
 use Rattle.core_state.specs.Writes.{writeAlu}
 use Rattle.core_state.specs.Core.{waitingTransfer}
 use Rattle.bundle_model.specs.Bundle.{onward}
 use Rattle.bundle_model.specs.Execute.{writeDone}
-use Rattle.bundle_writes.specs.Words.{loadAfter}
+use Rattle.bundle_writes.specs.Words.{loadAfter, productsAfter}
 use Rattle.bundle_writes.proofs.write.Statement.{statement}
 use Rattle.bundle_writes.proofs.write.Tie as tie
 
@@ -45,7 +46,7 @@ returns c =
       state = in-order (a .one) (a .two) (waitingTransfer (a .core .transfer)) (a .following) (a .loaded) (a .st) (a .ss) _ _ _ _ _ (onto .state _ _ ∙ ap arrived (landing .state _)) (after .state) (last .state) (c .onward .ensures .state _ _);
       transfer = c .onward .ensures .transfer;
       load = c .onward .ensures .load ∙ last .load ∙ after .load ∙ ap (loadAfter (a .one) (a .loaded)) (onto .load ∙ landing .load);
-      products = λ f. c .onward .ensures .products (last .products (after .products (onto .products (landing .products f))));
+      products = c .onward .ensures .products ∙ last .products ∙ after .products ∙ ap (productsAfter (a .one)) (onto .products ∙ ap nearerProductWords (landing .products));
     }
 
 pub write-spec : {M : Type 1} → statement M

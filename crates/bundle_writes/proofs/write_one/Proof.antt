@@ -6,10 +6,11 @@ use types.Run.{OneOf, miss}
 use Rattle.effects.specs.declared.Effect.{Effect}
 use Rattle.effects.specs.declared.Effect.the-variants.{Alu, Special, Product, Load, Store, Stack, Transfer, Exception}
 use Rattle.effects.proofs.Effect.{the-type}
+use Rattle.products.specs.declared.ProductWords.{ProductWords}
 use Rattle.core_state.specs.State.{State}
 use Rattle.core_state.specs.declared.LoadWords.{LoadWords}
 use Rattle.core_state.specs.WordLaws.{load-back}
-use Rattle.bundle_writes.specs.Words.{loadAfter}
+use Rattle.bundle_writes.specs.Words.{loadAfter, productsAfter}
 use Rattle.bundle_model.specs.Execute.{writeDone}
 use Rattle.bundle_writes.proofs.write_one.Statement.{statement}
 use Rattle.bundle_writes.proofs.write_one.Tie as tie
@@ -38,6 +39,16 @@ load-left loaded l (Store k w a v) h = refl
 load-left loaded l (Stack c n m) h = refl
 load-left loaded l (Transfer d t) h = refl
 load-left loaded l Exception h = refl
+
+products-left : (p : ProductWords) (e : Effect) → OneOf others (tagOf the-type e) → p ≡ productsAfter e p
+products-left p (Alu a) h = refl
+products-left p (Special d v) h = refl
+products-left p (Product l k) h = absurd (miss others 2 tt h)
+products-left p (Load k w r a) h = refl
+products-left p (Store k w a v) h = refl
+products-left p (Stack c n m) h = refl
+products-left p (Transfer d t) h = refl
+products-left p Exception h = refl
 
 enum-known-one : tie.Need-enum-known-one
 enum-known-one c = c .match .keys1
@@ -77,21 +88,21 @@ unfolding writeDone
 returns c =
     let w = c .write-alu .ensures in
     let e = c .before .before .before .before .one .given .1 in
-    record { state = rw e (w .state); transfer = w .transfer; load = rw e (w .load); products = w .products }
+    record { state = rw e (w .state); transfer = w .transfer; load = rw e (w .load); products = rw e (w .products) }
 
 returns-2 : tie.Need-returns-2
 unfolding writeDone
 returns-2 c =
     let w = c .write-special .ensures in
     let e = c .before .before .before .one2 .given .1 in
-    record { state = rw e (w .state _); transfer = w .transfer; load = rw e (w .load); products = w .products }
+    record { state = rw e (w .state _); transfer = w .transfer; load = rw e (w .load); products = rw e (w .products) }
 
 returns-3 : tie.Need-returns-3
 unfolding writeDone
 returns-3 c =
     let w = c .begin-product .ensures in
     let e = c .before .before .one3 .given .1 in
-    record { state = rw e (w .state _ _); transfer = w .transfer; load = rw e (w .load); products = w .products }
+    record { state = rw e (w .state _ _); transfer = w .transfer; load = rw e (w .load); products = rw e (w .products) }
 
 returns-4 : tie.Need-returns-4
 unfolding writeDone
@@ -99,20 +110,20 @@ returns-4 c =
     let w = c .with-load .ensures in
     let e = c .before .before .before .one4 .given .1 in
     let l = c .before .load-waits .ensures in
-    record { state = rw e (w .state _ _ ∙ rw (l, load-back _)); transfer = w .transfer; load = rw e (w .load ∙ l); products = w .products }
+    record { state = rw e (w .state _ _ ∙ rw (l, load-back _)); transfer = w .transfer; load = rw e (w .load ∙ l); products = rw e (w .products) }
 
 returns-5 : tie.Need-returns-5
 unfolding writeDone
 returns-5 c =
     let w = c .write-stack .ensures in
     let e = c .before .enum-told .given .1 in
-    record { state = rw e (w .state _ _); transfer = w .transfer; load = rw e (w .load); products = w .products }
+    record { state = rw e (w .state _ _); transfer = w .transfer; load = rw e (w .load); products = rw e (w .products) }
 
 returns-6 : tie.Need-returns-6
 unfolding writeDone
 returns-6 c =
     let a = c .before .args in
-    record { state = nothing-written _ _ _ _ (a .one) (c .match .keys6); transfer = refl; load = load-left _ _ (a .one) (c .match .keys6); products = λ f. f }
+    record { state = nothing-written _ _ _ _ (a .one) (c .match .keys6); transfer = refl; load = load-left _ _ (a .one) (c .match .keys6); products = products-left _ (a .one) (c .match .keys6) }
 
 pub write-one-spec : {M : Type 1} → statement M
 write-one-spec =

@@ -1,5 +1,4 @@
-use borrow.Author.Tests.{eq-eqb, ne-eqb}
-use mathlib.Core.Path.{sym, ap, _∙_}
+use borrow.Author.Tests.{ne-eqb}
 use Rattle.case_state.specs.KeptState.{productsOf}
 use borrow.Author.Needs.{needs}
 use Rattle.case_state.proofs.products_of.Statement.{statement}

@@ -1,41 +1,34 @@
-use mathlib.Core.Path.{refl, sym, subst}
-use Rattle.products.specs.Products.{dueProduct, nearerProducts}
-use Rattle.products.specs.Words.{productsIn, Fixed, products-back, words-fixed, says-nothing}
+use mathlib.Core.Path.{refl}
+use Rattle.products.specs.Words.{nearer-says}
 use Rattle.core_state.specs.State.{arrived}
 use Rattle.core_state.proofs.Core.arrive.Statement.{statement}
 use Rattle.core_state.proofs.Core.arrive.Tie as tie
 
-returns : tie.Need-returns
-unfolding arrived dueProduct nearerProducts
-returns c = record { state = λ rs ps. rw (says-nothing (c .before .before .before .args .self .products) (c .if1 .taken)); transfer = refl; load = refl; products = λ f. f }
-
-nearer-requires : tie.Need-nearer-requires
-nearer-requires c κs = tt
+nearer-products-requires : tie.Need-nearer-products-requires
+nearer-products-requires c κs = tt
 
 is-due-requires : tie.Need-is-due-requires
 is-due-requires c κs = tt
 
+returns : tie.Need-returns
+unfolding arrived
+returns c =
+    record {
+      state = λ rs ps. rw (c .before .before .before .before .before .nearer-products .ensures, nearer-says (c .before .before .before .before .before .before .before .args .self .products), c .before .before .before .before .is-due .ensures, c .before .before .before .if1 .taken);
+      transfer = refl;
+      load = refl;
+      products = c .before .before .before .before .before .nearer-products .ensures;
+    }
+
 returns-2 : tie.Need-returns-2
 unfolding arrived
 returns-2 c =
-    let w = c .before .before .before .before .before .before .before .before .before .args .self .products in
     record {
-      state = λ rs ps. rw (c .before .before .before .before .before .nearer .ensures, products-back (nearerProducts (productsIn w)), c .before .before .before .before .is-due .ensures, c .before .before .before .if2 .taken);
+      state = λ rs ps. rw (c .before .before .nearer-products .ensures, nearer-says (c .before .before .before .before .args .self .products), c .before .is-due .ensures, c .if1 .left);
       transfer = refl;
       load = refl;
-      products = λ f. subst Fixed (sym (c .before .before .before .before .before .nearer .ensures)) (words-fixed (nearerProducts (productsIn w)));
-    }
-
-returns-3 : tie.Need-returns-3
-unfolding arrived
-returns-3 c =
-    let w = c .before .before .before .before .before .before .args .self .products in
-    record {
-      state = λ rs ps. rw (c .before .before .nearer .ensures, products-back (nearerProducts (productsIn w)), c .before .is-due .ensures, c .if2 .left);
-      transfer = refl;
-      load = refl;
-      products = λ f. subst Fixed (sym (c .before .before .nearer .ensures)) (words-fixed (nearerProducts (productsIn w)));
+      products = c .before .before .nearer-products .ensures;
     }
 
 pub arrive-spec : {M : Type 1} → statement M
-arrive-spec = tie.close (tie.spec returns nearer-requires is-due-requires returns-2 returns-3)
+arrive-spec = tie.close (tie.spec nearer-products-requires is-due-requires returns returns-2)

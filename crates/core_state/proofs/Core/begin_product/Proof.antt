@@ -1,6 +1,6 @@
-use mathlib.Core.Path.{refl, sym, subst}
+use mathlib.Core.Path.{refl}
 use Rattle.products.specs.Products.{withOneMore}
-use Rattle.products.specs.Words.{productsIn, Fixed, products-back, words-fixed}
+use Rattle.products.specs.Words.{productsIn, products-back}
 use Rattle.core_state.proofs.Core.begin_product.Statement.{statement}
 use Rattle.core_state.proofs.Core.begin_product.Tie as tie
 
@@ -15,7 +15,7 @@ returns c =
       state = λ rs ps. rw (c .one-more .ensures, products-back more);
       transfer = refl;
       load = refl;
-      products = λ f. subst Fixed (sym (c .one-more .ensures)) (words-fixed more);
+      products = c .one-more .ensures;
     }
 
 pub begin-product-spec : {M : Type 1} → statement M

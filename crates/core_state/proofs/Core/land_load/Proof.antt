@@ -28,7 +28,7 @@ with-load-requires-2 c κs = tt
 
 returns-2 : tie.Need-returns-2
 unfolding landed withRegister
-returns-2 c = record { state = λ ps. c .with-load2 .ensures .state _ ps ∙ ap (λ (s : State). withLoad s (waitingLoad (c .before .no-load2 .result))) (c .before .before .write-register .ensures .state ps) ∙ rw (c .before .no-load2 .ensures, load-back load.Nothing, some-load (c .before .before .before .before .before .before .before .args .self .load) (c .before .before .before .before .if1 .left)); transfer = c .with-load2 .ensures .transfer ∙ c .before .before .write-register .ensures .transfer; load = c .with-load2 .ensures .load ∙ c .before .no-load2 .ensures; products = λ f. c .with-load2 .ensures .products (c .before .before .write-register .ensures .products f) }
+returns-2 c = record { state = λ ps. c .with-load2 .ensures .state _ ps ∙ ap (λ (s : State). withLoad s (waitingLoad (c .before .no-load2 .result))) (c .before .before .write-register .ensures .state ps) ∙ rw (c .before .no-load2 .ensures, load-back load.Nothing, some-load (c .before .before .before .before .before .before .before .args .self .load) (c .before .before .before .before .if1 .left)); transfer = c .with-load2 .ensures .transfer ∙ c .before .before .write-register .ensures .transfer; load = c .with-load2 .ensures .load ∙ c .before .no-load2 .ensures; products = c .with-load2 .ensures .products ∙ c .before .before .write-register .ensures .products }
 
 pub land-load-spec : {M : Type 1} → statement M
 land-load-spec =

@@ -21,7 +21,7 @@ write-predicate-requires c κs = search needs
 
 returns : tie.Need-returns
 unfolding writeAlu
-returns c = record { state = rw (c .enum-told .given .1); transfer = refl; load = refl; products = λ f. f }
+returns c = record { state = rw (c .enum-told .given .1); transfer = refl; load = refl; products = refl }
 
 returns-2 : tie.Need-returns-2
 unfolding writeAlu

@@ -12,7 +12,7 @@ write-predicate-requires c κs = search needs
 
 returns : tie.Need-returns
 unfolding withPredicate
-returns c = record { state = λ rs. ap (λ (l : List Bool). joined rs l (c .before .before .args .self)) (c .write-predicate .ensures); transfer = refl; load = refl; products = λ f. f }
+returns c = record { state = λ rs. ap (λ (l : List Bool). joined rs l (c .before .before .args .self)) (c .write-predicate .ensures); transfer = refl; load = refl; products = refl }
 
 pub write-predicate-spec : {M : Type 1} → statement M
 write-predicate-spec = tie.close (tie.spec write-predicate-requires returns)

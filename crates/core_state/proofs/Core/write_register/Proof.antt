@@ -12,7 +12,7 @@ write-register-requires c κs = search needs
 
 returns : tie.Need-returns
 unfolding withRegister
-returns c = record { state = λ ps. ap (λ (l : List ℕ). joined l ps (c .before .before .args .self)) (c .write-register .ensures); transfer = refl; load = refl; products = λ f. f }
+returns c = record { state = λ ps. ap (λ (l : List ℕ). joined l ps (c .before .before .args .self)) (c .write-register .ensures); transfer = refl; load = refl; products = refl }
 
 pub write-register-spec : {M : Type 1} → statement M
 write-register-spec = tie.close (tie.spec write-register-requires returns)

@@ -35,39 +35,39 @@ enum-told-9 c = c .match .keys9
 
 returns : tie.Need-returns
 unfolding withSpecial
-returns c = record { state = λ rs. rw (c .before .enum-told .given .1, c .predicates-of .ensures); transfer = refl; load = refl; products = λ f. f }
+returns c = record { state = λ rs. rw (c .before .enum-told .given .1, c .predicates-of .ensures); transfer = refl; load = refl; products = refl }
 
 returns-2 : tie.Need-returns-2
 unfolding withSpecial
-returns-2 c = record { state = λ rs. rw (c .before .enum-told2 .given .1); transfer = refl; load = refl; products = λ f. f }
+returns-2 c = record { state = λ rs. rw (c .before .enum-told2 .given .1); transfer = refl; load = refl; products = refl }
 
 returns-3 : tie.Need-returns-3
 unfolding withSpecial
-returns-3 c = record { state = λ rs. rw (c .before .enum-told3 .given .1); transfer = refl; load = refl; products = λ f. f }
+returns-3 c = record { state = λ rs. rw (c .before .enum-told3 .given .1); transfer = refl; load = refl; products = refl }
 
 returns-4 : tie.Need-returns-4
 unfolding withSpecial
-returns-4 c = record { state = λ rs. rw (c .before .enum-told4 .given .1); transfer = refl; load = refl; products = λ f. f }
+returns-4 c = record { state = λ rs. rw (c .before .enum-told4 .given .1); transfer = refl; load = refl; products = refl }
 
 returns-5 : tie.Need-returns-5
 unfolding withSpecial
-returns-5 c = record { state = λ rs. rw (c .before .enum-told5 .given .1); transfer = refl; load = refl; products = λ f. f }
+returns-5 c = record { state = λ rs. rw (c .before .enum-told5 .given .1); transfer = refl; load = refl; products = refl }
 
 returns-6 : tie.Need-returns-6
 unfolding withSpecial
-returns-6 c = record { state = λ rs. rw (c .before .enum-told6 .given .1); transfer = refl; load = refl; products = λ f. f }
+returns-6 c = record { state = λ rs. rw (c .before .enum-told6 .given .1); transfer = refl; load = refl; products = refl }
 
 returns-7 : tie.Need-returns-7
 unfolding withSpecial
-returns-7 c = record { state = λ rs. rw (c .before .enum-told7 .given .1); transfer = refl; load = refl; products = λ f. f }
+returns-7 c = record { state = λ rs. rw (c .before .enum-told7 .given .1); transfer = refl; load = refl; products = refl }
 
 returns-8 : tie.Need-returns-8
 unfolding withSpecial
-returns-8 c = record { state = λ rs. rw (c .before .enum-told8 .given .1); transfer = refl; load = refl; products = λ f. f }
+returns-8 c = record { state = λ rs. rw (c .before .enum-told8 .given .1); transfer = refl; load = refl; products = refl }
 
 returns-9 : tie.Need-returns-9
 unfolding withSpecial
-returns-9 c = record { state = λ rs. rw (c .before .enum-told9 .given .1); transfer = refl; load = refl; products = λ f. f }
+returns-9 c = record { state = λ rs. rw (c .before .enum-told9 .given .1); transfer = refl; load = refl; products = refl }
 
 pub write-special-spec : {M : Type 1} → statement M
 write-special-spec =
