@@ -45,19 +45,16 @@ module _ (sl sh : Bool) where
   shownDue none = none
   shownDue (some p) = some (shownProduct sl sh p)
 
+  first-shown : (p : Product) (t : Bool) → cond t (some (shownProduct sl sh p)) none ≡ shownDue (cond t (some p) none)
+  unfolding shownDue
+  first-shown p true = refl
+  first-shown p false = refl
+
   due-shown : (p : Products) → dueProduct (shown sl sh p) ≡ shownDue (dueProduct p)
   unfolding dueProduct shown shownDue
   due-shown products.Nothing = refl
-  due-shown (products.One p) = go (leb (p .wait) 1)
-    where
-      go : (t : Bool) → cond t (some (shownProduct sl sh p)) none ≡ shownDue (cond t (some p) none)
-      go true = refl
-      go false = refl
-  due-shown (products.Two p q) = go (leb (p .wait) 1)
-    where
-      go : (t : Bool) → cond t (some (shownProduct sl sh p)) none ≡ shownDue (cond t (some p) none)
-      go true = refl
-      go false = refl
+  due-shown (products.One p) = first-shown p (leb (p .wait) 1)
+  due-shown (products.Two p q) = first-shown p (leb (p .wait) 1)
 
   more-shown : (p : Products) (low high : ℕ) → withOneMore (shown sl sh p) (blank sl low) (blank sh high) ≡ shown sl sh (withOneMore p low high)
   unfolding withOneMore shown
