@@ -1,10 +1,12 @@
-//! A plain interpreter of the Patmos core of document 01, with the late products of document 02 (ii), to compare speed with.
+//! A plain interpreter of the Patmos core of document 01, with the late products and the method cache of document 02 (ii) and (iii),
+//! to compare speed with.
 //! Build: rustc -O plain.rs        Use: plain WORKLOAD BUDGET MAINLEN W
-//! WORKLOAD is loop, calls, memory, products or all.
+//! WORKLOAD is loop, calls, memory, products, methods or all.
 //!
 //! Settings of a workload: the code words below, main memory of MAINLEN bytes, local
 //! memory of 1024 bytes, stack area from (MAINLEN / 2) to MAINLEN, both rounded down to
-//! a multiple of 4, all memory zero, entry 0, fresh state.
+//! a multiple of 4, all memory zero, fresh state. methods: entry 4 and a method cache of
+//! 4 blocks and 96 bytes; the others: entry 0, and the method cache is off.
 #![allow(dead_code)]
 
 const LOOP: &[u32] = &[
@@ -36,6 +38,15 @@ const PRODUCTS: &[u32] = &[
     0x024A0032, 0x824C0033, 0x02084282, 0x02021282, 0x02005320, 0x02042302, 0x020211E6, 0x0A001320,
     0x4A006121, 0x024E0032, 0x02405023, 0x82500033, 0x02063380, 0x02063402, 0x04FFFFEE, 0x02003120,
     0x00129001,
+];
+
+const METHODS: &[u32] = &[
+    0x0000003C, 0x04000011, 0x00021001, 0x04400017, 0x02084082, 0x020A128C, 0x020C6280, 0x04000011,
+    0x04000020, 0x020E4280, 0x04000023, 0x04000011, 0x0400002A, 0x04FFFFF4, 0x00108001, 0x02129402,
+    0x00000014, 0x0214A080, 0x06400000, 0x0216B502, 0x0018C003, 0x00400000, 0x00000014, 0x021A168C,
+    0x0540001D, 0x001CE001, 0x021EF702, 0x00400000, 0x00000008, 0x02210780, 0x06000000, 0x00000008,
+    0x00231005, 0x06000000, 0x00000018, 0x02252882, 0x02273900, 0x06400000, 0x02293A0C, 0x00400000,
+    0x00400000, 0x00000008, 0x022B5A01, 0x06000000,
 ];
 
 // ---------------------------------------------------------------- machine
@@ -75,6 +86,16 @@ struct Counts {
     cycles: u64,
     spilled: u64,
     filled: u64,
+    misses: u64,
+    fetched: u64,
+}
+
+/// The method cache's switch and capacity.
+#[derive(Clone, Copy, Default)]
+struct Method {
+    on: bool,
+    blocks: u32,
+    bytes: u32,
 }
 
 struct Machine {
@@ -84,6 +105,7 @@ struct Machine {
     cache: Vec<u32>,
     lo: u32,
     hi: u32,
+    method: Method,
     regs: [u32; 32],
     preds: [bool; 8],
     sl: u32,
@@ -101,6 +123,8 @@ struct Machine {
     /// The products under way, sl and sh of each: one lands in the next bundle, one in the bundle after it.
     soon: Option<(u32, u32)>,
     later: Option<(u32, u32)>,
+    /// The bases of the blocks in the method cache, oldest first.
+    held: Vec<u32>,
     counts: Counts,
 }
 
@@ -187,7 +211,16 @@ fn rs2(w: u32) -> usize {
 
 impl Machine {
     /// The fresh state at an entry, or the number of the refusal.
-    fn open(code: Vec<u8>, main: Vec<u8>, local: Vec<u8>, w: u32, lo: u32, hi: u32, entry: u32) -> Result<Machine, u32> {
+    fn open(
+        code: Vec<u8>,
+        main: Vec<u8>,
+        local: Vec<u8>,
+        w: u32,
+        lo: u32,
+        hi: u32,
+        method: Method,
+        entry: u32,
+    ) -> Result<Machine, u32> {
         let settings = (4..=65536).contains(&code.len())
             && code.len() % 4 == 0
             && main.len() <= 65536
@@ -197,7 +230,8 @@ impl Machine {
             && lo % 4 == 0
             && hi % 4 == 0
             && lo <= hi
-            && hi as usize <= main.len();
+            && hi as usize <= main.len()
+            && (!method.on || ((1..=16).contains(&method.blocks) && (64..=16384).contains(&method.bytes)));
         if !settings {
             return Err(1);
         }
@@ -214,6 +248,7 @@ impl Machine {
             cache: vec![0; w as usize],
             lo,
             hi,
+            method,
             regs: [0; 32],
             preds,
             sl: 0,
@@ -230,6 +265,7 @@ impl Machine {
             load: None,
             soon: None,
             later: None,
+            held: Vec::with_capacity(16),
             counts: Counts::default(),
         })
     }
@@ -239,6 +275,71 @@ impl Machine {
             && self.preds[0]
             && self.load.map_or(true, |l| l.0 <= 31)
             && self.transfer.map_or(true, |t| (1..=3).contains(&t.wait))
+            && self.held_ok()
+    }
+
+    fn held_ok(&self) -> bool {
+        if !self.method.on {
+            return self.held.is_empty();
+        }
+        let single = |(i, &b): (usize, &u32)| !self.bad_block(b) && !self.held[..i].contains(&b);
+        self.held.iter().enumerate().all(single)
+            && self.held.len() <= self.method.blocks as usize
+            && self.bytes_held() <= self.method.bytes
+    }
+
+    /// The size of the block at a base of at least 4 and inside the code or at its end.
+    #[inline]
+    fn size_at(&self, base: u32) -> u32 {
+        read_be(&self.code, base as usize - 4, 4)
+    }
+
+    /// Whether a lookup of this base is refused with 13.
+    #[inline]
+    fn bad_block(&self, base: u32) -> bool {
+        let length = self.code.len() as u32;
+        if base < 4 || base > length || base % 4 != 0 {
+            return true;
+        }
+        let size = self.size_at(base);
+        size == 0 || size % 4 != 0 || size > length - base || size > self.method.bytes
+    }
+
+    /// The bytes of the blocks held, where none of them is bad: at most 16 times the code.
+    #[inline]
+    fn bytes_held(&self) -> u32 {
+        self.held.iter().map(|&b| self.size_at(b)).sum()
+    }
+
+    /// The lookup of a call, brcf or ret, by its new base: none where it goes to the code's end.
+    #[inline]
+    fn look_up(&mut self, t: Waiting) -> Result<(), u32> {
+        let base = match t.due {
+            Due::Br => return Ok(()),
+            Due::Call => t.target,
+            Due::Block(b) => b,
+        };
+        if t.target as usize == self.code.len() {
+            return Ok(());
+        }
+        if self.bad_block(base) {
+            return Err(13);
+        }
+        if self.held.contains(&base) {
+            return Ok(());
+        }
+        let size = self.size_at(base);
+        let mut bytes = self.bytes_held();
+        let mut out = 0;
+        while self.held.len() - out + 1 > self.method.blocks as usize || bytes + size > self.method.bytes {
+            bytes -= self.size_at(self.held[out]);
+            out += 1;
+        }
+        self.held.drain(..out);
+        self.held.push(base);
+        self.counts.misses += 1;
+        self.counts.fetched += size as u64 / 4;
+        Ok(())
     }
 
     #[inline]
@@ -638,6 +739,9 @@ impl Machine {
         if self.transfer.is_some() {
             return Err(4);
         }
+        if self.method.on {
+            self.look_up(t)?;
+        }
         self.land();
         if delayed {
             self.transfer = Some(t);
@@ -766,10 +870,10 @@ fn bytes_of(words: &[u32]) -> Vec<u8> {
     words.iter().flat_map(|w| w.to_be_bytes()).collect()
 }
 
-fn workload(name: &str, code: &[u32], budget: u32, mainlen: usize, w: u32) {
+fn workload(name: &str, code: &[u32], entry: u32, method: Method, budget: u32, mainlen: usize, w: u32) {
     let lo = (mainlen / 2) as u32 & !3;
     let hi = mainlen as u32 & !3;
-    let mut m = match Machine::open(bytes_of(code), vec![0; mainlen], vec![0; 1024], w, lo, hi, 0) {
+    let mut m = match Machine::open(bytes_of(code), vec![0; mainlen], vec![0; 1024], w, lo, hi, method, entry) {
         Ok(m) => m,
         Err(k) => {
             println!("{} open refused {}", name, k);
@@ -777,21 +881,32 @@ fn workload(name: &str, code: &[u32], budget: u32, mainlen: usize, w: u32) {
         }
     };
     let a = m.run(budget);
-    println!(
-        "{} {} bundles {} cycles {} spilled {} filled {} checksum {:08x}",
+    print!(
+        "{} {} bundles {} cycles {} spilled {} filled {}",
         name,
         answer_text(a),
         m.counts.bundles,
         m.counts.cycles,
         m.counts.spilled,
-        m.counts.filled,
-        m.checksum()
+        m.counts.filled
     );
+    if method.on {
+        print!(" misses {} fetched {}", m.counts.misses, m.counts.fetched);
+    }
+    println!(" checksum {:08x}", m.checksum());
 }
 
 fn main() {
     let args: Vec<String> = std::env::args().collect();
-    let all = [("loop", LOOP), ("calls", CALLS), ("memory", MEMORY), ("products", PRODUCTS)];
+    let off = Method::default();
+    let on = Method { on: true, blocks: 4, bytes: 96 };
+    let all = [
+        ("loop", LOOP, 0, off),
+        ("calls", CALLS, 0, off),
+        ("memory", MEMORY, 0, off),
+        ("products", PRODUCTS, 0, off),
+        ("methods", METHODS, 4, on),
+    ];
     let parsed = if args.len() == 5 {
         match (args[2].parse::<u32>(), args[3].parse::<usize>(), args[4].parse::<u32>()) {
             (Ok(b), Ok(m), Ok(w)) => Some((b, m, w)),
@@ -801,12 +916,12 @@ fn main() {
         None
     };
     let Some((budget, mainlen, w)) = parsed else {
-        eprintln!("usage: plain loop|calls|memory|products|all BUDGET MAINLEN W");
+        eprintln!("usage: plain loop|calls|memory|products|methods|all BUDGET MAINLEN W");
         std::process::exit(2);
     };
-    for (name, code) in all {
+    for (name, code, entry, method) in all {
         if args[1] == name || args[1] == "all" {
-            workload(name, code, budget, mainlen, w);
+            workload(name, code, entry, method, budget, mainlen, w);
         }
     }
 }

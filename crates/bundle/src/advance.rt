@@ -3,16 +3,16 @@ ghost use mathlib.Core.Path.{_≡_};
 ghost use mathlib.Core.Bool.{true};
 ghost use Rattle.settings.specs.Settings.{admits};
 ghost use Rattle.settings.specs.Setup.{buffers, found, left, lent, setup, setupOf};
-ghost use Rattle.core_state.specs.Core.{foundState, Kept};
-ghost use Rattle.bundle_model.specs.Execute.{handedBack};
+ghost use Rattle.bundle_model.specs.Counts.{noCounts, countsIn};
+ghost use Rattle.bundle_model.specs.Execute.{foundWhole, handedBack, advancedBack, Kept};
 ghost use Rattle.run_model.specs.Loop.{goesOn, advanced};
-use crate::underway::Underway;
+use crate::fetched::bundle;
 use bundle_model::Advanced;
 use bundle_model::Answer;
+use bundle_model::Bundled;
 use bundle_model::Readiness;
-use bundle_model::outcome::ended;
+use bundle_model::outcome::counts_in;
 use bundle_model::outcome::no_counts;
-use bundle_model::outcome::refused;
 use bundle_model::ready::readiness;
 use core_state::Core;
 use core_state::judged::has_ended;
@@ -24,30 +24,33 @@ fn bundles(
     start: Core,
     registers: &mut [u32; 32],
     predicates: &mut [bool; 8],
+    held: &mut [u32; 17],
+    counts: &mut [u64; 6],
     g: Settings,
     code: &[u8],
     main: &mut [u8],
     local: &mut [u8],
     cache: &mut [u32],
     budget: u32,
-) -> Advanced
-    requires { ⌜ (admits g ≡ true) × (g ≡ lent (setupOf (now code) g) (buffers (now main) (now local) (now cache))) ⌝ }
-    ensures { λ r. ⌜ Kept (handedBack registers predicates r (left main local cache) ≡ goesOn (setupOf (now (code .entry)) g) budget (foundState registers predicates start) (found main local cache)) start (r .core) ⌝ }
+) -> Bundled
+    requires { ⌜ (admits g ≡ true) × (g ≡ lent (setupOf (now code) g) (buffers (now main) (now local) (now cache))) × (countsIn (now counts) ≡ noCounts) ⌝ }
+    ensures { λ r. ⌜ Kept (handedBack registers predicates held counts r (left main local cache) ≡ goesOn (setupOf (now (code .entry)) g) budget (foundWhole registers predicates held start) (found main local cache)) start (r .core) (now (held .entry)) (now (held .exit)) ⌝ }
 {
     let mut core = start;
-    let mut counts = no_counts();
     let mut left = budget;
     while 0 < left {
         if has_ended(core, g.code) {
-            return Advanced {
+            return Bundled {
                 answer: Answer::Ended,
                 core,
-                counts,
             };
         }
-        let r = Underway { core, counts }.step(
+        let r = bundle(
+            core,
             &mut *registers,
             &mut *predicates,
+            &mut *held,
+            &mut *counts,
             g,
             code,
             &mut *main,
@@ -59,13 +62,11 @@ fn bundles(
             return r;
         };
         core = r.core;
-        counts = r.counts;
         left = left - 1;
     }
-    Advanced {
+    Bundled {
         answer: Answer::Done,
         core,
-        counts,
     }
 }
 
@@ -74,6 +75,7 @@ pub fn advance(
     core: Core,
     registers: &mut [u32; 32],
     predicates: &mut [bool; 8],
+    held: &mut [u32; 17],
     config: Config,
     code: &[u8],
     main: &mut [u8],
@@ -81,22 +83,42 @@ pub fn advance(
     cache: &mut [u32],
     budget: u32,
 ) -> Advanced
-    ensures { λ r. ⌜ Kept (handedBack registers predicates r (left main local cache) ≡ advanced (setup (now (code .entry)) config) budget (foundState registers predicates core) (found main local cache)) core (r .core) ⌝ }
+    ensures { λ r. ⌜ Kept (advancedBack registers predicates held r (left main local cache) ≡ advanced (setup (now (code .entry)) config) budget (foundWhole registers predicates held core) (found main local cache)) core (r .core) (now (held .entry)) (now (held .exit)) ⌝ }
 {
     let g = config.settings(code, main.len(), local.len(), cache.len());
-    match readiness(core, &*registers, &*predicates, g) {
-        Readiness::Refused(n) => refused(core, n),
-        Readiness::Ended => ended(core),
-        Readiness::Ready => bundles(
+    match readiness(core, &*registers, &*predicates, &*held, code, g) {
+        Readiness::Refused(n) => Advanced {
+            answer: Answer::Refused(n),
             core,
-            &mut *registers,
-            &mut *predicates,
-            g,
-            code,
-            &mut *main,
-            &mut *local,
-            &mut *cache,
-            budget,
-        ),
+            counts: no_counts(),
+        },
+        Readiness::Ended => Advanced {
+            answer: Answer::Ended,
+            core,
+            counts: no_counts(),
+        },
+        Readiness::Ready => {
+            let mut counts = [0u64; 6];
+            let r = bundles(
+                core,
+                &mut *registers,
+                &mut *predicates,
+                &mut *held,
+                &mut counts,
+                g,
+                code,
+                &mut *main,
+                &mut *local,
+                &mut *cache,
+                budget,
+            );
+            let answer = r.answer;
+            let next = r.core;
+            Advanced {
+                answer,
+                core: next,
+                counts: counts_in(&counts),
+            }
+        }
     }
 }

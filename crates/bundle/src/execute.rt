@@ -3,18 +3,18 @@ ghost use mathlib.Core.Path.{_≡_};
 ghost use mathlib.Core.Bool.{true};
 ghost use lib.ListN.{length};
 ghost use Rattle.settings.specs.Settings.{admits};
-ghost use mathlib.Core.List.{List};
-ghost use Prim.Native.Nat.{ℕ};
 ghost use Rattle.settings.specs.Setup.{found, left, setupOf};
-ghost use Rattle.core_state.specs.Core.{foundState, Kept};
-ghost use Rattle.bundle_model.specs.Execute.{handedBack, executed};
+ghost use Rattle.bundle_model.specs.Counts.{Few, countsIn};
+ghost use Rattle.bundle_model.specs.Bundle.{counted};
+ghost use Rattle.bundle_model.specs.Execute.{foundWhole, handedBack, executed, Kept};
+use crate::counting::add;
 use crate::slot_one::carry_out;
 use alu_effects::AluEffect;
-use bundle_model::Advanced;
+use bundle_model::Bundled;
 use bundle_model::Carried;
+use bundle_model::Counts;
 use bundle_model::outcome::done;
 use bundle_model::outcome::refused;
-use bundle_writes::cycles;
 use bundle_writes::write;
 use core_state::Core;
 use effects::Effect;
@@ -25,26 +25,33 @@ pub(crate) fn execute(
     core: Core,
     registers: &mut [u32; 32],
     predicates: &mut [bool; 8],
+    held: &mut [u32; 17],
+    counts: &mut [u64; 6],
     g: Settings,
+    code: &[u8],
     one: Effect,
     two: AluEffect,
     following: u32,
     main: &mut [u8],
     local: &mut [u8],
     cache: &mut [u32],
-) -> Advanced
-    requires { ⌜ (admits g ≡ true) × (g .main ≡ length (now main)) ⌝ }
-    ensures { λ r. ⌜ Kept ((code : List ℕ) → handedBack registers predicates r (left main local cache) ≡ executed g (setupOf code g) (foundState registers predicates core) one two following (found main local cache)) core (r .core) ⌝ }
+) -> Bundled
+    requires { ⌜ (admits g ≡ true) × (g .main ≡ length (now main)) × Few 4294967294 (countsIn (now counts)) ⌝ }
+    ensures { λ r. ⌜ Kept (handedBack registers predicates held counts r (left main local cache) ≡ counted (countsIn (now (counts .entry))) (executed g (setupOf (now (code .entry)) g) (foundWhole registers predicates held core) one two following (found main local cache))) core (r .core) (now (held .entry)) (now (held .exit)) ⌝ }
 {
-    match carry_out(core, g, one, &mut *main, &mut *local, &mut *cache) {
+    match carry_out(
+        core,
+        &mut *held,
+        &mut *counts,
+        g,
+        code,
+        one,
+        &mut *main,
+        &mut *local,
+        &mut *cache,
+    ) {
         Carried::Refused(n) => refused(core, n),
-        Carried::Done {
-            value,
-            st,
-            ss,
-            spilled,
-            filled,
-        } => {
+        Carried::Done { value, st, ss } => {
             let next = write(
                 core,
                 &mut *registers,
@@ -56,7 +63,18 @@ pub(crate) fn execute(
                 st,
                 ss,
             );
-            done(next, cycles(one), spilled, filled)
+            add(
+                &mut *counts,
+                Counts {
+                    bundles: 1,
+                    cycles: 1,
+                    spilled: 0,
+                    filled: 0,
+                    misses: 0,
+                    fetched: 0,
+                },
+            );
+            done(next)
         }
     }
 }

@@ -1,34 +1,40 @@
-// Slot one carried out on the stores. Each kind of effect is judged whole before anything is written.
+// Slot one carried out on the stores, and counted. Each kind of effect is judged whole before anything is written.
 ghost use mathlib.Core.Path.{_≡_};
 ghost use mathlib.Core.Bool.{Bool, true};
 ghost use mathlib.Core.List.{List};
 ghost use Prim.Native.Nat.{ℕ};
 ghost use lib.ListN.{length};
+ghost use Rattle.method_cache.specs.Words.{heldIn};
 ghost use Rattle.settings.specs.Settings.{admits};
 ghost use Rattle.settings.specs.Setup.{found, left, setupOf};
+ghost use Rattle.core_state.specs.State.{withHeld};
 ghost use Rattle.core_state.specs.Core.{joined};
-ghost use Rattle.bundle_model.specs.Execute.{carriedAs, carriedOut};
+ghost use Rattle.bundle_model.specs.Counts.{Few, countsIn};
+ghost use Rattle.bundle_model.specs.Execute.{carriedAs, carriedOut, Tallied};
 use crate::stack_moves::do_stack;
+use crate::transfers::do_transfer;
 use bundle_model::Carried;
 use bundle_model::outcome::nothing;
 use bundle_writes::slot_one::do_load;
 use bundle_writes::slot_one::do_store;
-use bundle_writes::slot_one::judge_transfer;
 use core_state::Core;
 use effects::Effect;
 use settings::Settings;
 
-// Slot one judged, and carried out on the stores.
+// Slot one judged, and carried out on the stores; what it counts beside one cycle is added to the counts.
 pub(crate) fn carry_out(
     core: Core,
+    held: &mut [u32; 17],
+    counts: &mut [u64; 6],
     g: Settings,
+    code: &[u8],
     one: Effect,
     main: &mut [u8],
     local: &mut [u8],
     cache: &mut [u32],
 ) -> Carried
-    requires { ⌜ (admits g ≡ true) × (g .main ≡ length (now main)) ⌝ }
-    ensures { λ r. ⌜ ((code rs : List ℕ) (ps : List Bool) → carriedAs r (left main local cache) ≡ carriedOut g (setupOf code g) (joined rs ps core) one (found main local cache)) ⌝ }
+    requires { ⌜ (admits g ≡ true) × (g .main ≡ length (now main)) × Few 4294967294 (countsIn (now counts)) ⌝ }
+    ensures { λ r. ⌜ ((rs : List ℕ) (ps : List Bool) → (carriedAs r (left main local cache) ≡ carriedOut g (setupOf (now (code .entry)) g) (withHeld (joined rs ps core) (heldIn (now (held .entry)))) one (found main local cache)) × Tallied r g (setupOf (now (code .entry)) g) (withHeld (joined rs ps core) (heldIn (now (held .entry)))) one (now (held .entry)) (now (held .exit)) (now (counts .entry)) (now (counts .exit))) ⌝ }
 {
     let st = core.specials.st;
     let ss = core.specials.ss;
@@ -60,11 +66,25 @@ pub(crate) fn carry_out(
             control,
             words,
             aligned,
-        } => do_stack(core, g, control, words, aligned, &mut *main, &mut *cache),
-        Effect::Transfer {
-            delayed: _,
-            transfer: _,
-        } => judge_transfer(core),
+        } => do_stack(
+            core,
+            &mut *counts,
+            g,
+            control,
+            words,
+            aligned,
+            &mut *main,
+            &mut *cache,
+        ),
+        Effect::Transfer { delayed, transfer } => do_transfer(
+            core,
+            &mut *held,
+            &mut *counts,
+            g,
+            code,
+            delayed,
+            transfer,
+        ),
         Effect::Exception => Carried::Refused(10),
         _ => nothing(),
     }

@@ -7,8 +7,12 @@ ghost use lib.ListN.{length};
 ghost use Rattle.settings.specs.Settings.{admits};
 ghost use Rattle.settings.specs.Setup.{buffers, setupOf};
 ghost use Rattle.core_state.specs.Core.{joined};
-ghost use Rattle.bundle_model.specs.Execute.{carriedAs, carriedOut, Moved};
+ghost use Rattle.core_state.specs.State.{withHeld};
+ghost use Rattle.bundle_model.specs.Counts.{Few, plus, countsIn};
+ghost use Rattle.bundle_model.specs.Execute.{carriedAs, carriedOut, countedBy, extraOf, Moved};
+use crate::counting::add;
 use bundle_model::Carried;
+use bundle_model::Counts;
 use core_state::Core;
 use effects::Effect;
 use settings::Settings;
@@ -23,6 +27,7 @@ use stack_control::plan;
 // A stack instruction: the words that it moves are judged whole, and then moved.
 pub(crate) fn do_stack(
     core: Core,
+    counts: &mut [u64; 6],
     g: Settings,
     control: StackControl,
     words: u32,
@@ -30,8 +35,8 @@ pub(crate) fn do_stack(
     main: &mut [u8],
     cache: &mut [u32],
 ) -> Carried
-    requires { ⌜ (admits g ≡ true) × (g .main ≡ length (now main)) ⌝ }
-    ensures { λ r. ⌜ ((code rs l : List ℕ) (ps : List Bool) → carriedAs r (buffers (now (main .exit)) l (now (cache .exit))) ≡ carriedOut g (setupOf code g) (joined rs ps core) (Effect.Stack control words aligned) (buffers (now (main .entry)) l (now (cache .entry)))) ⌝ }
+    requires { ⌜ (admits g ≡ true) × (g .main ≡ length (now main)) × Few 4294967294 (countsIn (now counts)) ⌝ }
+    ensures { λ r. ⌜ ((code rs hs l : List ℕ) (ps : List Bool) → (carriedAs r (buffers (now (main .exit)) l (now (cache .exit))) ≡ carriedOut g (setupOf code g) (withHeld (joined rs ps core) hs) (Effect.Stack control words aligned) (buffers (now (main .entry)) l (now (cache .entry)))) × (countsIn (now (counts .exit)) ≡ plus (countsIn (now (counts .entry))) (countedBy r (extraOf g (setupOf code g) (withHeld (joined rs ps core) hs) (Effect.Stack control words aligned))))) ⌝ }
 {
     if !aligned {
         return Carried::Refused(5);
@@ -49,13 +54,18 @@ pub(crate) fn do_stack(
             filled,
         } => {
             move_words(&mut *main, &mut *cache, g.lo, g.hi, old, spilled, filled);
-            Carried::Done {
-                value: 0,
-                st,
-                ss,
-                spilled,
-                filled,
-            }
+            add(
+                &mut *counts,
+                Counts {
+                    bundles: 0,
+                    cycles: 0,
+                    spilled: spilled as u64,
+                    filled: filled as u64,
+                    misses: 0,
+                    fetched: 0,
+                },
+            );
+            Carried::Done { value: 0, st, ss }
         }
     }
 }

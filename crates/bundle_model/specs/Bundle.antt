@@ -1,6 +1,6 @@
 -- "Doing a bundle": the writes in their order, the counts, and one bundle as a whole.
 use Prim.Native.Nat.{ℕ, _-_, _^_}
-use mathlib.Core.Bool.{not, cond}
+use mathlib.Core.Bool.{Bool, not, cond, _&&_}
 use mathlib.Core.List.{List, _++_}
 use lib.ListN.{length, take, drop}
 use Rattle.answers.specs.declared.Verdict.{Verdict}
@@ -20,7 +20,7 @@ use Rattle.alu_effects.specs.declared.AluEffect.{AluEffect}
 use Rattle.effects.specs.declared.Effect.{Effect}
 use Rattle.effects.specs.declared.Effect.the-variants as effect
 use Rattle.effects.specs.Effect.{slotOne, slotTwo, onEffect}
-use Rattle.core_state.specs.State.{State, startOf, withSpecial, withStack, withLoad, landed, arrived, withBegun, wellFormed, ended as hasEnded}
+use Rattle.core_state.specs.State.{State, startOf, withSpecial, withStack, withLoad, landed, arrived, withBegun, withHeld, partsOk, ended as hasEnded}
 use Rattle.core_state.specs.declared.WaitingTransfer.{WaitingTransfer}
 use Rattle.core_state.specs.declared.WaitingLoad.the-variants as load
 use Rattle.bundle_model.specs.declared.Answer.{Answer}
@@ -29,8 +29,10 @@ use Rattle.bundle_model.specs.declared.Readiness.{Readiness}
 use Rattle.bundle_model.specs.declared.Readiness.the-variants as ready
 use Rattle.bundle_model.specs.declared.Counts.{Counts}
 use Rattle.core_state.specs.Writes.{writeAlu, nearer, begun}
+use Rattle.method_cache.specs.MethodCache.{heldOk}
+use Rattle.bundle_model.specs.Lookup.{heldBy, missesBy, fetchedBy}
 use Rattle.bundle_model.specs.Refusal.{bundleTests}
-use Rattle.bundle_model.specs.Counts.{noCounts}
+use Rattle.bundle_model.specs.Counts.{noCounts, plus}
 
 -- The stack area's part of main memory, and main memory with that part replaced.
 abbrev pub area : ℕ → ℕ → List ℕ → List ℕ
@@ -79,6 +81,10 @@ onward e waiting following onto = let other = nearer waiting following onto in o
 unfoldable pub written : Settings → Buffers → State → Effect → AluEffect → ℕ → State
 written g b s one two following = onward one (s .transfer) following (writeAlu two (writeOne g b s one (arrived (landed s))))
 
+-- The state after a bundle: what is written, and the blocks held after slot one's lookups.
+abbrev pub stateDone : Settings → Setup → Buffers → State → Effect → AluEffect → ℕ → State
+stateDone g x b s one two following = withHeld (written g b s one two following) (heldBy x s one)
+
 -- Cycles: 1, but 3 where a brnd is executed and 4 where it is another transfer without delay.
 abbrev pub undelayedCycles : Transfer → ℕ
 undelayedCycles (Br target) = 3
@@ -95,8 +101,9 @@ spilledBy g s = onEffect 0 (λ c n m. length (spills c (g .words) (s .specials .
 abbrev pub filledBy : State → Effect → ℕ
 filledBy s = onEffect 0 (λ c n m. length (fills c (s .specials .st) (s .specials .ss) n)) (λ d t. 0)
 
-abbrev pub countsOf : Settings → State → Effect → Counts
-countsOf g s e = record { bundles = 1; cycles = cyclesOf e; spilled = spilledBy g s e; filled = filledBy s e }
+abbrev pub countsOf : Settings → Setup → State → Effect → Counts
+countsOf g x s e =
+    record { bundles = 1; cycles = cyclesOf e; spilled = spilledBy g s e; filled = filledBy s e; misses = missesBy x s e; fetched = fetchedBy x s e }
 
 -- What a step gives: what it returns, the state, the counts, and the buffers.
 pub record Outcome : Type 0 where
@@ -107,6 +114,10 @@ pub record Outcome : Type 0 where
 
 abbrev pub outcome : Returned → State → Counts → Buffers → Outcome
 outcome a s c b = record { answer = a; state = s; counts = c; buffers = b }
+
+-- The outcome with counts from before.
+abbrev pub counted : Counts → Outcome → Outcome
+counted c o = outcome (o .answer) (o .state) (plus c (o .counts)) (o .buffers)
 
 -- What a step gives beside the buffers.
 pub record Stepped : Type 0 where
@@ -134,13 +145,17 @@ bundle g x s b =
     let i = bundleAt (x .code) (s .fetch) in
     let one = slotOne (startOf s) i in
     refusedOr (verdict (bundleTests g x s one)) s b
-    (outcome done (written g b s one (slotTwo (startOf s) i) (followingAt (x .code) (s .fetch))) (countsOf g s one) (buffersAfter g x s one b))
+    (outcome done (stateDone g x b s one (slotTwo (startOf s) i) (followingAt (x .code) (s .fetch))) (countsOf g x s one) (buffersAfter g x s one b))
+
+-- A well-formed state: 11 does not describe it, neither its parts nor the blocks that it holds of this code.
+unfoldable pub wellFormed : Setup → State → Bool
+wellFormed x s = partsOk s && heldOk (x .method) (x .code) (s .further .held)
 
 -- What is judged before a bundle is tried: 1, 11 and ended.
-unfoldable pub readiness : Settings → State → Readiness
-readiness g s =
+unfoldable pub readiness : Settings → Setup → State → Readiness
+readiness g x s =
     cond (not (admits g)) (ready.Refused 1)
-    (cond (not (wellFormed s)) (ready.Refused 11)
+    (cond (not (wellFormed x s)) (ready.Refused 11)
     (cond (hasEnded s (g .code)) ready.Ended ready.Ready))
 
 -- Where a bundle is not to be tried, all is left as found.
@@ -153,4 +168,4 @@ readyOr (ready.Refused n) s b other = outcome (refused n) s noCounts b
 unfoldable pub step : Setup → State → Buffers → Outcome
 step x s b =
     let g = lent x b in
-    readyOr (readiness g s) s b (bundle g x s b)
+    readyOr (readiness g x s) s b (bundle g x s b)

@@ -1,10 +1,12 @@
 -- A bundle by what is fetched: refused, or executed.
 use Prim.Native.Nat.{ℕ}
-use mathlib.Core.Bool.{Bool, true, false, not, cond}
+use mathlib.Core.Bool.{Bool, true, false, not, cond, _&&_}
+use mathlib.Core.List.{List}
 use mathlib.Core.Path.{_≡_, refl, ap, _∙_}
 use Rattle.answers.specs.Answer.{refused}
 use Rattle.answers.specs.TestLaws.{verdict-append}
 use Rattle.isa.specs.declared.Bundle.{Bundle}
+use Rattle.method_cache.specs.MethodCache.{heldOk}
 use Rattle.settings.specs.declared.Settings.{Settings}
 use Rattle.settings.specs.Setup.{Setup, Buffers}
 use Rattle.settings.specs.Settings.{admits}
@@ -12,18 +14,18 @@ use Rattle.fetch.specs.declared.Fetched.the-variants as fetch
 use Rattle.fetch.specs.Fetch.{bundleAt, followingAt, fetchTests, fetched}
 use Rattle.fetch.specs.FetchLaws.{refused-verdict, found-verdict, found-bundle}
 use Rattle.effects.specs.Effect.{slotOne, slotTwo}
-use Rattle.core_state.specs.State.{State, startOf, wellFormed, ended}
+use Rattle.core_state.specs.State.{State, startOf, withHeld, partsOk, ended}
 use Rattle.bundle_model.specs.declared.Readiness.the-variants as ready
 use Rattle.bundle_model.specs.Counts.{noCounts}
-use Rattle.bundle_model.specs.Refusal.{effectTests}
-use Rattle.bundle_model.specs.Bundle.{outcome, bundle, readiness}
+use Rattle.bundle_model.specs.Refusal.{slotTests}
+use Rattle.bundle_model.specs.Bundle.{outcome, bundle, wellFormed, readiness}
 use Rattle.bundle_model.specs.Execute.{executed}
 
 module _ (g : Settings) (x : Setup) (s : State) (b : Buffers) where
   pub bundle-refused : (n : ℕ) → fetched (x .code) (s .fetch) ≡ fetch.Refused n → bundle g x s b ≡ outcome (refused n) s noCounts b
   unfolding bundle
   bundle-refused n e =
-      rw (verdict-append (fetchTests (x .code) (s .fetch)) (effectTests g x s (slotOne (startOf s) (bundleAt (x .code) (s .fetch)))), refused-verdict (x .code) (s .fetch) n e)
+      rw (verdict-append (fetchTests (x .code) (s .fetch)) (slotTests g x s (slotOne (startOf s) (bundleAt (x .code) (s .fetch)))), refused-verdict (x .code) (s .fetch) n e)
 
   pub bundle-found : (i : Bundle) (following : ℕ) → fetched (x .code) (s .fetch) ≡ fetch.Found i following
       → bundle g x s b ≡ executed g x s (slotOne (startOf s) i) (slotTwo (startOf s) i) following b
@@ -33,29 +35,36 @@ module _ (g : Settings) (x : Setup) (s : State) (b : Buffers) where
       let after = followingAt (x .code) (s .fetch) in
       let f = found-bundle (x .code) (s .fetch) i following e in
       let here : bundle g x s b ≡ executed g x s (slotOne (startOf s) there) (slotTwo (startOf s) there) after b
-      = rw (verdict-append (fetchTests (x .code) (s .fetch)) (effectTests g x s (slotOne (startOf s) there)), found-verdict (x .code) (s .fetch) i following e) in
+      = rw (verdict-append (fetchTests (x .code) (s .fetch)) (slotTests g x s (slotOne (startOf s) there)), found-verdict (x .code) (s .fetch) i following e) in
       here
       ∙ ap (λ (j : Bundle). executed g x s (slotOne (startOf s) j) (slotTwo (startOf s) j) after b) (f .0)
       ∙ ap (λ (n : ℕ). executed g x s (slotOne (startOf s) i) (slotTwo (startOf s) i) n b) (f .1)
 
 -- A bundle is tried under settings inside the limits, from a well-formed state that has not ended.
-module _ (g : Settings) (s : State) where
-  ready-all : readiness g s ≡ ready.Ready → (admits g ≡ true) × (wellFormed s ≡ true) × (ended s (g .code) ≡ false)
+module _ (g : Settings) (x : Setup) (s : State) where
+  ready-all : readiness g x s ≡ ready.Ready → (admits g ≡ true) × (wellFormed x s ≡ true) × (ended s (g .code) ≡ false)
   unfolding readiness
-  ready-all = go (admits g) (wellFormed s) (ended s (g .code)) refl refl refl
+  ready-all = go (admits g) (wellFormed x s) (ended s (g .code)) refl refl refl
     where
-      go : (x y z : Bool) → admits g ≡ x → wellFormed s ≡ y → ended s (g .code) ≡ z
-          → cond (not x) (ready.Refused 1) (cond (not y) (ready.Refused 11) (cond z ready.Ended ready.Ready)) ≡ ready.Ready → (admits g ≡ true) × (wellFormed s ≡ true) × (ended s (g .code) ≡ false)
+      go : (u y z : Bool) → admits g ≡ u → wellFormed x s ≡ y → ended s (g .code) ≡ z
+          → cond (not u) (ready.Refused 1) (cond (not y) (ready.Refused 11) (cond z ready.Ended ready.Ready)) ≡ ready.Ready → (admits g ≡ true) × (wellFormed x s ≡ true) × (ended s (g .code) ≡ false)
       go true true false p q r e = (p, q, r)
       go true true true p q r e = (cc, cc, cc)
       go true false z p q r e = (cc, cc, cc)
       go false y z p q r e = (cc, cc, cc)
 
-  pub ready-admits : readiness g s ≡ ready.Ready → admits g ≡ true
+  pub ready-admits : readiness g x s ≡ ready.Ready → admits g ≡ true
   ready-admits e = ready-all e .0
 
-  pub ready-well-formed : readiness g s ≡ ready.Ready → wellFormed s ≡ true
+  pub ready-well-formed : readiness g x s ≡ ready.Ready → wellFormed x s ≡ true
   ready-well-formed e = ready-all e .1
 
-  pub ready-not-ended : readiness g s ≡ ready.Ready → ended s (g .code) ≡ false
+  pub ready-not-ended : readiness g x s ≡ ready.Ready → ended s (g .code) ≡ false
   ready-not-ended e = ready-all e .2
+
+-- What is judged of a state whose blocks held are lent beside it, of what its parts were judged.
+pub ready-as : (g : Settings) (x : Setup) (s : State) (h : List ℕ) (a p q e : Bool) → a ≡ admits g → p ≡ partsOk s → q ≡ heldOk (x .method) (x .code) h → e ≡ ended s (g .code)
+    → cond (not a) (ready.Refused 1) (cond (not (p && q)) (ready.Refused 11) (cond e ready.Ended ready.Ready)) ≡ readiness g x (withHeld s h)
+unfolding readiness wellFormed partsOk ended
+ready-as g x s h a p q e pa pp pq pe =
+    λ i. cond (not (pa i)) (ready.Refused 1) (cond (not (pp i && pq i)) (ready.Refused 11) (cond (pe i) ready.Ended ready.Ready))

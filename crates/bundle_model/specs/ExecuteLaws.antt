@@ -1,32 +1,49 @@
 -- Laws of a decoded bundle: slot one carried out, and the bundle as a whole.
-use Prim.Native.Nat.{ℕ}
+use Prim.Native.Nat.{ℕ, _+_, _-_, _^_, _≤_}
 use mathlib.Core.Bool.{Bool, true, false, not, cond, _||_}
 use lib.ListN.{length}
-use mathlib.Core.List.{List}
+use mathlib.Core.List.{List, [], _++_, append-nil}
 use mathlib.Core.Path.{_≡_, refl, sym, ap, _∙_}
+use native.Mathlib.Omega.{arith}
+use native.Mathlib.Nat.{add-zero}
 use Rattle.stack_cache.specs.declared.StackControl.{StackControl}
 use Rattle.stack_cache.specs.declared.StackControl.the-variants.{Sres, Sens, Sfree, Sspill}
 use Rattle.stack_cache.specs.declared.Plan.{Plan}
 use Rattle.stack_cache.specs.declared.Plan.the-variants as plan
 use Rattle.stack_control.specs.PlanLaws.{planned-told}
 use Rattle.stack_cache.specs.Stack.{badWindow, badAmount, movedOutside, planned, topAfter, spillAfter, spills, fills}
+use Rattle.method_cache.specs.MethodCache.{misses, wordsFetched}
 use Rattle.settings.specs.declared.Settings.{Settings}
-use Rattle.core_state.specs.State.{State, landed, arrived}
+use Rattle.isa.specs.declared.AccessKind.{AccessKind}
+use Rattle.isa.specs.declared.LoadWidth.{LoadWidth}
+use Rattle.isa.specs.declared.StoreWidth.{StoreWidth}
+use Rattle.memory.specs.Access.{storeScale, loadedValue, stored, loadTests, storeTests}
+use Rattle.core_state.specs.State.{State, withHeld, landed, arrived}
 use Rattle.alu_effects.specs.declared.AluEffect.{AluEffect}
+use Rattle.effects.specs.declared.Transfer.{Transfer}
+use Rattle.effects.specs.declared.Transfer.the-variants.{Br, Call, Block}
 use Rattle.effects.specs.declared.Effect.{Effect}
 use Rattle.effects.specs.declared.Effect.the-variants as effect
 use Rattle.answers.specs.declared.Verdict.{Verdict}
 use Rattle.answers.specs.declared.Verdict.the-variants.{Fine, Refused}
 use Rattle.answers.specs.Answer.{done, refused}
-use Rattle.answers.specs.Test.{verdict}
+use Rattle.answers.specs.Test.{Test, verdict}
 use Rattle.settings.specs.Setup.{Setup, Buffers, buffers}
-use Rattle.bundle_model.specs.Bundle.{Stepped, outcome, full, written, writeOne, onward, cyclesOf, spilledBy, filledBy, countsOf, buffersAfter, refusedOr, stackMoved}
-use Rattle.bundle_model.specs.Counts.{noCounts}
-use Rattle.bundle_model.specs.Refusal.{effectTests}
-use Rattle.core_state.specs.Writes.{writeAlu}
 use Rattle.bundle_model.specs.declared.Carried.{Carried}
 use Rattle.bundle_model.specs.declared.Carried.the-variants as carried
-use Rattle.bundle_model.specs.Execute.{refusedWith, doneWith, executed, CarriedOut, plainly, carriedAs, unlessRefused, loadedBy, topBy, spillBy, carriedOut, writeDone, Moved}
+use Rattle.bundle_model.specs.declared.Counts.{Counts}
+use Rattle.bundle_model.specs.Lookup.{lookups, lookupTests, heldBy}
+use Rattle.bundle_model.specs.Refusal.{effectTests, slotTests}
+use Rattle.bundle_model.specs.Counts.{noCounts, plus, plus-none, plus-plus, countsIn}
+use Rattle.core_state.specs.Writes.{writeAlu}
+use Rattle.bundle_model.specs.Bundle.{Outcome, outcome, counted, written, stateDone, writeOne, onward, undelayedCycles, cyclesOf, countsOf, buffersAfter, refusedOr, stackMoved}
+use Rattle.bundle_model.specs.HeldLaws.{written-held}
+use Rattle.bundle_model.specs.Execute.{executed, CarriedOut, plainly, loading, carriedAs, unlessRefused, loadedBy, topBy, spillBy, carriedOut, extraCycles, extraOf, oneCycle, Tallied, writeDone, Moved}
+
+-- An effect that looks nothing up is refused as its own tests say.
+pub slot-plain : (g : Settings) (x : Setup) (s : State) (e : Effect) → lookups x e ≡ [] → slotTests g x s e ≡ effectTests g x s e
+unfolding slotTests lookupTests
+slot-plain g x s e p = ap (λ (l : List ℕ). effectTests g x s e ++ lookupTests (x .method) (x .code) l) p ∙ append-nil (effectTests g x s e)
 
 -- a stack instruction is refused as its plan is
 abbrev pub planVerdict : Plan → Verdict
@@ -59,17 +76,24 @@ pub stack-carried : (g : Settings) (x : Setup) (s : State) (c : StackControl) (n
     (main local cache main′ cache′ : List ℕ) (st′ ss′ j k : ℕ) → not m ≡ false
     → planned c (g .words) (x .lo) (x .hi) (s .specials .st) (s .specials .ss) n ≡ plan.Moves st′ ss′ j k
     → Moved (x .lo) (x .hi) (s .specials .ss) j k main cache main′ cache′
-    → carriedAs (carried.Done 0 st′ ss′ j k) (buffers main′ local cache′) ≡ carriedOut g x s (effect.Stack c n m) (buffers main local cache)
+    → carriedAs (carried.Done 0 st′ ss′) (buffers main′ local cache′) ≡ carriedOut g x s (effect.Stack c n m) (buffers main local cache)
 unfolding carriedOut buffersAfter stackMoved
 stack-carried g x s c n m main local cache main′ cache′ st′ ss′ j k p e v =
     let t = planned-told c (g .words) (x .lo) (x .hi) (s .specials .st) (s .specials .ss) n st′ ss′ j k e in
-    rw (stack-tests g x s c n m, p, e, ← t .top, ← t .spill, ← t .spilled, ← t .filled, t .words-below, t .words-above, ← v .memory, ← v .words)
+    rw (slot-plain g x s (effect.Stack c n m) refl, stack-tests g x s c n m, p, e, ← t .top, ← t .spill, t .words-below, t .words-above, ← v .memory, ← v .words)
 
--- a transfer, by whether one waits
-pub transfer-carried : (waits : Bool) (b : Buffers)
-    → carriedAs (cond waits (carried.Refused 4) plainly) b ≡ unlessRefused (cond waits (Refused 4) Fine) b (carriedAs plainly b)
-transfer-carried true b = refl
-transfer-carried false b = refl
+-- loads and stores, which look nothing up
+pub load-carried : (g : Settings) (x : Setup) (s : State) (k : AccessKind) (w : LoadWidth) (r a : ℕ) (b : Buffers) (o : CarriedOut)
+    → o ≡ unlessRefused (verdict (loadTests g x (s .specials .st) (s .specials .ss) k w a)) b (carriedAs (loading (loadedValue b k w a)) b) → o ≡ carriedOut g x s (effect.Load k w r a) b
+unfolding carriedOut buffersAfter
+load-carried g x s k w r a b o e =
+    e ∙ sym (ap (λ (ts : List Test). unlessRefused (verdict ts) b (carriedAs (loading (loadedValue b k w a)) b)) (slot-plain g x s (effect.Load k w r a) refl))
+
+pub store-carried : (g : Settings) (x : Setup) (s : State) (k : AccessKind) (w : StoreWidth) (a v : ℕ) (b : Buffers) (o : CarriedOut)
+    → o ≡ unlessRefused (verdict (storeTests g x (s .specials .st) (s .specials .ss) k w a)) b (carriedAs plainly (stored b k (2 ^ storeScale w) a v)) → o ≡ carriedOut g x s (effect.Store k w a v) b
+unfolding carriedOut buffersAfter
+store-carried g x s k w a v b o e =
+    e ∙ sym (ap (λ (ts : List Test). unlessRefused (verdict ts) b (carriedAs plainly (stored b k (2 ^ storeScale w) a v))) (slot-plain g x s (effect.Store k w a v) refl))
 
 -- what slot one writes is what its effect writes
 pub write-done : (g : Settings) (b : Buffers) (s onto : State) (one : Effect)
@@ -84,56 +108,110 @@ write-done g b s onto (effect.Stack c n m) = refl
 write-done g b s onto (effect.Transfer d t) = refl
 write-done g b s onto effect.Exception = refl
 
--- a bundle by what its slot one was carried out as: refused, or done
-module _ (g : Settings) (x : Setup) (s : State) (one : Effect) (two : AluEffect) (following : ℕ) (b b′ : Buffers) where
-  refused-as : (n : ℕ) → carriedAs (carried.Refused n) b′ ≡ carriedOut g x s one b → full (refusedWith s n) b′ ≡ executed g x s one two following b
-  unfolding carriedOut executed
-  refused-as n = go (verdict (effectTests g x s one))
-    where
-      go : (v′ : Verdict)
-          → carriedAs (carried.Refused n) b′ ≡ unlessRefused v′ b (carriedAs (carried.Done (loadedBy b one) (topBy s one) (spillBy g s one) (spilledBy g s one) (filledBy s one)) (buffersAfter g x s one b))
-          → full (refusedWith s n) b′ ≡ refusedOr v′ s b (outcome done (written g b s one two following) (countsOf g s one) (buffersAfter g x s one b))
-      go Fine e =
-          let p : carried.Refused n ≡ carried.Done (loadedBy b one) (topBy s one) (spillBy g s one) (spilledBy g s one) (filledBy s one) = ap (λ (c : CarriedOut). c .carried) e in
-          cc
-      go (Refused m) e =
-          let p : carried.Refused n ≡ carried.Refused m = ap (λ (c : CarriedOut). c .carried) e in
-          let k : n ≡ m = cc in
-          ap (λ (x : ℕ). outcome (refused x) s noCounts b′) k ∙ ap (λ (x : Buffers). outcome (refused m) s noCounts x) (ap (λ (c : CarriedOut). c .buffers) e)
+-- What slot one counts, with the one cycle of every bundle, is what the bundle counts.
+pub extra-one : (g : Settings) (x : Setup) (s : State) (e : Effect) → plus (extraOf g x s e) oneCycle ≡ countsOf g x s e
+extra-one g x s e =
+    λ i. record {
+      bundles = 1;
+      cycles = cycles e i;
+      spilled = add-zero (countsOf g x s e .spilled) i;
+      filled = add-zero (countsOf g x s e .filled) i;
+      misses = add-zero (countsOf g x s e .misses) i;
+      fetched = add-zero (countsOf g x s e .fetched) i;
+    }
+  where
+    undelayed : (t : Transfer) → undelayedCycles t - 1 + 1 ≡ undelayedCycles t
+    undelayed (Br target) = refl
+    undelayed (Call target) = refl
+    undelayed (Block target base) = refl
 
-  done-as : (v st ss j k : ℕ) → carriedAs (carried.Done v st ss j k) b′ ≡ carriedOut g x s one b
-      → full (doneWith (onward one (s .transfer) following (writeAlu two (writeDone one v st ss (arrived (landed s))))) (cyclesOf one) j k) b′ ≡ executed g x s one two following b
-  unfolding carriedOut executed written
-  done-as v st ss j k = go (verdict (effectTests g x s one))
-    where
-      go : (v′ : Verdict)
-          → carriedAs (carried.Done v st ss j k) b′ ≡ unlessRefused v′ b (carriedAs (carried.Done (loadedBy b one) (topBy s one) (spillBy g s one) (spilledBy g s one) (filledBy s one)) (buffersAfter g x s one b))
-          → full (doneWith (onward one (s .transfer) following (writeAlu two (writeDone one v st ss (arrived (landed s))))) (cyclesOf one) j k) b′
-          ≡ refusedOr v′ s b (outcome done (onward one (s .transfer) following (writeAlu two (writeOne g b s one (arrived (landed s))))) (countsOf g s one) (buffersAfter g x s one b))
-      go Fine e =
-          let p : carried.Done v st ss j k ≡ carried.Done (loadedBy b one) (topBy s one) (spillBy g s one) (spilledBy g s one) (filledBy s one) = ap (λ (c : CarriedOut). c .carried) e in
-          let q : b′ ≡ buffersAfter g x s one b = ap (λ (c : CarriedOut). c .buffers) e in
-          let pv : v ≡ loadedBy b one = cc in
-          let pt : st ≡ topBy s one = cc in
-          let ps : ss ≡ spillBy g s one = cc in
-          let pj : j ≡ spilledBy g s one = cc in
-          let pk : k ≡ filledBy s one = cc in
-          rw (pv, pt, ps, pj, pk, q, write-done g b s (arrived (landed s)) one)
-      go (Refused m) e =
-          let p : carried.Done v st ss j k ≡ carried.Refused m = ap (λ (c : CarriedOut). c .carried) e in
-          cc
+    transferring : (d : Bool) (t : Transfer) → cond d 0 (undelayedCycles t - 1) + 1 ≡ cond d 1 (undelayedCycles t)
+    transferring true t = refl
+    transferring false t = undelayed t
 
-  pub executed-refused : (r : Carried) (n : ℕ) (z : Stepped) → r ≡ carried.Refused n → carriedAs r b′ ≡ carriedOut g x s one b → z ≡ refusedWith s n
-      → full z b′ ≡ executed g x s one two following b
-  executed-refused r n z e f h = ap (λ (y : Stepped). full y b′) h ∙ refused-as n (ap (λ (c : Carried). carriedAs c b′) (sym e) ∙ f)
+    cycles : (e : Effect) → extraCycles e + 1 ≡ cyclesOf e
+    cycles (effect.Alu a) = refl
+    cycles (effect.Special d v) = refl
+    cycles (effect.Product l h) = refl
+    cycles (effect.Load k w r a) = refl
+    cycles (effect.Store k w a v) = refl
+    cycles (effect.Stack c n m) = refl
+    cycles (effect.Transfer d t) = transferring d t
+    cycles effect.Exception = refl
 
-  pub executed-done : (r : Carried) (v st ss j k : ℕ) (t : State) (n : ℕ) (z : Stepped) → r ≡ carried.Done v st ss j k → carriedAs r b′ ≡ carriedOut g x s one b
-      → t ≡ onward one (s .transfer) following (writeAlu two (writeDone one v st ss (arrived (landed s)))) → n ≡ cyclesOf one → z ≡ doneWith t n j k
-      → full z b′ ≡ executed g x s one two following b
-  executed-done r v st ss j k t n z e f p q h =
-      ap (λ (y : Stepped). full y b′) (h ∙ ap (λ (y : State). doneWith y n j k) p ∙ ap (λ (m : ℕ). doneWith (onward one (s .transfer) following (writeAlu two (writeDone one v st ss (arrived (landed s))))) m j k) q)
-      ∙ done-as v st ss j k (ap (λ (c : Carried). carriedAs c b′) (sym e) ∙ f)
+pub counted-one : (g : Settings) (x : Setup) (s : State) (e : Effect) (c m : Counts) → m ≡ plus c (extraOf g x s e) → plus m oneCycle ≡ plus c (countsOf g x s e)
+counted-one g x s e c m p = ap (λ (y : Counts). plus y oneCycle) p ∙ plus-plus c (extraOf g x s e) oneCycle ∙ ap (plus c) (extra-one g x s e)
 
--- equal results with the same buffers
-pub full-same : (x y : Stepped) (b : Buffers) → x ≡ y → full x b ≡ full y b
-full-same x y b e = ap (λ (r : Stepped). full r b) e
+pub extra-few : (d : Bool) (t : Transfer) → extraCycles (effect.Transfer d t) ≤ 3
+extra-few true t = omega arith
+extra-few false (Br target) = omega arith
+extra-few false (Call target) = omega arith
+extra-few false (Block target base) = omega arith
+
+-- a bundle by what its slot one was carried out as: refused, or done. The blocks that it finds held are put into a state s.
+module _ (g : Settings) (x : Setup) (t : State) (h : List ℕ) (one : Effect) (two : AluEffect) (following : ℕ) (b b′ : Buffers) where
+  s : State
+  s = withHeld t h
+
+  -- The carried-out slot tells how the bundle was judged.
+  refused-verdict : (n : ℕ) (v : Verdict) → carriedAs (carried.Refused n) b′ ≡ unlessRefused v b (carriedAs (carried.Done (loadedBy b one) (topBy s one) (spillBy g s one)) (buffersAfter g x s one b))
+      → (v ≡ Refused n) × (b ≡ b′)
+  refused-verdict n Fine e =
+      let p : carried.Refused n ≡ carried.Done (loadedBy b one) (topBy s one) (spillBy g s one) = ap (λ (c : CarriedOut). c .carried) e in
+      (cc, cc)
+  refused-verdict n (Refused m) e =
+      let p : carried.Refused n ≡ carried.Refused m = ap (λ (c : CarriedOut). c .carried) e in
+      let k : n ≡ m = cc in
+      (ap Refused (sym k), sym (ap (λ (c : CarriedOut). c .buffers) e))
+
+  pub executed-refused : (n : ℕ) (o : Outcome) (c d : Counts) (v : List ℕ) → carriedAs (carried.Refused n) b′ ≡ carriedOut g x (withHeld t h) one b
+      → o ≡ outcome (refused n) (withHeld t v) d b′ → v ≡ h → d ≡ plus c noCounts → o ≡ counted c (executed g x (withHeld t h) one two following b)
+  unfolding carriedOut executed s
+  executed-refused n o c d v e p q r =
+      let f = refused-verdict n (verdict (slotTests g x s one)) e in
+      p
+      ∙ (λ i. outcome (refused n) (withHeld t (q i)) (r i) (sym (f .1) i))
+      ∙ sym (ap (λ (w : Verdict). counted c (refusedOr w s b (outcome done (stateDone g x b s one two following) (countsOf g x s one) (buffersAfter g x s one b)))) (f .0))
+
+  done-verdict : (l st ss : ℕ) (v : Verdict) → carriedAs (carried.Done l st ss) b′ ≡ unlessRefused v b (carriedAs (carried.Done (loadedBy b one) (topBy s one) (spillBy g s one)) (buffersAfter g x s one b))
+      → (v ≡ Fine) × (l ≡ loadedBy b one) × (st ≡ topBy s one) × (ss ≡ spillBy g s one) × (b′ ≡ buffersAfter g x s one b)
+  done-verdict l st ss Fine e =
+      let p : carried.Done l st ss ≡ carried.Done (loadedBy b one) (topBy s one) (spillBy g s one) = ap (λ (c : CarriedOut). c .carried) e in
+      (refl, cc, cc, cc, ap (λ (c : CarriedOut). c .buffers) e)
+  done-verdict l st ss (Refused m) e =
+      let p : carried.Done l st ss ≡ carried.Refused m = ap (λ (c : CarriedOut). c .carried) e in
+      (cc, cc, cc, cc, cc)
+
+  -- No test refuses a slot one that was done.
+  pub done-fine : (l st ss : ℕ) → carriedAs (carried.Done l st ss) b′ ≡ carriedOut g x (withHeld t h) one b → verdict (slotTests g x (withHeld t h) one) ≡ Fine
+  unfolding carriedOut s
+  done-fine l st ss e = done-verdict l st ss (verdict (slotTests g x s one)) e .0
+
+  -- What is written of what slot one was carried out as.
+  as-written : (l st ss : ℕ) → l ≡ loadedBy b one → st ≡ topBy t one → ss ≡ spillBy g t one
+      → onward one (t .transfer) following (writeAlu two (writeDone one l st ss (arrived (landed t)))) ≡ written g b t one two following
+  unfolding written
+  as-written l st ss pl pt ps = rw (pl, pt, ps, write-done g b t (arrived (landed t)) one) refl
+
+  pub executed-done : (l st ss : ℕ) (o : Outcome) (c d : Counts) (u : State) (v : List ℕ) → carriedAs (carried.Done l st ss) b′ ≡ carriedOut g x (withHeld t h) one b
+      → o ≡ outcome done (withHeld u v) d b′ → u ≡ onward one (t .transfer) following (writeAlu two (writeDone one l st ss (arrived (landed t))))
+      → v ≡ heldBy x (withHeld t h) one → d ≡ plus (plus c (extraOf g x (withHeld t h) one)) oneCycle
+      → o ≡ counted c (executed g x (withHeld t h) one two following b)
+  unfolding carriedOut executed s
+  executed-done l st ss o c d u v e p q r z =
+      let f = done-verdict l st ss (verdict (slotTests g x s one)) e in
+      let w : u ≡ written g b t one two following = q ∙ as-written l st ss (f .1) (f .2) (f .3) in
+      let k : d ≡ plus c (countsOf g x s one) = z ∙ plus-plus c (extraOf g x s one) oneCycle ∙ ap (plus c) (extra-one g x s one) in
+      p
+      ∙ (λ i. outcome done (withHeld (w i) (r i)) (k i) (f .4 i))
+      ∙ ap (λ (y : State). outcome done (withHeld y (heldBy x s one)) (plus c (countsOf g x s one)) (buffersAfter g x s one b)) (sym (written-held h g b t one two following))
+      ∙ sym (ap (λ (w : Verdict). counted c (refusedOr w s b (outcome done (stateDone g x b s one two following) (countsOf g x s one) (buffersAfter g x s one b)))) (f .0))
+
+-- What a stack instruction counts, of its plan.
+pub stack-counted : (g : Settings) (x : Setup) (s : State) (c : StackControl) (n : ℕ) (m : Bool) (st′ ss′ j k : ℕ)
+    → planned c (g .words) (x .lo) (x .hi) (s .specials .st) (s .specials .ss) n ≡ plan.Moves st′ ss′ j k
+    → record { bundles = 0; cycles = 0; spilled = j; filled = k; misses = 0; fetched = 0 } ≡ extraOf g x s (effect.Stack c n m)
+unfolding misses wordsFetched
+stack-counted g x s c n m st′ ss′ j k e =
+    let t = planned-told c (g .words) (x .lo) (x .hi) (s .specials .st) (s .specials .ss) n st′ ss′ j k e in
+    λ i. record { bundles = 0; cycles = 0; spilled = t .spilled i; filled = t .filled i; misses = 0; fetched = 0 }

@@ -1,7 +1,12 @@
--- Open first: Bundle.antt, then Refusal.antt, Counts.antt and Execute.antt.
+-- Open first: Bundle.antt, then Lookup.antt, Refusal.antt, Counts.antt and Execute.antt.
+pub mod Lookup
+pub mod LookupLaws
 pub mod Refusal
 pub mod Counts
 pub mod Bundle
 pub mod Execute
+pub mod HeldLaws
 pub mod ExecuteLaws
+pub mod TallyLaws
 pub mod BundleLaws
+pub mod HandedLaws

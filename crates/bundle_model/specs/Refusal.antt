@@ -12,6 +12,7 @@ use Rattle.fetch.specs.Fetch.{fetchTests}
 use Rattle.effects.specs.declared.Effect.{Effect}
 use Rattle.effects.specs.declared.Effect.the-variants as effect
 use Rattle.core_state.specs.State.{State, noneWaits}
+use Rattle.bundle_model.specs.Lookup.{lookups, lookupTests}
 
 -- 5, 7 and 8 of a stack instruction: its register operand is no multiple of 4; a bad window or amount; a word that it moves lies
 -- outside the stack area.
@@ -22,7 +23,7 @@ stackTests g x st ss c n aligned =
     test 8 (movedOutside c (g .words) (x .lo) (x .hi) st ss n) ∷
     []
 
--- The order after 1, 11, ended and spent is 2, 3, 10, 4, 5, 7, 8, 6. The tests from 10 on are of slot one's effect, each kind of
+-- The order after 1, 11, ended and spent is 2, 3, 10, 4, 5, 7, 8, 6, 13. The tests from 10 to 6 are of slot one's effect, each kind of
 -- which has a row with those that it can fail, in that order; slot two refuses nothing. 10 is an executed trap or xret, and 4 a second
 -- transfer executed before the first has happened.
 abbrev pub effectTests : Settings → Setup → State → Effect → List Test
@@ -35,6 +36,10 @@ effectTests g x s (effect.Stack c n m) = stackTests g x (s .specials .st) (s .sp
 effectTests g x s (effect.Transfer d t) = test 4 (not (noneWaits (s .transfer))) ∷ []
 effectTests g x s effect.Exception = test 10 true ∷ []
 
+-- All tests of slot one: behind those of its effect is 13, of what it looks up.
+unfoldable pub slotTests : Settings → Setup → State → Effect → List Test
+slotTests g x s e = effectTests g x s e ++ lookupTests (x .method) (x .code) (lookups x e)
+
 -- All tests of a bundle whose slot one has this effect.
 abbrev pub bundleTests : Settings → Setup → State → Effect → List Test
-bundleTests g x s e = fetchTests (x .code) (s .fetch) ++ effectTests g x s e
+bundleTests g x s e = fetchTests (x .code) (s .fetch) ++ slotTests g x s e

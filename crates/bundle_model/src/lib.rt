@@ -19,30 +19,32 @@ pub enum Readiness {
     Refused(u32),
 }
 
-// The four counts.
+// The six counts.
 pub struct Counts {
     pub bundles: u64,
     pub cycles: u64,
     pub spilled: u64,
     pub filled: u64,
+    pub misses: u64,
+    pub fetched: u64,
 }
 
-// A step's answer, with the state beside registers and predicates handed back and the counts of that one bundle.
+// A bundle's answer, with the state beside registers and predicates handed back. What is counted is added to numbers that are lent.
+pub struct Bundled {
+    pub answer: Answer,
+    pub core: Core,
+}
+
+// The same after any number of bundles, with their counts.
 pub struct Advanced {
     pub answer: Answer,
     pub core: Core,
     pub counts: Counts,
 }
 
-// Slot one carried out on the stores: refused with a number, or done. What is done tells the value that was loaded, where a stack
-// instruction leaves st and ss, and the words that it spilled and filled; what does not apply is 0.
+// Slot one carried out on the stores: refused with a number, or done. What is done tells the value that was loaded, and where a stack
+// instruction leaves st and ss; what does not apply is 0.
 pub enum Carried {
     Refused(u32),
-    Done {
-        value: u32,
-        st: u32,
-        ss: u32,
-        spilled: u32,
-        filled: u32,
-    },
+    Done { value: u32, st: u32, ss: u32 },
 }

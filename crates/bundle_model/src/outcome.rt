@@ -1,69 +1,30 @@
-// What is given of a bundle that is refused or done, and where the code has ended.
+// What is given of a bundle that is refused or done, of slot one carried out, and of what was counted.
 ghost use mathlib.Core.Path.{_≡_};
-ghost use mathlib.Core.Bool.{Bool};
-ghost use mathlib.Core.List.{List};
-ghost use Prim.Native.Nat.{ℕ};
-ghost use Rattle.core_state.specs.Core.{joined};
-ghost use Rattle.bundle_model.specs.Counts.{noCounts};
-ghost use Rattle.bundle_model.specs.Execute.{steppedAs, refusedWith, endedWith, doneWith, plainly};
-use crate::Advanced;
+ghost use Rattle.bundle_model.specs.Counts.{noCounts, countsIn};
+ghost use Rattle.bundle_model.specs.Execute.{bundled, plainly};
 use crate::Answer;
+use crate::Bundled;
 use crate::Carried;
 use crate::Counts;
 use core_state::Core;
 
-pub fn no_counts() -> Counts
-    ensures { λ r. ⌜ r ≡ noCounts ⌝ }
+// A refused bundle changes nothing.
+pub fn refused(core: Core, n: u32) -> Bundled
+    ensures { λ r. ⌜ r ≡ bundled (Answer.Refused n) core ⌝ }
 {
-    Counts {
-        bundles: 0,
-        cycles: 0,
-        spilled: 0,
-        filled: 0,
-    }
-}
-
-// A refused bundle changes nothing and counts nothing.
-pub fn refused(core: Core, n: u32) -> Advanced
-    ensures { λ r. ⌜ ((rs : List ℕ) (ps : List Bool) → steppedAs rs ps r ≡ refusedWith (joined rs ps core) n) × (r .core ≡ core) ⌝ }
-{
-    Advanced {
+    Bundled {
         answer: Answer::Refused(n),
         core,
-        counts: no_counts(),
     }
 }
 
-// Where the code has ended all stays as it is, and nothing is counted.
-pub fn ended(core: Core) -> Advanced
-    ensures { λ r. ⌜ ((rs : List ℕ) (ps : List Bool) → steppedAs rs ps r ≡ endedWith (joined rs ps core)) × (r .core ≡ core) ⌝ }
+pub fn done(core: Core) -> Bundled
+    ensures { λ r. ⌜ r ≡ bundled Answer.Done core ⌝ }
 {
-    Advanced {
-        answer: Answer::Ended,
-        core,
-        counts: no_counts(),
-    }
-}
-
-pub fn done(core: Core, cycles: u64, spilled: u32, filled: u32) -> Advanced
-    ensures { λ r. ⌜ ((rs : List ℕ) (ps : List Bool) → steppedAs rs ps r ≡ doneWith (joined rs ps core) cycles spilled filled) × (r .core ≡ core) ⌝ }
-{
-    Advanced {
+    Bundled {
         answer: Answer::Done,
         core,
-        counts: Counts {
-            bundles: 1,
-            cycles,
-            spilled: wide(spilled),
-            filled: wide(filled),
-        },
     }
-}
-
-fn wide(n: u32) -> u64
-    ensures { λ r. ⌜ r ≡ n ⌝ }
-{
-    n as u64
 }
 
 // Slot one carried out, where it reads and writes no store or has nothing to tell.
@@ -74,7 +35,32 @@ pub fn nothing() -> Carried
         value: 0,
         st: 0,
         ss: 0,
+    }
+}
+
+pub fn no_counts() -> Counts
+    ensures { λ r. ⌜ r ≡ noCounts ⌝ }
+{
+    Counts {
+        bundles: 0,
+        cycles: 0,
         spilled: 0,
         filled: 0,
+        misses: 0,
+        fetched: 0,
+    }
+}
+
+// The counts of the six numbers that were lent.
+pub fn counts_in(counts: &[u64; 6]) -> Counts
+    ensures { λ r. ⌜ r ≡ countsIn (now (counts .entry)) ⌝ }
+{
+    Counts {
+        bundles: counts[0],
+        cycles: counts[1],
+        spilled: counts[2],
+        filled: counts[3],
+        misses: counts[4],
+        fetched: counts[5],
     }
 }

@@ -1,15 +1,15 @@
-// What a bundle that is not refused writes to the state, in the order of the writes, and its cycles; before that, slot one carried out on
-// the stores.
+// What a bundle that is not refused writes to the state, in the order of the writes, and the cycles of a transfer; before that, slot one
+// carried out on the stores, and looked up.
 ghost use mathlib.Core.Path.{_≡_};
-ghost use mathlib.Core.Bool.{Bool, cond};
+ghost use mathlib.Core.Bool.{Bool};
 ghost use mathlib.Core.List.{List};
 ghost use Prim.Native.Nat.{ℕ};
 ghost use Rattle.products.specs.Words.{nearerProductWords};
 ghost use Rattle.core_state.specs.State.{landed, arrived};
 ghost use Rattle.core_state.specs.Writes.{writeAlu};
 ghost use Rattle.core_state.specs.Core.{joined, waitingTransfer, foundState, leftState, loadWords, Written};
-ghost use Rattle.bundle_model.specs.Bundle.{onward, cyclesOf, undelayedCycles};
-ghost use Rattle.bundle_model.specs.Execute.{writeDone};
+ghost use Rattle.bundle_model.specs.Bundle.{onward};
+ghost use Rattle.bundle_model.specs.Execute.{writeDone, extraCycles};
 ghost use Rattle.bundle_writes.specs.Words.{onwardWords, loadAfter, productsAfter};
 use alu_effects::AluEffect;
 use core_state::Core;
@@ -19,6 +19,7 @@ use core_state::waiting::load_waits;
 use effects::Effect;
 use effects::Transfer;
 
+pub mod lookup;
 pub mod slot_one;
 
 // What slot one writes, where carrying it out gave a loaded value, or st and ss.
@@ -83,25 +84,16 @@ pub fn write(
     onward(last, one, waiting, following)
 }
 
-// A delayed transfer's own bundle is one cycle; a form without delay pays for its delay slots.
-fn transfer_cycles(delayed: bool, t: Transfer) -> u64
-    ensures { λ r. ⌜ r ≡ cond delayed 1 (undelayedCycles t) ⌝ }
+// The cycles of a transfer beside the one of every bundle: a form without delay pays for its delay slots.
+pub fn extra_cycles(delayed: bool, t: Transfer) -> u64
+    ensures { λ r. ⌜ r ≡ extraCycles (Effect.Transfer delayed t) ⌝ }
 {
     if delayed {
-        return 1;
+        return 0;
     }
     match t {
-        Transfer::Br { target: _ } => 3,
-        Transfer::Call { target: _ } => 4,
-        Transfer::Block { target: _, base: _ } => 4,
-    }
-}
-
-pub fn cycles(one: Effect) -> u64
-    ensures { λ r. ⌜ r ≡ cyclesOf one ⌝ }
-{
-    match one {
-        Effect::Transfer { delayed, transfer } => transfer_cycles(delayed, transfer),
-        _ => 1,
+        Transfer::Br { target: _ } => 2,
+        Transfer::Call { target: _ } => 3,
+        Transfer::Block { target: _, base: _ } => 3,
     }
 }

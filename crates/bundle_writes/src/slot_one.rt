@@ -1,19 +1,23 @@
 // Slot one carried out on the stores, stack instructions aside: judged whole, and then done.
 ghost use mathlib.Core.Path.{_≡_};
-ghost use mathlib.Core.Bool.{not, cond};
-ghost use mathlib.Core.List.{List};
+ghost use mathlib.Core.Bool.{not};
+ghost use mathlib.Core.List.{List, _∷_};
 ghost use Prim.Native.Nat.{ℕ, _^_};
-ghost use Rattle.answers.specs.Test.{verdict};
+ghost use Rattle.answers.specs.Test.{test, verdict};
+ghost use Rattle.bundle_model.specs.Lookup.{basesOf, lookupTests};
+ghost use Rattle.bundle_writes.specs.Lookup.{judgedAs};
 ghost use Rattle.settings.specs.Setup.{found, left, setupOf};
 ghost use Rattle.memory.specs.Access.{storeScale, loadedValue, loadTests, stored, storeTests};
 ghost use Rattle.core_state.specs.State.{noneWaits};
 ghost use Rattle.core_state.specs.Core.{waitingTransfer};
 ghost use Rattle.bundle_model.specs.Execute.{plainly, loading, carriedAs, unlessRefused};
+use crate::lookup::judge_lookup;
 use answers::Verdict;
 use bundle_model::Carried;
 use bundle_model::outcome::nothing;
 use core_state::Core;
 use core_state::waiting::none_waits;
+use effects::Transfer;
 use isa::AccessKind;
 use isa::LoadWidth;
 use isa::StoreWidth;
@@ -43,8 +47,6 @@ pub fn do_load(
         value: load(main, local, cache, kind, width, address),
         st: 0,
         ss: 0,
-        spilled: 0,
-        filled: 0,
     }
 }
 
@@ -77,13 +79,16 @@ pub fn do_store(
     nothing()
 }
 
-// A transfer is refused while one waits.
-pub fn judge_transfer(core: Core) -> Carried
-    ensures { λ r. ⌜ r ≡ cond (not (noneWaits (waitingTransfer (core .transfer)))) (Carried.Refused 4) plainly ⌝ }
+// A transfer is refused while one waits, and then by what its lookup asks.
+pub fn judge_transfer(core: Core, g: Settings, code: &[u8], t: Transfer) -> Carried
+    ensures { λ r. ⌜ r ≡ judgedAs (verdict (test 4 (not (noneWaits (waitingTransfer (core .transfer)))) ∷ lookupTests (g .method) (now (code .entry)) (basesOf (setupOf (now (code .entry)) g) t))) ⌝ }
 {
     let waiting = core.transfer;
     if !none_waits(waiting) {
         return Carried::Refused(4);
+    }
+    if let Verdict::Refused(number) = judge_lookup(g, code, t) {
+        return Carried::Refused(number);
     }
     nothing()
 }

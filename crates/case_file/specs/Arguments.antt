@@ -54,6 +54,10 @@ codeWord (Argument.Mistake r) = CodeEntry.Mistake r
 unfoldable pub codeEntry : List ℕ → ℕ → CodeEntry
 codeEntry line at = cond (isEnd line at) CodeEntry.End (codeWord (wordField line at))
 
+-- The next entry of a held line: its bases are numbers.
+unfoldable pub heldEntry : List ℕ → ℕ → CodeEntry
+heldEntry line at = cond (isEnd line at) CodeEntry.End (codeWord (numberField line at))
+
 -- The next entry of a private line.
 unfoldable pub privateEntry : List ℕ → ℕ → PrivateEntry
 privateEntry line at =

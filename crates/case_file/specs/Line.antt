@@ -18,6 +18,8 @@ use Rattle.case_words.specs.declared.TransferKind.the-variants as TransferKind
 use Rattle.case_file.specs.declared.Line.{Line}
 use Rattle.case_file.specs.declared.Line.the-variants as Line
 use Rattle.case_file.specs.declared.Reason.the-variants as Reason
+use Rattle.case_file.specs.declared.TwoNumbers.{TwoNumbers}
+use Rattle.case_file.specs.declared.TwoNumbers.the-variants as TwoNumbers
 use Rattle.case_words.specs.Names.{keywordOf, transferKindOf, specialNameOf, isSpecial}
 use Rattle.case_file.specs.Arguments.{isEmpty, bytesOf, isEnd, numberField, wordField}
 
@@ -81,10 +83,17 @@ ofWord NumberAndWord.MainWord address w = Line.MainWord address w
 ofWord NumberAndWord.LocalWord address w = Line.LocalWord address w
 ofWord NumberAndWord.CacheWord place w = Line.CacheWord place w
 
+-- The lines of two numbers.
+abbrev pub ofTwo : TwoNumbers → ℕ → ℕ → Line
+ofTwo TwoNumbers.Pred n bit = pred n bit
+ofTwo TwoNumbers.Br target wait = Line.Br target wait
+ofTwo TwoNumbers.Call target wait = Line.Call target wait
+ofTwo TwoNumbers.Method blocks bytes = Line.Method blocks bytes
+
 -- The waiting transfer, by its kind: TARGET and WAIT, or TARGET, BASE and WAIT.
 unfoldable pub transfer : List ℕ → ℕ → TransferKind → Line
-transfer line at TransferKind.Br = twoNumbers line at Line.Br
-transfer line at TransferKind.Call = twoNumbers line at Line.Call
+transfer line at TransferKind.Br = twoNumbers line at (ofTwo TwoNumbers.Br)
+transfer line at TransferKind.Call = twoNumbers line at (ofTwo TwoNumbers.Call)
 transfer line at TransferKind.Block = threeNumbers line at Line.Block
 transfer line at TransferKind.Unknown = Line.Mistake Reason.NoSuchTransfer
 
@@ -97,7 +106,7 @@ lineAfter line at (Keyword.OneNumber k) = number line at (λ n at. end line at (
 lineAfter line at Keyword.Stack = threeNumbers line at Line.Stack
 lineAfter line at Keyword.Private = list line at (Line.Private at)
 lineAfter line at (Keyword.NumberAndWord k) = number line at (λ n at. word line at (λ w at. end line at (ofWord k n w)))
-lineAfter line at Keyword.Pred = twoNumbers line at pred
+lineAfter line at Keyword.Pred = twoNumbers line at (ofTwo TwoNumbers.Pred)
 lineAfter line at Keyword.Special =
     field line at (λ f.
     let name = specialNameOf (bytesOf line f) in
@@ -109,6 +118,8 @@ lineAfter line at Keyword.Write = list line at (Line.Write at)
 lineAfter line at Keyword.Listing = end line at Line.Listing
 lineAfter line at Keyword.Product =
     number line at (λ wait at. word line at (λ low at. word line at (λ high at. end line at (Line.Product wait low high))))
+lineAfter line at Keyword.Method = twoNumbers line at (ofTwo TwoNumbers.Method)
+lineAfter line at Keyword.Held = list line at (Line.Held at)
 lineAfter line at Keyword.Unknown = Line.Mistake Reason.UnknownWord
 
 -- What a line says: nothing, or by its first field.

@@ -4,7 +4,7 @@ use mathlib.Core.List.{List, [], _∷_}
 use mathlib.Core.Path.{_≡_, refl}
 use Prim.Native.String as Text
 use Rattle.case_file.specs.declared.Line.{Line}
-use Rattle.case_file.specs.declared.Line.the-variants.{Empty, Mistake, Case, Code, Private, Main, Local, Stack, Entry, Fetch, Base, Reg, Pred, Special, Br, Call, Block, Load, MainWord, LocalWord, CacheWord, Run, Step, Check, Write, Listing, Product}
+use Rattle.case_file.specs.declared.Line.the-variants.{Empty, Mistake, Case, Code, Private, Main, Local, Stack, Entry, Fetch, Base, Reg, Pred, Special, Br, Call, Block, Load, MainWord, LocalWord, CacheWord, Run, Step, Check, Write, Listing, Product, Method, Held}
 use Rattle.case_words.specs.declared.SpecialName.the-variants.{Sro}
 use Rattle.case_file.specs.declared.Reason.the-variants as Reason
 use Rattle.text.specs.Field.{spaces, fieldLength, fieldFrom, sameBytes, isNameByte, areNameBytes, isName}
@@ -22,7 +22,7 @@ abbrev pub expected : List (Text.String × Line) → List Line
 expected [] = []
 expected ((w, l) ∷ rows) = l ∷ expected rows
 
--- The rows in the order of the format. The numbers of a case, code or private line are positions in the line.
+-- The rows in the order of the format. The numbers of a case, code, private or held line are positions in the line.
 unfoldable pub rows : List (Text.String × Line)
 rows =
     ("case bunch-split.2", Case 5)
@@ -52,6 +52,8 @@ rows =
     ∷ ("write add r1 r2 r3 ; nor r4 r5 r6", Write 5)
     ∷ ("list", Listing)
     ∷ ("product 2 0000002A FFFFFFFF", Product 2 42 4294967295)
+    ∷ ("method 16 4294967295", Method 16 4294967295)
+    ∷ ("held 8 64", Held 4)
     ∷ []
 
 -- Spaces, comments, and what has no meaning.
@@ -78,6 +80,8 @@ others =
     ∷ ("code", Mistake Reason.FieldMissing)
     ∷ ("write", Mistake Reason.FieldMissing)
     ∷ ("list 0", Mistake Reason.FieldTooMany)
+    ∷ ("method 16", Mistake Reason.FieldMissing)
+    ∷ ("held", Mistake Reason.FieldMissing)
     ∷ []
 
 pub rows-read : saysOf rows ≡ expected rows

@@ -1,6 +1,6 @@
 // The fields after a line's keyword.
 ghost use mathlib.Core.Path.{_≡_};
-ghost use Rattle.case_file.specs.Arguments.{isEnd, numberField, wordField, codeEntry, privateEntry};
+ghost use Rattle.case_file.specs.Arguments.{isEnd, numberField, wordField, codeEntry, heldEntry, privateEntry};
 use crate::Argument;
 use crate::CodeEntry;
 use crate::PrivateEntry;
@@ -57,6 +57,18 @@ pub fn code_entry(line: &[u8], at: usize) -> CodeEntry
         return CodeEntry::End;
     }
     match word_field(line, at) {
+        Argument::Value { value, next } => CodeEntry::Word { word: value, next },
+        Argument::Mistake(r) => CodeEntry::Mistake(r),
+    }
+}
+
+pub fn held_entry(line: &[u8], at: usize) -> CodeEntry
+    ensures { λ r. ⌜ r ≡ heldEntry (now (line .entry)) at ⌝ }
+{
+    if ended(line, at) {
+        return CodeEntry::End;
+    }
+    match number_field(line, at) {
         Argument::Value { value, next } => CodeEntry::Word { word: value, next },
         Argument::Mistake(r) => CodeEntry::Mistake(r),
     }

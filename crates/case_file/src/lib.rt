@@ -11,7 +11,7 @@ pub enum Argument {
     Mistake(Reason),
 }
 
-// The next entry of a code line.
+// The next entry of a code line, or of a held line.
 pub enum CodeEntry {
     Word { word: u32, next: usize },
     Mistake(Reason),
@@ -25,7 +25,7 @@ pub enum PrivateEntry {
     End,
 }
 
-// A line by its keyword. Case holds the position of the name, Code and Private that of their lists,
+// A line by its keyword. Case holds the position of the name, Code, Private and Held that of their lists,
 // Write that of the text of a bundle.
 pub enum Line {
     Empty,
@@ -55,6 +55,16 @@ pub enum Line {
     Write { text: usize },
     Listing,
     Product { wait: u32, low: u32, high: u32 },
+    Method { blocks: u32, bytes: u32 },
+    Held { list: usize },
+}
+
+// The lines of two numbers.
+pub enum TwoNumbers {
+    Pred,
+    Br,
+    Call,
+    Method,
 }
 
 // Why a line is a mistake.
@@ -85,4 +95,5 @@ pub enum Reason {
     NotASpecial,
     NotAnOffset,
     TooManyProducts,
+    TooManyHeld,
 }

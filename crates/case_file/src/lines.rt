@@ -1,10 +1,11 @@
 // What a line of a case file says.
 ghost use mathlib.Core.Path.{_≡_};
 ghost use mathlib.Core.Bool.{cond};
-ghost use Rattle.case_file.specs.Line.{end, list, twoNumbers, threeNumbers, reg, pred, ofNumber, ofWord, lineAfter, lineOf};
+ghost use Rattle.case_file.specs.Line.{end, list, twoNumbers, threeNumbers, reg, pred, ofNumber, ofWord, ofTwo, lineAfter, lineOf};
 use crate::Argument;
 use crate::Line;
 use crate::Reason;
+use crate::TwoNumbers;
 use crate::arguments::ended;
 use crate::arguments::number_field;
 use crate::arguments::word_field;
@@ -127,21 +128,6 @@ fn pred(number: u32, bit: u32) -> Line
     }
 }
 
-fn pred_line(line: &[u8], at: usize) -> Line
-    ensures { λ r. ⌜ r ≡ lineAfter (now (line .entry)) at Keyword.Pred ⌝ }
-{
-    match number_field(line, at) {
-        Argument::Mistake(r) => Line::Mistake(r),
-        Argument::Value { value, next } => match number_field(line, next) {
-            Argument::Mistake(r) => Line::Mistake(r),
-            Argument::Value {
-                value: bit,
-                next: at,
-            } => whole(line, at, pred(value, bit)),
-        },
-    }
-}
-
 fn special_line(line: &[u8], at: usize) -> Line
     ensures { λ r. ⌜ r ≡ lineAfter (now (line .entry)) at Keyword.Special ⌝ }
 {
@@ -194,30 +180,28 @@ fn three_numbers(line: &[u8], at: usize, stack: bool) -> Line
     }
 }
 
-fn br_or_call(call: bool, target: u32, wait: u32) -> Line
-    ensures { λ r. ⌜ r ≡ cond call (Line.Call target wait) (Line.Br target wait) ⌝ }
+fn of_two(k: TwoNumbers, a: u32, b: u32) -> Line
+    ensures { λ r. ⌜ r ≡ ofTwo k a b ⌝ }
 {
-    if call {
-        return Line::Call { target, wait };
+    match k {
+        TwoNumbers::Pred => pred(a, b),
+        TwoNumbers::Br => Line::Br { target: a, wait: b },
+        TwoNumbers::Call => Line::Call { target: a, wait: b },
+        TwoNumbers::Method => Line::Method {
+            blocks: a,
+            bytes: b,
+        },
     }
-    Line::Br { target, wait }
 }
 
-fn two_numbers(line: &[u8], at: usize, call: bool) -> Line
-    ensures { λ r. ⌜ r ≡ twoNumbers (now (line .entry)) at (λ t w. cond call (Line.Call t w) (Line.Br t w)) ⌝ }
+fn two_numbers(line: &[u8], at: usize, k: TwoNumbers) -> Line
+    ensures { λ r. ⌜ r ≡ twoNumbers (now (line .entry)) at (ofTwo k) ⌝ }
 {
     match number_field(line, at) {
         Argument::Mistake(r) => Line::Mistake(r),
-        Argument::Value {
-            value: target,
-            next,
-        } => match number_field(line, next) {
+        Argument::Value { value: a, next } => match number_field(line, next) {
             Argument::Mistake(r) => Line::Mistake(r),
-            Argument::Value { value: wait, next } => whole(
-                line,
-                next,
-                br_or_call(call, target, wait),
-            ),
+            Argument::Value { value: b, next } => whole(line, next, of_two(k, a, b)),
         },
     }
 }
@@ -232,8 +216,8 @@ fn transfer_line(line: &[u8], at: usize) -> Line
         return Line::Mistake(Reason::FieldMissing);
     }
     match transfer_kind(&line[start..end]) {
-        TransferKind::Br => two_numbers(line, end, false),
-        TransferKind::Call => two_numbers(line, end, true),
+        TransferKind::Br => two_numbers(line, end, TwoNumbers::Br),
+        TransferKind::Call => two_numbers(line, end, TwoNumbers::Call),
         TransferKind::Block => three_numbers(line, end, false),
         TransferKind::Unknown => Line::Mistake(Reason::NoSuchTransfer),
     }
@@ -269,7 +253,7 @@ fn after_keyword(line: &[u8], at: usize, k: Keyword) -> Line
         Keyword::Stack => three_numbers(line, at, true),
         Keyword::Private => list_line(line, at, Line::Private { list: at }),
         Keyword::NumberAndWord(k) => word_line(line, at, k),
-        Keyword::Pred => pred_line(line, at),
+        Keyword::Pred => two_numbers(line, at, TwoNumbers::Pred),
         Keyword::Special => special_line(line, at),
         Keyword::Transfer => transfer_line(line, at),
         Keyword::Step => whole(line, at, Line::Step),
@@ -277,6 +261,8 @@ fn after_keyword(line: &[u8], at: usize, k: Keyword) -> Line
         Keyword::Write => list_line(line, at, Line::Write { text: at }),
         Keyword::Listing => whole(line, at, Line::Listing),
         Keyword::Product => product_line(line, at),
+        Keyword::Method => two_numbers(line, at, TwoNumbers::Method),
+        Keyword::Held => list_line(line, at, Line::Held { list: at }),
         Keyword::Unknown => Line::Mistake(Reason::UnknownWord),
     }
 }

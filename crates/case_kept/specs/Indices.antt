@@ -3,10 +3,10 @@ use Prim.Native.Nat.{ℕ}
 
 -- How many numbers are kept, and where the case's own end.
 abbrev pub ALL : ℕ
-ALL = 150200
+ALL = 150300
 
 abbrev pub CASE-END : ℕ
-CASE-END = 190
+CASE-END = 210
 
 -- The lengths of code and memories, the stack cache's words, the stack area, and the entry.
 abbrev pub CODE : ℕ
@@ -102,6 +102,23 @@ PRODUCTS = 180
 abbrev pub PRODUCT : ℕ
 PRODUCT = 181
 
+-- The method cache: whether a line gives it, and the blocks and bytes of its capacity. Whether a line gives blocks that it holds, how
+-- many it holds, and behind that their bases, the oldest first.
+abbrev pub METHOD : ℕ
+METHOD = 187
+
+abbrev pub BLOCKS : ℕ
+BLOCKS = 188
+
+abbrev pub BYTES : ℕ
+BYTES = 189
+
+abbrev pub HOLDS : ℕ
+HOLDS = 190
+
+abbrev pub HELD : ℕ
+HELD = 191
+
 -- How far the places of each store reach, how many are noted, the number of the line, the phase, and the notes.
 abbrev pub REACH : ℕ
 REACH = 176
@@ -110,14 +127,14 @@ abbrev pub NOTED : ℕ
 NOTED = 179
 
 abbrev pub LINE : ℕ
-LINE = 190
+LINE = 210
 
 abbrev pub PHASE : ℕ
-PHASE = 191
+PHASE = 211
 
 -- The phase of a report that has ended.
 abbrev pub STOPPED : ℕ
 STOPPED = 4
 
 abbrev pub NOTES : ℕ
-NOTES = 200
+NOTES = 300

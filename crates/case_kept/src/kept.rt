@@ -4,9 +4,9 @@ ghost use mathlib.Core.Path.{_≡_};
 ghost use Prim.Native.Nat.{_+_};
 ghost use Rattle.case_kept.specs.Kept.{keptNumber, keptWord, isSet, put, flag as flagOf, keptFlags, forgotten};
 
-pub const ALL: usize = 150200;
+pub const ALL: usize = 150300;
 
-pub type Kept = [u64; 150200];
+pub type Kept = [u64; 150300];
 
 // Lengths are in bytes, WORDS is the number of stack cache words.
 pub const CODE: usize = 0;
@@ -80,15 +80,27 @@ pub const PRODUCTS: usize = 180;
 
 pub const PRODUCT: usize = 181;
 
+// Whether a line gives the method cache, and its capacity.
+pub const METHOD: usize = 187;
+
+pub const BLOCKS: usize = 188;
+
+pub const BYTES: usize = 189;
+
+// Whether a line gives blocks that are held; how many are, and behind that 16 bases, the oldest first.
+pub const HOLDS: usize = 190;
+
+pub const HELD: usize = 191;
+
 // The case's numbers end here. The line and the phase outlast a case.
-pub const CASE_END: usize = 190;
+pub const CASE_END: usize = 210;
 
-pub const LINE: usize = 190;
+pub const LINE: usize = 210;
 
-pub const PHASE: usize = 191;
+pub const PHASE: usize = 211;
 
-// The notes, three numbers each.
-pub const NOTES: usize = 200;
+// The notes, three numbers each. There is room in front of them for numbers to come.
+pub const NOTES: usize = 300;
 
 // No case has started; a case is described; its state is open; its opening was refused; the report has ended; its places are judged,
 // and its state is not yet open.

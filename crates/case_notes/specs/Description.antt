@@ -8,7 +8,7 @@ use Rattle.case_file.specs.declared.Line.the-variants as Line
 use Rattle.case_file.specs.declared.Reason.the-variants as Reason
 use Rattle.case_words.specs.declared.SpecialName.{SpecialName}
 use Rattle.case_words.specs.declared.SpecialName.the-variants as SpecialName
-use Rattle.case_kept.specs.Indices.{MAIN, LOCAL, WORDS, LO, HI, ENTRY, FETCH, BASE, SPECIALS, TRANSFER, BR, CALL, BLOCK, LOAD, REGISTERS, PREDICATES, GIVEN, PRODUCTS, PRODUCT}
+use Rattle.case_kept.specs.Indices.{MAIN, LOCAL, WORDS, LO, HI, ENTRY, FETCH, BASE, SPECIALS, TRANSFER, BR, CALL, BLOCK, LOAD, REGISTERS, PREDICATES, GIVEN, PRODUCTS, PRODUCT, METHOD, BLOCKS, BYTES}
 use Rattle.case_kept.specs.Kept.{keptNumber, isSet, put, flag}
 use Rattle.case_notes.specs.Waiting.{withTransfer, withLoad, withProduct}
 use Rattle.case_notes.specs.declared.Judged.{Judged}
@@ -88,6 +88,11 @@ productMore kept wait low high =
     (fine (put (cond (leb (keptNumber kept PRODUCT) wait) (withProduct kept (PRODUCT + 3) wait low high) (beforeFirst kept wait low high)) PRODUCTS 2))
     (noted (Judged.Mistake Reason.TooManyProducts) kept))
 
+-- The method cache's capacity. Its line may stand once.
+unfoldable pub methodOnce : List ℕ → ℕ → ℕ → Noted
+methodOnce kept blocks bytes =
+    cond (isSet kept METHOD) (noted (Judged.Mistake Reason.Repeated) kept) (fine (put (put (put kept METHOD 1) BLOCKS blocks) BYTES bytes))
+
 -- The lines that need nothing but their own numbers, by the table of the description lines. Every other line leaves the numbers alone.
 unfoldable pub given : Line → List ℕ → Noted
 given (Line.Main bytes) kept = lengthOnce kept MAIN bytes
@@ -117,3 +122,5 @@ given Line.Check kept = fine kept
 given (Line.Write text) kept = fine kept
 given Line.Listing kept = fine kept
 given (Line.Product wait low high) kept = productMore kept wait low high
+given (Line.Method blocks bytes) kept = methodOnce kept blocks bytes
+given (Line.Held list) kept = fine kept

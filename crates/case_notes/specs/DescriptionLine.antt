@@ -19,6 +19,7 @@ use Rattle.case_notes.specs.declared.Judged.{Judged}
 use Rattle.case_notes.specs.declared.Judged.the-variants as Judged
 use Rattle.case_notes.specs.Description.{Noted, GREATEST, given}
 use Rattle.case_notes.specs.Marking.{markItems}
+use Rattle.case_notes.specs.Held.{holdBases}
 use Rattle.case_kept.specs.Places.{lastByte, notePlace}
 use Rattle.case_kept.specs.Clearing.{COPY, putInCopy}
 
@@ -104,6 +105,7 @@ module _ (line code main local cache kept : List ℕ) where
   unfoldable pub describedBy : Line → Described
   describedBy (Line.Code list) = inCode (codeLine line list kept code)
   describedBy (Line.Private list) = inKept (markItems line list kept)
+  describedBy (Line.Held list) = inKept (holdBases line list kept)
   describedBy (Line.MainWord address w) = inMain (memoryWord kept Store.Main address w main)
   describedBy (Line.LocalWord address w) = inLocal (memoryWord kept Store.Local address w local)
   describedBy (Line.CacheWord place w) = inCache (cacheWord kept place w cache)
@@ -129,3 +131,4 @@ module _ (line code main local cache kept : List ℕ) where
   describedBy (Line.Write text) = inKept (given (Line.Write text) kept)
   describedBy Line.Listing = inKept (given Line.Listing kept)
   describedBy (Line.Product wait low high) = inKept (given (Line.Product wait low high) kept)
+  describedBy (Line.Method blocks bytes) = inKept (given (Line.Method blocks bytes) kept)

@@ -3,5 +3,7 @@ pub mod Waiting
 pub mod Description
 pub mod Marking
 pub mod MarkingLaws
+pub mod Held
+pub mod HeldLaws
 pub mod DescriptionLine
 pub mod DescriptionLineLaws

@@ -1,6 +1,6 @@
 // What the description lines of a case say of its numbers, gathered in any order. Each function answers whether the line is a mistake.
 ghost use mathlib.Core.Path.{_≡_};
-ghost use Rattle.case_notes.specs.Description.{noted, isGiven, markGiven, give as giveAt, numberOnce, lengthOnce, transferOnce, specialIndex, register, predicate, special, productMore, given};
+ghost use Rattle.case_notes.specs.Description.{noted, isGiven, markGiven, give as giveAt, numberOnce, lengthOnce, transferOnce, specialIndex, register, predicate, special, productMore, methodOnce, given};
 use crate::Judged;
 use crate::waiting::keep_load;
 use crate::waiting::keep_product;
@@ -9,7 +9,9 @@ use case_file::Line;
 use case_file::Reason;
 use case_kept::kept::BASE;
 use case_kept::kept::BLOCK;
+use case_kept::kept::BLOCKS;
 use case_kept::kept::BR;
+use case_kept::kept::BYTES;
 use case_kept::kept::CALL;
 use case_kept::kept::ENTRY;
 use case_kept::kept::FETCH;
@@ -20,6 +22,7 @@ use case_kept::kept::LO;
 use case_kept::kept::LOAD;
 use case_kept::kept::LOCAL;
 use case_kept::kept::MAIN;
+use case_kept::kept::METHOD;
 use case_kept::kept::PREDICATES;
 use case_kept::kept::PRODUCT;
 use case_kept::kept::PRODUCTS;
@@ -27,6 +30,7 @@ use case_kept::kept::REGISTERS;
 use case_kept::kept::SPECIALS;
 use case_kept::kept::TRANSFER;
 use case_kept::kept::WORDS;
+use case_kept::kept::is_set;
 use case_kept::kept::is_set_after;
 use case_kept::kept::keep_after;
 use case_kept::kept::keep_flag;
@@ -196,6 +200,19 @@ fn give_product(kept: &mut Kept, wait: u32, low: u32, high: u32) -> Judged
     Judged::Fine
 }
 
+// The method cache's capacity.
+fn give_method(kept: &mut Kept, blocks: u32, bytes: u32) -> Judged
+    ensures { λ r. ⌜ noted r (now (kept .exit)) ≡ methodOnce (now (kept .entry)) blocks bytes ⌝ }
+{
+    if is_set(&*kept, METHOD) {
+        return Judged::Mistake(Reason::Repeated);
+    }
+    kept[METHOD] = 1;
+    kept[BLOCKS] = blocks as u64;
+    kept[BYTES] = bytes as u64;
+    Judged::Fine
+}
+
 // A line that needs nothing but its own numbers.
 pub fn give(kept: &mut Kept, said: Line) -> Judged
     ensures { λ r. ⌜ noted r (now (kept .exit)) ≡ given said (now (kept .entry)) ⌝ }
@@ -217,6 +234,7 @@ pub fn give(kept: &mut Kept, said: Line) -> Judged
         }
         Line::Load { number, word } => give_load(&mut *kept, number, word),
         Line::Product { wait, low, high } => give_product(&mut *kept, wait, low, high),
+        Line::Method { blocks, bytes } => give_method(&mut *kept, blocks, bytes),
         _ => Judged::Fine,
     }
 }

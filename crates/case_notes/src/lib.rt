@@ -1,6 +1,7 @@
 // What a case says: its description and its marking, put among the kept numbers. Nothing here reads, writes or does a bundle.
 pub mod description;
 pub mod description_line;
+pub mod held;
 pub mod marked;
 pub mod waiting;
 

@@ -36,6 +36,7 @@ inWords Reason.NotAPredicate = "a predicate is expected, as p3, or !p3 where its
 inWords Reason.NotASpecial = "a special register is expected: s0, sl, sh, ss, st, srb, sro, sxb or sxo"
 inWords Reason.NotAnOffset = "a decimal number from -2147483648 to 2147483647 is expected"
 inWords Reason.TooManyProducts = "a case has at most two product lines"
+inWords Reason.TooManyHeld = "a case has at most 16 held blocks"
 
 unfoldable pub reasonText : Reason → List ℕ
 reasonText r = bytes (inWords r)

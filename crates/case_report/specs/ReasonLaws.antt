@@ -35,3 +35,4 @@ reason-row Reason.NotAPredicate = refl
 reason-row Reason.NotASpecial = refl
 reason-row Reason.NotAnOffset = refl
 reason-row Reason.TooManyProducts = refl
+reason-row Reason.TooManyHeld = refl

@@ -33,6 +33,7 @@ numberOf Reason.NotAPredicate = 22
 numberOf Reason.NotASpecial = 23
 numberOf Reason.NotAnOffset = 24
 numberOf Reason.TooManyProducts = 25
+numberOf Reason.TooManyHeld = 26
 
 -- All reasons, in the order of their rows.
 unfoldable pub reasons : List Reason
@@ -63,6 +64,7 @@ reasons =
     ∷ Reason.NotASpecial
     ∷ Reason.NotAnOffset
     ∷ Reason.TooManyProducts
+    ∷ Reason.TooManyHeld
     ∷ []
 
 unfoldable pub texts : List Reason → List (List ℕ)

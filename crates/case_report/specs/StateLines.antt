@@ -1,11 +1,12 @@
 -- The lines of a report on a state, which is among the kept numbers.
-use Prim.Native.Nat.{ℕ}
-use mathlib.Core.Bool.{cond}
-use mathlib.Core.List.{List, [], _++_}
-use lib.ListN.{drop}
+use Prim.Native.Nat.{ℕ, _+_, _*_, min}
+use Prim.Native.Char.{code}
+use mathlib.Core.Bool.{cond, _||_}
+use mathlib.Core.List.{List, [], _∷_, _++_}
+use lib.ListN.{take, drop}
 use lib.Dec.{eqb}
 use Rattle.case_words.specs.Names.{bytes}
-use Rattle.case_kept.specs.Indices.{FETCH, REGISTERS, PREDICATES, SPECIALS, TRANSFER, BR, CALL, BLOCK, TARGET, LOAD, LOADED, PRODUCTS, PRODUCT}
+use Rattle.case_kept.specs.Indices.{FETCH, REGISTERS, PREDICATES, SPECIALS, TRANSFER, BR, CALL, BLOCK, TARGET, LOAD, LOADED, PRODUCTS, PRODUCT, METHOD, HOLDS, HELD}
 use Rattle.case_kept.specs.Kept.{keptNumber, isSet}
 use Rattle.case_report.specs.Form.{filled}
 
@@ -27,6 +28,20 @@ productsLine kept =
     (cond (eqb (keptNumber kept PRODUCTS) 1) (filled (bytes "products % # #\n") (drop PRODUCT kept))
     (filled (bytes "products % # # % # #\n") (drop PRODUCT kept)))
 
+-- The bases of the blocks that the method cache holds, the oldest first. The form has room for all 16, and is cut behind the last.
+unfoldable pub heldBases : List ℕ → ℕ → List ℕ
+heldBases kept n =
+    cond (eqb n 0) (bytes "held none\n")
+    (filled (take (4 + 2 * n) (bytes "held % % % % % % % % % % % % % % % %")) (drop (HELD + 1) kept) ++ (code "\n" ∷ []))
+
+-- There is a line only in a case that says something of the method cache.
+unfoldable pub heldLine : List ℕ → List ℕ
+heldLine kept = cond (isSet kept METHOD || isSet kept HOLDS) (heldBases kept (min (keptNumber kept HELD) 16)) []
+
+-- What waits, what is under way, and what is held.
+unfoldable pub waitingText : List ℕ → List ℕ
+waitingText kept = transferLine kept ++ (loadLine kept ++ (productsLine kept ++ heldLine kept))
+
 -- All lines on the state, each with the numbers that are kept from an index on.
 unfoldable pub stateText : List ℕ → List ℕ
 stateText kept =
@@ -34,4 +49,4 @@ stateText kept =
     ++ (filled (bytes "regs # # # # # # # # # # # # # # # # # # # # # # # # # # # # # # # #\n") (drop REGISTERS kept)
     ++ (filled (bytes "preds % % % % % % % %\n") (drop PREDICATES kept)
     ++ (filled (bytes "specials sl # sh # ss # st # srb # sro # sxb # sxo #\n") (drop SPECIALS kept)
-    ++ (transferLine kept ++ (loadLine kept ++ productsLine kept)))))
+    ++ waitingText kept)))

@@ -37,6 +37,7 @@ fn number_of(r: Reason) -> usize
         Reason::NotASpecial => 23,
         Reason::NotAnOffset => 24,
         Reason::TooManyProducts => 25,
+        Reason::TooManyHeld => 26,
     }
 }
 
@@ -71,7 +72,8 @@ a register is expected, as r3\n\
 a predicate is expected, as p3, or !p3 where its negation may stand\n\
 a special register is expected: s0, sl, sh, ss, st, srb, sro, sxb or sxo\n\
 a decimal number from -2147483648 to 2147483647 is expected\n\
-a case has at most two product lines\n",
+a case has at most two product lines\n\
+a case has at most 16 held blocks\n",
         number_of(r),
     )
 }

@@ -1,15 +1,23 @@
 // The lines on a state, which is among the kept numbers.
 ghost use mathlib.Core.Path.{_≡_};
+ghost use Prim.Native.Nat.{_+_, _≤_};
+ghost use lib.ListN.{length, take, drop};
 ghost use Rattle.text.specs.Page.{page, withText};
-ghost use Rattle.case_report.specs.StateLines.{transferLine, loadLine, productsLine, stateText};
+ghost use Rattle.case_kept.specs.Indices.{HELD};
+ghost use Rattle.case_report.specs.Form.{filled};
+ghost use Rattle.case_report.specs.StateLines.{transferLine, loadLine, productsLine, heldBases, heldLine, waitingText, stateText};
 use crate::form::say_kept;
+use case_kept::buffers::least;
 use case_kept::kept::BLOCK;
 use case_kept::kept::BR;
 use case_kept::kept::CALL;
 use case_kept::kept::FETCH;
+use case_kept::kept::HELD;
+use case_kept::kept::HOLDS;
 use case_kept::kept::Kept;
 use case_kept::kept::LOAD;
 use case_kept::kept::LOADED;
+use case_kept::kept::METHOD;
 use case_kept::kept::PREDICATES;
 use case_kept::kept::PRODUCT;
 use case_kept::kept::PRODUCTS;
@@ -20,6 +28,7 @@ use case_kept::kept::TRANSFER;
 use case_kept::kept::is_set;
 use case_kept::kept::number;
 use text::page::put;
+use text::page::put_byte;
 
 fn put_transfer(out: &mut [u8], used: usize, kept: &Kept) -> usize
     ensures { λ r. ⌜ page r (now (out .exit)) ≡ withText (page used (now (out .entry))) (transferLine (now (kept .entry))) ⌝ }
@@ -53,6 +62,56 @@ fn put_products(out: &mut [u8], used: usize, kept: &Kept) -> usize
     }
 }
 
+// A form with the bases of held blocks, cut behind n of its bytes.
+fn put_cut(out: &mut [u8], used: usize, form: &[u8], n: usize, kept: &Kept) -> usize
+    requires { ⌜ n ≤ length (now form) ⌝ }
+    ensures { λ r. ⌜ page r (now (out .exit)) ≡ withText (page used (now (out .entry))) (filled (take n (now (form .entry))) (drop (HELD + 1) (now (kept .entry)))) ⌝ }
+{
+    say_kept(&mut *out, used, &form[0..n], kept, HELD + 1)
+}
+
+fn put_bases(out: &mut [u8], used: usize, kept: &Kept, n: usize) -> usize
+    requires { ⌜ n ≤ 16 ⌝ }
+    ensures { λ r. ⌜ page r (now (out .exit)) ≡ withText (page used (now (out .entry))) (heldBases (now (kept .entry)) n) ⌝ }
+{
+    if n == 0 {
+        return put(&mut *out, used, b"held none\n");
+    }
+    let a = put_cut(
+        &mut *out,
+        used,
+        b"held % % % % % % % % % % % % % % % %",
+        4 + 2 * n,
+        kept,
+    );
+    put_byte(&mut *out, a, b'\n')
+}
+
+// A case that says nothing of the method cache has no line on it.
+fn put_held(out: &mut [u8], used: usize, kept: &Kept) -> usize
+    ensures { λ r. ⌜ page r (now (out .exit)) ≡ withText (page used (now (out .entry))) (heldLine (now (kept .entry))) ⌝ }
+{
+    if is_set(kept, METHOD) | is_set(kept, HOLDS) {
+        return put_bases(
+            &mut *out,
+            used,
+            kept,
+            least(number(kept, HELD) as usize, 16),
+        );
+    }
+    used
+}
+
+// What waits, what is under way, and what is held.
+fn put_waiting(out: &mut [u8], used: usize, kept: &Kept) -> usize
+    ensures { λ r. ⌜ page r (now (out .exit)) ≡ withText (page used (now (out .entry))) (waitingText (now (kept .entry))) ⌝ }
+{
+    let a = put_transfer(&mut *out, used, kept);
+    let b = put_load(&mut *out, a, kept);
+    let c = put_products(&mut *out, b, kept);
+    put_held(&mut *out, c, kept)
+}
+
 // The state lines, all of them.
 pub fn put_state(out: &mut [u8], used: usize, kept: &Kept) -> usize
     ensures { λ r. ⌜ page r (now (out .exit)) ≡ withText (page used (now (out .entry))) (stateText (now (kept .entry))) ⌝ }
@@ -73,7 +132,5 @@ pub fn put_state(out: &mut [u8], used: usize, kept: &Kept) -> usize
         kept,
         SPECIALS,
     );
-    let e = put_transfer(&mut *out, d, kept);
-    let f = put_load(&mut *out, e, kept);
-    put_products(&mut *out, f, kept)
+    put_waiting(&mut *out, d, kept)
 }

@@ -15,7 +15,7 @@ use Rattle.core_state.specs.declared.WaitingTransfer.{WaitingTransfer}
 use Rattle.core_state.specs.declared.WaitingTransfer.the-variants as WaitingTransfer
 use Rattle.core_state.specs.declared.WaitingLoad.{WaitingLoad}
 use Rattle.core_state.specs.declared.WaitingLoad.the-variants as WaitingLoad
-use Rattle.case_kept.specs.Indices.{SPECIALS, TRANSFER, TARGET, BR, CALL, BLOCK, LOAD, LOADED, REGISTERS, PREDICATES, PRODUCTS, PRODUCT}
+use Rattle.case_kept.specs.Indices.{SPECIALS, TRANSFER, TARGET, BR, CALL, BLOCK, LOAD, LOADED, REGISTERS, PREDICATES, PRODUCTS, PRODUCT, HELD}
 use Rattle.case_kept.specs.Kept.{keptNumber, keptWord, isSet, put, flag, keptWords, putEach}
 use Rattle.case_notes.specs.Waiting.{withTransfer, withLoad, withProduct}
 
@@ -40,6 +40,9 @@ listOf s = s .sl ∷ s .sh ∷ s .ss ∷ s .st ∷ s .srb ∷ s .sro ∷ s .sxb 
 
 abbrev pub withWords : List ℕ → ℕ → List ℕ → List ℕ
 withWords kept first words = putEach first (length words) (λ i. getD words i 0) kept
+
+abbrev pub withHeld : List ℕ → List ℕ → List ℕ
+withHeld kept held = withWords kept HELD held
 
 abbrev pub withPredicates : List ℕ → List Bool → List ℕ
 withPredicates kept predicates = putEach PREDICATES 8 (λ i. flag (getD predicates i false)) kept
@@ -67,6 +70,10 @@ productsOf kept =
     cond (eqb (keptNumber kept PRODUCTS) 0) Products.Nothing
     (cond (eqb (keptNumber kept PRODUCTS) 1) (Products.One first)
     (Products.Two first (productOf kept (PRODUCT + 3) (waitBehind kept))))
+
+-- The blocks that the method cache holds, as a state has them: how many, and behind that room for 16 bases.
+abbrev pub heldOf : List ℕ → List ℕ
+heldOf kept = keptWords 17 kept HELD
 
 abbrev pub loadOf : List ℕ → WaitingLoad
 loadOf kept = cond (isSet kept LOAD) (WaitingLoad.Waits (keptWord kept LOADED) (keptWord kept (LOADED + 1))) WaitingLoad.Nothing

@@ -2,11 +2,12 @@
 ghost use mathlib.Core.Path.{_≡_};
 ghost use Prim.Native.Nat.{_<_};
 ghost use Rattle.case_kept.specs.Indices.{ALL};
-ghost use Rattle.case_state.specs.KeptState.{registersOf, specialsOf, listOf, withWords, withPredicates, transferWith, transferOf, loadOf, withTarget, withWaiting, withWaitingLoad, productOf, waitBehind, productsOf, withProducts};
+ghost use Rattle.case_state.specs.KeptState.{registersOf, specialsOf, listOf, withWords, withPredicates, transferWith, transferOf, loadOf, withTarget, withWaiting, withWaitingLoad, productOf, waitBehind, productsOf, withProducts, heldOf, withHeld};
 use alu_effects::Specials;
 use case_kept::kept::BLOCK;
 use case_kept::kept::BR;
 use case_kept::kept::CALL;
+use case_kept::kept::HELD;
 use case_kept::kept::Kept;
 use case_kept::kept::LOAD;
 use case_kept::kept::LOADED;
@@ -59,6 +60,19 @@ pub fn specials_of(kept: &Kept) -> Specials
     }
 }
 
+// The blocks held: how many, and then their bases.
+pub fn held_of(kept: &Kept) -> [u32; 17]
+    ensures { λ r. ⌜ r ≡ heldOf (now (kept .entry)) ⌝ }
+{
+    let mut held = [0u32; 17];
+    let mut i = 0;
+    while i < 17 {
+        held[i] = word(kept, HELD + i);
+        i += 1;
+    }
+    held
+}
+
 // Words, as registers or special registers, from an index on.
 pub fn keep_words(kept: &mut Kept, first: usize, words: &[u32])
     ensures { λ _. ⌜ now (kept .exit) ≡ withWords (now (kept .entry)) first (now (words .entry)) ⌝ }
@@ -68,6 +82,12 @@ pub fn keep_words(kept: &mut Kept, first: usize, words: &[u32])
         keep_after(&mut *kept, first, i, words[i] as u64);
         i += 1;
     }
+}
+
+pub fn keep_held(kept: &mut Kept, held: [u32; 17])
+    ensures { λ _. ⌜ now (kept .exit) ≡ withHeld (now (kept .entry)) held ⌝ }
+{
+    keep_words(&mut *kept, HELD, &held);
 }
 
 pub fn keep_predicates(kept: &mut Kept, predicates: [bool; 8])

@@ -73,6 +73,8 @@ keywords =
     ∷ ("write", Keyword.Write)
     ∷ ("list", Keyword.Listing)
     ∷ ("product", Keyword.Product)
+    ∷ ("method", Keyword.Method)
+    ∷ ("held", Keyword.Held)
     ∷ []
 
 abbrev pub keywordOf : List ℕ → Keyword

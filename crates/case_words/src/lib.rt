@@ -22,6 +22,8 @@ pub enum Keyword {
     Write,
     Listing,
     Product,
+    Method,
+    Held,
     Unknown,
 }
 
@@ -105,6 +107,8 @@ fn keyword_at(row: usize) -> Keyword
         20 => Keyword::Write,
         21 => Keyword::Listing,
         22 => Keyword::Product,
+        23 => Keyword::Method,
+        24 => Keyword::Held,
         _ => Keyword::Unknown,
     }
 }
@@ -115,7 +119,8 @@ pub fn first_word(s: &[u8]) -> Keyword
     keyword_at(row_of(
         b"case\ncode\nmain\nlocal\nstack\nprivate\n\
 entry\nfetch\nbase\nreg\npred\nspecial\ntransfer\nload\n\
-mainword\nlocalword\ncacheword\nrun\nstep\ncheck\nwrite\nlist\nproduct\n",
+mainword\nlocalword\ncacheword\nrun\nstep\ncheck\nwrite\nlist\nproduct\n\
+method\nheld\n",
         s,
     ))
 }

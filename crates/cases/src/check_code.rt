@@ -1,4 +1,5 @@
 // The check of a case's code under its marking.
+use crate::kept_state::config_of;
 use case_kept::buffers::Bytes;
 use case_kept::buffers::Report;
 use case_kept::buffers::least;
@@ -6,7 +7,6 @@ use case_kept::extent::extents_of;
 use case_kept::kept::Kept;
 use case_notes::marked::marking_of;
 use case_report::form::say;
-use settings::Config;
 use single_path::Checked;
 use single_path::Rule;
 use text::page::put;
@@ -54,7 +54,7 @@ fn put_checked(out: &mut Report, c: Checked) -> usize {
 pub(crate) fn do_check(code: &Bytes, kept: &Kept, out: &mut Report) -> usize {
     let e = extents_of(kept);
     let n = least(e.code, 65536);
-    let config = Config { lo: e.lo, hi: e.hi };
+    let config = config_of(e, kept);
     let bytes = &code[..];
     let c = single_path::check(
         &bytes[0..n],

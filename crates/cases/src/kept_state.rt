@@ -1,12 +1,19 @@
-// The state of a case among the kept numbers.
+// The state of a case among the kept numbers, and what a run is given beside it.
+use case_kept::extent::Extents;
 use case_kept::kept::BASE;
+use case_kept::kept::BLOCKS;
+use case_kept::kept::BYTES;
 use case_kept::kept::FETCH;
 use case_kept::kept::Kept;
+use case_kept::kept::METHOD;
 use case_kept::kept::PREDICATES;
 use case_kept::kept::REGISTERS;
 use case_kept::kept::SPECIALS;
 use case_kept::kept::flags_of;
+use case_kept::kept::is_set;
 use case_kept::kept::word;
+use case_state::held_of;
+use case_state::keep_held;
 use case_state::keep_predicates;
 use case_state::keep_products;
 use case_state::keep_waiting;
@@ -18,7 +25,23 @@ use case_state::products_of;
 use case_state::registers_of;
 use case_state::specials_of;
 use case_state::transfer_of;
+use method_cache::Method;
+use settings::Config;
 use state::State;
+
+// The stack area, and the method cache, which is off where no line gives it.
+pub(crate) fn config_of(e: Extents, kept: &Kept) -> Config {
+    let method = Method {
+        on: is_set(kept, METHOD),
+        blocks: word(kept, BLOCKS),
+        bytes: word(kept, BYTES),
+    };
+    Config {
+        lo: e.lo,
+        hi: e.hi,
+        method,
+    }
+}
 
 pub(crate) fn state_of(kept: &Kept) -> State {
     let registers = registers_of(kept);
@@ -27,6 +50,7 @@ pub(crate) fn state_of(kept: &Kept) -> State {
     let transfer = transfer_of(kept);
     let load = load_of(kept);
     let products = products_of(kept);
+    let held = held_of(kept);
     State {
         registers,
         predicates,
@@ -36,6 +60,7 @@ pub(crate) fn state_of(kept: &Kept) -> State {
         transfer,
         load,
         products,
+        held,
     }
 }
 
@@ -46,6 +71,7 @@ pub(crate) fn keep_state(kept: &mut Kept, s: State) {
     let transfer = s.transfer;
     let load = s.load;
     let products = s.products;
+    let held = s.held;
     kept[FETCH] = s.fetch as u64;
     kept[BASE] = s.base as u64;
     keep_words(&mut *kept, SPECIALS, &specials);
@@ -54,4 +80,5 @@ pub(crate) fn keep_state(kept: &mut Kept, s: State) {
     keep_waiting(&mut *kept, transfer);
     keep_waiting_load(&mut *kept, load);
     keep_products(&mut *kept, products);
+    keep_held(&mut *kept, held);
 }

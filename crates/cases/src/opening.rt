@@ -1,6 +1,7 @@
 // How a case starts, how its places are judged at its first operation, and how its state is opened at the first that needs it.
 ghost use Prim.Native.Nat.{_≤_};
 ghost use lib.ListN.{length};
+use crate::kept_state::config_of;
 use case_file::Reason;
 use case_kept::buffers::Bytes;
 use case_kept::buffers::Cache;
@@ -83,6 +84,7 @@ pub(crate) fn start_case(
 // The fresh state, judged and built.
 fn fresh(
     e: Extents,
+    config: Config,
     entry: u32,
     code: &[u8],
     main: &[u8],
@@ -95,7 +97,6 @@ fn fresh(
     let m = e.main;
     let l = e.local;
     let w = e.words;
-    let config = Config { lo: e.lo, hi: e.hi };
     State::fresh(
         &code[0..c],
         &main[0..m],
@@ -121,7 +122,7 @@ fn keep_built_specials(kept: &mut Kept, specials: [u32; 8]) {
     }
 }
 
-// The fresh state is completed by what the case puts into it. Registers, predicates and what waits are kept as described.
+// The fresh state is completed by what the case puts into it. Registers, predicates, what waits and what is held are kept as described.
 fn keep_fresh(kept: &mut Kept, o: Opened) {
     let s = o.state;
     keep_built(&mut *kept, FETCH, s.fetch);
@@ -157,7 +158,8 @@ fn open(
 ) -> usize {
     let e = extents_of(&*kept);
     let entry = word(&*kept, ENTRY);
-    let o = fresh(e, entry, code, &*main, &*local, &mut *cache);
+    let config = config_of(e, &*kept);
+    let o = fresh(e, config, entry, code, &*main, &*local, &mut *cache);
     copy_memory(&mut *main, e.main);
     copy_memory(&mut *local, e.local);
     fill_cache(&mut *cache, e.words);

@@ -2,6 +2,7 @@
 ghost use Prim.Native.Nat.{_≤_};
 ghost use lib.ListN.{length};
 use crate::Asked;
+use crate::kept_state::config_of;
 use crate::kept_state::keep_state;
 use crate::kept_state::state_of;
 use bundle_model::Answer;
@@ -14,6 +15,8 @@ use case_kept::clearing::copy_cache;
 use case_kept::clearing::copy_memory;
 use case_kept::extent::extents_of;
 use case_kept::kept::Kept;
+use case_kept::kept::METHOD;
+use case_kept::kept::is_set;
 use case_report::changes::put_changes;
 use case_report::form::say;
 use case_report::state_lines::put_state;
@@ -114,7 +117,7 @@ fn operate_on(
     let m = e.main;
     let l = e.local;
     let w = e.words;
-    let config = Config { lo: e.lo, hi: e.hi };
+    let config = config_of(e, &*kept);
     operate(
         asked,
         &code[0..c],
@@ -150,10 +153,26 @@ fn put_ending(out: &mut Report, e: Ending) -> usize {
     }
 }
 
-fn put_outcome(out: &mut Report, r: Outcome) -> usize {
+// The counts of the method cache stand in the report of a case that has one.
+fn put_outcome(out: &mut Report, r: Outcome, method: bool) -> usize {
     let ending = r.ending;
     let c = r.counts;
     let used = put_ending(&mut *out, ending);
+    if method {
+        return say(
+            &mut *out,
+            used,
+            b" bundles % cycles % spilled % filled % misses % fetched %\n",
+            &[
+                c.bundles,
+                c.cycles,
+                c.spilled,
+                c.filled,
+                c.misses,
+                c.fetched,
+            ],
+        );
+    }
     say(
         &mut *out,
         used,
@@ -197,7 +216,7 @@ pub(crate) fn do_operation(
         &mut *cache,
         &mut *kept,
     );
-    let used = put_outcome(&mut *out, r);
+    let used = put_outcome(&mut *out, r, is_set(&*kept, METHOD));
     report(
         &mut *out,
         used,

@@ -1,7 +1,7 @@
 -- The state in three parts, for the contracts of the functions that are lent the registers and the predicates.
 use Prim.Native.Nat.{ℕ, _-_}
 use mathlib.Core.Bool.{Bool, cond}
-use mathlib.Core.List.{List}
+use mathlib.Core.List.{List, []}
 use mathlib.Core.Path.{_≡_}
 use denote.Ref.{RefT, now}
 use denote.Triple.Both.{Both}
@@ -68,15 +68,10 @@ pub record Canonical (c : Core) : Type 0 where
   pub load : loadWords (waitingLoad (c .load)) ≡ c .load
   pub products : FixedProducts (c .products)
 
--- In contracts, that a function keeps a core canonical, beside what it gives.
-pub record Kept (Given : Type 0) (c r : Core) : Type 0 where
-  pub given : Given
-  pub canonical : Canonical c → Canonical r
-
--- A state of its registers, its predicates and the rest.
+-- A state of its registers, its predicates and the rest, which holds no block: what is held is lent beside it, and put in by `withHeld`.
 abbrev pub joined : List ℕ → List Bool → Core → State
 joined rs ps c =
-    state rs ps (c .specials) (c .fetch) (c .base) (waitingTransfer (c .transfer)) (waitingLoad (c .load)) (further (productsIn (c .products)))
+    state rs ps (c .specials) (c .fetch) (c .base) (waitingTransfer (c .transfer)) (waitingLoad (c .load)) (further (productsIn (c .products)) [])
 
 -- In contracts, the state of the registers and predicates that a function is lent, when it is called and when it returns, and of the rest.
 abbrev pub Registers : Type 0

@@ -23,12 +23,14 @@ use Rattle.core_state.specs.declared.WaitingTransfer.the-variants as tra
 use Rattle.core_state.specs.declared.WaitingLoad.{WaitingLoad}
 use Rattle.core_state.specs.declared.WaitingLoad.the-variants as load
 
--- What the requests of document 02 add to the state: the products under way.
+-- What the requests of document 02 add to the state: the products under way, and the blocks that the method cache holds, by their
+-- bases, the oldest first.
 pub record Further : Type 0 where
   pub products : Products
+  pub held : List ℕ
 
-abbrev pub further : Products → Further
-further products = record { products = products }
+abbrev pub further : Products → List ℕ → Further
+further products held = record { products = products; held = held }
 
 -- The state: registers, predicates, special registers, the fetch address, the base, what waits, and what is added to it.
 pub record State : Type 0 where
@@ -118,7 +120,7 @@ landed s = landing (s .load) s
 -- The products under way. One that falls due is written, and the others come one bundle nearer; a multiply begins one more.
 abbrev pub withProducts : State → Products → State
 withProducts s p =
-    state (s .registers) (s .predicates) (s .specials) (s .fetch) (s .base) (s .transfer) (s .load) (further p)
+    state (s .registers) (s .predicates) (s .specials) (s .fetch) (s .base) (s .transfer) (s .load) (further p (s .further .held))
 
 abbrev pub withArrival : Option Product → State → State
 withArrival none s = s
@@ -129,6 +131,11 @@ arrived s = withArrival (dueProduct (s .further .products)) (withProducts s (nea
 
 abbrev pub withBegun : State → ℕ → ℕ → State
 withBegun s low high = withProducts s (withOneMore (s .further .products) low high)
+
+-- The blocks held. Of a bundle's writes none changes them: a lookup does.
+abbrev pub withHeld : State → List ℕ → State
+withHeld s held =
+    state (s .registers) (s .predicates) (s .specials) (s .fetch) (s .base) (s .transfer) (s .load) (further (s .further .products) held)
 
 -- Where the core goes on: fetch address, base, the return registers, and what waits.
 abbrev pub withFlow : State → ℕ → ℕ → ℕ → ℕ → WaitingTransfer → State
@@ -148,7 +155,8 @@ transferred s (Call target) following = withFlow s (s .base) (sub following (s .
 transferred s (Block target base) following = withFlow s (s .specials .srb) (s .specials .sro) target base transfer.Nothing
 
 -- Refusal 11 is for a state that is not well formed: r0 is not 0, p0 is not true, a load waits for a register that there is not, a
--- transfer waits 0 or more than 3 bundles, or `productsOk` does not hold of the products under way.
+-- transfer waits 0 or more than 3 bundles, or `productsOk` does not hold of the products under way. What it says of the blocks held needs
+-- the code and the method cache: `wellFormed` (bundle_model, Bundle) has it too.
 abbrev pub loadOk : WaitingLoad → Bool
 loadOk load.Nothing = true
 loadOk (load.Waits r v) = leb r 31
@@ -157,8 +165,8 @@ abbrev pub waitOk : WaitingTransfer → Bool
 waitOk transfer.Nothing = true
 waitOk (transfer.Waits t n) = leb 1 n && leb n 3
 
-unfoldable pub wellFormed : State → Bool
-wellFormed s =
+unfoldable pub partsOk : State → Bool
+partsOk s =
     (eqb (getD (s .registers) 0 0) 0 && getD (s .predicates) 0 false) && ((loadOk (s .load) && waitOk (s .transfer)) && productsOk (s .further .products))
 
 -- A state has ended if it would fetch at the end of the code and no transfer waits.
@@ -172,4 +180,4 @@ ended s codeLength = eqb (s .fetch) codeLength && noneWaits (s .transfer)
 -- The fresh state at an entry.
 unfoldable pub fresh : ℕ → ℕ → ℕ → State
 fresh codeLength hi entry =
-    state (replicate 32 0) (true ∷ predicatesOf 7 0) (specials 0 0 hi hi 0 codeLength 0 0) entry entry transfer.Nothing load.Nothing (further products.Nothing)
+    state (replicate 32 0) (true ∷ predicatesOf 7 0) (specials 0 0 hi hi 0 codeLength 0 0) entry entry transfer.Nothing load.Nothing (further products.Nothing [])

@@ -3,7 +3,7 @@ ghost use mathlib.Core.Path.{_≡_};
 ghost use mathlib.Core.Bool.{Bool};
 ghost use mathlib.Core.List.{List};
 ghost use Prim.Native.Nat.{ℕ};
-ghost use Rattle.core_state.specs.State.{wellFormed, ended};
+ghost use Rattle.core_state.specs.State.{partsOk, ended};
 ghost use Rattle.core_state.specs.Core.{joined, foundState};
 use crate::Core;
 use crate::waiting::load_ok;
@@ -11,9 +11,9 @@ use crate::waiting::none_waits;
 use crate::waiting::wait_ok;
 use products::words::products_ok;
 
-// Whether refusal 11 does not describe the state.
-pub fn is_well_formed(core: Core, registers: &[u32; 32], predicates: &[bool; 8]) -> bool
-    ensures { λ r. ⌜ r ≡ wellFormed (foundState registers predicates core) ⌝ }
+// Whether refusal 11 lets the state pass, but for the blocks held, which are lent elsewhere.
+pub fn parts_ok(core: Core, registers: &[u32; 32], predicates: &[bool; 8]) -> bool
+    ensures { λ r. ⌜ r ≡ partsOk (foundState registers predicates core) ⌝ }
 {
     let load = core.load;
     let transfer = core.transfer;

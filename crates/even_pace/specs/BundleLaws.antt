@@ -11,8 +11,13 @@ use Rattle.answers.specs.declared.Verdict.the-variants.{Fine as Passing, Refuse
 use Rattle.answers.specs.Answer.{Returned, done, refused}
 use Rattle.effects.specs.Effect.{slotOne, slotTwo}
 use Rattle.core_state.specs.State.{State, startOf}
-use Rattle.bundle_model.specs.Refusal.{effectTests}
-use Rattle.bundle_model.specs.Bundle.{written, countsOf, buffersAfter, Outcome, outcome, refusedOr, bundle}
+use Rattle.answers.specs.TestLaws.{fine-both}
+use Rattle.effects.specs.declared.Effect.{Effect}
+use Rattle.bundle_model.specs.Lookup.{lookups, lookupTests}
+use Rattle.bundle_model.specs.Refusal.{effectTests, slotTests}
+use Rattle.bundle_model.specs.ExecuteLaws.{slot-plain}
+use Rattle.step_laws.specs.StackKept.{Passed}
+use Rattle.bundle_model.specs.Bundle.{stateDone, countsOf, buffersAfter, Outcome, outcome, refusedOr, bundle}
 use Rattle.marking.specs.declared.Marking.{Marking}
 use Rattle.marking_rules.specs.declared.Rule.{Rule}
 use Rattle.marking_rules.specs.Rules.{breaks}
@@ -20,7 +25,7 @@ use Rattle.marking_rules.specs.RuleLaws.{keeps-each}
 use Rattle.single_path.specs.CheckLaws.{Fine}
 use Rattle.even_pace.specs.Terms.{Agree, hasPrivateAccess}
 use Rattle.even_pace.specs.Alike.{AlikeEffect, same-effect, quiet-effects}
-use Rattle.even_pace.specs.DoneLaws.{verdict-both, counts-alike, done-alike}
+use Rattle.even_pace.specs.DoneLaws.{slot-both, lookups-quiet, counts-alike, done-alike}
 use Rattle.even_pace.specs.SlotLaws.{SlotCase, public-slot, private-slot, bundle-one, bundle-two}
 use Rattle.settings.specs.Setup.{Buffers, Setup}
 use Rattle.answers.specs.Test.{verdict as verdictOf}
@@ -35,16 +40,21 @@ pub record SameOutcome (m : Marking) (x : Setup) (o₁ o₂ : Outcome) : Type 0 
 -- A bundle that can be read, by what it holds and the address after it.
 abbrev pub doneOf : Settings → Setup → Bundle → ℕ → State → Buffers → Outcome
 doneOf g x i following s b =
-    outcome done (written g b s (slotOne (startOf s) i) (slotTwo (startOf s) i) following)
-    (countsOf g s (slotOne (startOf s) i)) (buffersAfter g x s (slotOne (startOf s) i) b)
+    outcome done (stateDone g x b s (slotOne (startOf s) i) (slotTwo (startOf s) i) following)
+    (countsOf g x s (slotOne (startOf s) i)) (buffersAfter g x s (slotOne (startOf s) i) b)
 
 abbrev pub outcomeOf : Settings → Setup → Bundle → ℕ → State → Buffers → Outcome
-outcomeOf g x i following s b = refusedOr (verdictOf (effectTests g x s (slotOne (startOf s) i))) s b (doneOf g x i following s b)
+outcomeOf g x i following s b = refusedOr (verdictOf (slotTests g x s (slotOne (startOf s) i))) s b (doneOf g x i following s b)
 
 pub bundle-outcome : {m : Marking} (g : Settings) (x : Setup) (s : State) (b : Buffers) → Fine m (x .code) (s .fetch)
     → bundle g x s b ≡ outcomeOf g x (bundleAt (x .code) (s .fetch)) (followingAt (x .code) (s .fetch)) s b
 unfolding bundle verdictOf
 bundle-outcome g x s b f = rw (f .inside, f .decodable)
+
+-- Of the tests of slot one none of its effect refuses where none refuses.
+slot-passed : (g : Settings) (x : Setup) (s : State) (e : Effect) → verdictOf (slotTests g x s e) ≡ Passing → Passed g x s e
+unfolding slotTests
+slot-passed g x s e p = fine-both (effectTests g x s e) (lookupTests (x .method) (x .code) (lookups x e)) p .0
 
 abbrev isFine : Verdict → Bool
 isFine Passing = true
@@ -66,28 +76,28 @@ module _ {m : Marking} (g : Settings) (x : Setup) (ordered : x .lo ≤ x .hi) {s
     NoStop : State → Buffers → Verdict → Type 0
     NoStop s b v = hasPrivateAccess m i ≡ true → (n : ℕ) → refusedOr v s b (doneOf g x i following s b) .answer ≡ refused n → ⊥
 
-    done-both : AlikeEffect m (slotOne (startOf s₁) i) (slotOne (startOf s₂) i) → verdictOf (effectTests g x s₁ (slotOne (startOf s₁) i)) ≡ Passing
-        → verdictOf (effectTests g x s₂ (slotOne (startOf s₂) i)) ≡ Passing
+    done-both : AlikeEffect m (slotOne (startOf s₁) i) (slotOne (startOf s₂) i) → verdictOf (slotTests g x s₁ (slotOne (startOf s₁) i)) ≡ Passing
+        → verdictOf (slotTests g x s₂ (slotOne (startOf s₂) i)) ≡ Passing
         → SameOutcome m x (doneOf g x i following s₁ b₁) (doneOf g x i following s₂ b₂)
     done-both h p q =
         record {
           answer = refl;
           counts = counts-alike g x (a .state) h;
           contents = done-alike g x ordered (a .state) (a .buffers) inside following h (bundle-two g x (a .state) (w₁ .eight) i kept)
-              p q (w₁ .eight) (w₂ .eight) (w₁ .first) (w₂ .first);
+              (slot-passed g x s₁ _ p) (slot-passed g x s₂ _ q) (w₁ .eight) (w₂ .eight) (w₁ .first) (w₂ .first);
         }
 
-    outcome-alike : NoStop s₁ b₁ (verdictOf (effectTests g x s₁ (slotOne (startOf s₁) i)))
-        → NoStop s₂ b₂ (verdictOf (effectTests g x s₂ (slotOne (startOf s₂) i)))
+    outcome-alike : NoStop s₁ b₁ (verdictOf (slotTests g x s₁ (slotOne (startOf s₁) i)))
+        → NoStop s₂ b₂ (verdictOf (slotTests g x s₂ (slotOne (startOf s₂) i)))
         → SameOutcome m x (outcomeOf g x i following s₁ b₁) (outcomeOf g x i following s₂ b₂)
     unfolding NoStop
     outcome-alike n₁ n₂ = go (bundle-one g x (a .state) (w₁ .eight) i readable kept)
       where
         v₁ : Verdict
-        v₁ = verdictOf (effectTests g x s₁ (slotOne (startOf s₁) i))
+        v₁ = verdictOf (slotTests g x s₁ (slotOne (startOf s₁) i))
 
         v₂ : Verdict
-        v₂ = verdictOf (effectTests g x s₂ (slotOne (startOf s₂) i))
+        v₂ = verdictOf (slotTests g x s₂ (slotOne (startOf s₂) i))
 
         out : Verdict → Verdict → Type 0
         out z y = SameOutcome m x (refusedOr z s₁ b₁ (doneOf g x i following s₁ b₁)) (refusedOr y s₂ b₂ (doneOf g x i following s₂ b₂))
@@ -105,10 +115,10 @@ module _ {m : Marking} (g : Settings) (x : Setup) (ordered : x .lo ≤ x .hi) {s
         passes s b (Refused n) true e f h = absurd (h e n refl)
 
         go : SlotCase m g x s₁ s₂ (hasPrivateAccess m i) (slotOne (startOf s₁) i) (slotOne (startOf s₂) i) → out v₁ v₂
-        go (public-slot h) = judged (same-effect h) v₁ v₂ refl refl (verdict-both g x (a .state) h)
+        go (public-slot h) = judged (same-effect h) v₁ v₂ refl refl (slot-both x g (a .state) h)
         go (private-slot h k f₁ f₂) =
-            let p = passes s₁ b₁ v₁ (hasPrivateAccess m i) refl f₁ n₁ in
-            let q = passes s₂ b₂ v₂ (hasPrivateAccess m i) refl f₂ n₂ in
+            let p = passes s₁ b₁ v₁ (hasPrivateAccess m i) refl (λ z. ap verdictOf (slot-plain g x s₁ _ (lookups-quiet x h)) ∙ f₁ z) n₁ in
+            let q = passes s₂ b₂ v₂ (hasPrivateAccess m i) refl (λ z. ap verdictOf (slot-plain g x s₂ _ (lookups-quiet x k)) ∙ f₂ z) n₂ in
             judged (quiet-effects h k) v₁ v₂ refl refl (p ∙ sym q)
 
   -- A bundle at a walked address of accepted code.

@@ -14,13 +14,18 @@ use Rattle.products.specs.declared.Products.the-variants as products
 use Rattle.core_state.specs.State.{State, state, specials, further, landed, arrived}
 use Rattle.core_state.specs.declared.WaitingTransfer.{WaitingTransfer}
 use Rattle.core_state.specs.declared.WaitingLoad.the-variants.{Nothing}
-use Rattle.bundle_model.specs.Refusal.{effectTests}
+use Rattle.answers.specs.TestLaws.{andThen, verdict-append}
+use Rattle.method_cache.specs.MethodCache.{heldAfter, misses, wordsFetched}
+use Rattle.bundle_model.specs.Lookup.{lookups, lookupTests, heldBy}
+use Rattle.bundle_model.specs.Refusal.{effectTests, slotTests}
+use Rattle.bundle_model.specs.Execute.{oneCycle}
 use Rattle.core_state.specs.Writes.{writeAlu}
-use Rattle.bundle_model.specs.Bundle.{writeOne, onward, written, buffersAfter, stackMoved, countsOf}
+use Rattle.bundle_model.specs.Bundle.{writeOne, onward, written, stateDone, buffersAfter, stackMoved, countsOf}
 use Rattle.step_laws.specs.KeptLaws.{arrived-cases}
 use Rattle.step_laws.specs.StackKept.{Passed, passed-open}
 use Rattle.marking.specs.declared.Marking.{Marking}
 use Rattle.even_pace.specs.Terms.{SameState, SameBuffers, Agree}
+use Rattle.even_pace.specs.StateLaws.{with-held}
 use Rattle.even_pace.specs.FlowLaws.{landed-both, landed-predicates, landed-none}
 use Rattle.even_pace.specs.ProductLaws.{arrived-both}
 use Rattle.even_pace.specs.BufferLaws.{buffers-refl, buffers-sym, buffers-trans, store-both, store-quiet, moved-both}
@@ -28,9 +33,9 @@ use Rattle.even_pace.specs.Alike.{SameEffect, of-alu, special, product, 
 use Rattle.settings.specs.Setup.{Buffers, Setup}
 use Rattle.answers.specs.Test.{verdict as verdictOf}
 
--- What of a state judges and counts a bundle: ss, st and the waiting transfer.
+-- What of a state judges and counts a bundle: ss, st, the waiting transfer and the blocks held.
 judging : State → State
-judging s = state [] [] (specials 0 0 (s .specials .ss) (s .specials .st) 0 0 0 0) 0 0 (s .transfer) Nothing (further products.Nothing)
+judging s = state [] [] (specials 0 0 (s .specials .ss) (s .specials .st) 0 0 0 0) 0 0 (s .transfer) Nothing (further products.Nothing (s .further .held))
 
 tests-judging : (g : Settings) (x : Setup) (s : State) (e : Effect) → effectTests g x s e ≡ effectTests g x (judging s) e
 unfolding judging
@@ -43,16 +48,16 @@ tests-judging g x s (effect.Stack c n z) = refl
 tests-judging g x s (effect.Transfer d t) = refl
 tests-judging g x s effect.Exception = refl
 
-counts-judging : (g : Settings) (s : State) (e : Effect) → countsOf g s e ≡ countsOf g (judging s) e
+counts-judging : (g : Settings) (x : Setup) (s : State) (e : Effect) → countsOf g x s e ≡ countsOf g x (judging s) e
 unfolding judging
-counts-judging g s (effect.Alu a) = refl
-counts-judging g s (effect.Special d v) = refl
-counts-judging g s (effect.Product l h) = refl
-counts-judging g s (effect.Load k w r a) = refl
-counts-judging g s (effect.Store k w a v) = refl
-counts-judging g s (effect.Stack c n z) = refl
-counts-judging g s (effect.Transfer d t) = refl
-counts-judging g s effect.Exception = refl
+counts-judging g x s (effect.Alu a) = refl
+counts-judging g x s (effect.Special d v) = refl
+counts-judging g x s (effect.Product l h) = refl
+counts-judging g x s (effect.Load k w r a) = refl
+counts-judging g x s (effect.Store k w a v) = refl
+counts-judging g x s (effect.Stack c n z) = refl
+counts-judging g x s (effect.Transfer d t) = refl
+counts-judging g x s effect.Exception = refl
 
 moved-judging : (g : Settings) (x : Setup) (s : State) (c : StackControl) (n : ℕ) (b : Buffers) → stackMoved g x s c n b ≡ stackMoved g x (judging s) c n b
 unfolding judging stackMoved
@@ -61,13 +66,13 @@ moved-judging g x s c n b = refl
 module _ {m : Marking} (g : Settings) (x : Setup) {s₁ s₂ : State} (a : SameState m s₁ s₂) where
   same-judging : judging s₁ ≡ judging s₂
   unfolding judging
-  same-judging = λ i. state [] [] (specials 0 0 (a .specials .ss i) (a .specials .st i) 0 0 0 0) 0 0 (a .transfer i) Nothing (further products.Nothing)
+  same-judging = λ i. state [] [] (specials 0 0 (a .specials .ss i) (a .specials .st i) 0 0 0 0) 0 0 (a .transfer i) Nothing (further products.Nothing (a .further .held i))
 
   tests-same : (e : Effect) → effectTests g x s₁ e ≡ effectTests g x s₂ e
   tests-same e = tests-judging g x s₁ e ∙ ap (λ (s : State). effectTests g x s e) same-judging ∙ sym (tests-judging g x s₂ e)
 
-  counts-same : (e : Effect) → countsOf g s₁ e ≡ countsOf g s₂ e
-  counts-same e = counts-judging g s₁ e ∙ ap (λ (s : State). countsOf g s e) same-judging ∙ sym (counts-judging g s₂ e)
+  counts-same : (e : Effect) → countsOf g x s₁ e ≡ countsOf g x s₂ e
+  counts-same e = counts-judging g x s₁ e ∙ ap (λ (s : State). countsOf g x s e) same-judging ∙ sym (counts-judging g x s₂ e)
 
   -- The same effect is judged with the same number.
   pub verdict-both : {e₁ e₂ : Effect} → SameEffect m e₁ e₂ → verdictOf (effectTests g x s₁ e₁) ≡ verdictOf (effectTests g x s₂ e₂)
@@ -80,29 +85,65 @@ module _ {m : Marking} (g : Settings) (x : Setup) {s₁ s₂ : State} (a : SameS
   verdict-both (transfer {d} {t}) = ap verdictOf (tests-same (effect.Transfer d t))
   verdict-both exception = refl
 
-  counts-both : {e₁ e₂ : Effect} → SameEffect m e₁ e₂ → countsOf g s₁ e₁ ≡ countsOf g s₂ e₂
+  counts-both : {e₁ e₂ : Effect} → SameEffect m e₁ e₂ → countsOf g x s₁ e₁ ≡ countsOf g x s₂ e₂
+  unfolding misses wordsFetched
   counts-both (of-alu h) = refl
   counts-both (special h) = refl
   counts-both (product h k) = refl
   counts-both (load h) = refl
   counts-both (store h) = refl
   counts-both (stack {c} {n} {z}) = counts-same (effect.Stack c n z)
-  counts-both (transfer {d} {t}) = refl
+  counts-both (transfer {d} {t}) = counts-same (effect.Transfer d t)
   counts-both exception = refl
 
+-- The same blocks are looked up by effects that are alike: by the same effect, and none by a quiet one.
+module _ {m : Marking} (x : Setup) where
+  lookups-both : {e₁ e₂ : Effect} → SameEffect m e₁ e₂ → lookups x e₁ ≡ lookups x e₂
+  lookups-both (of-alu h) = refl
+  lookups-both (special h) = refl
+  lookups-both (product h k) = refl
+  lookups-both (load h) = refl
+  lookups-both (store h) = refl
+  lookups-both stack = refl
+  lookups-both transfer = refl
+  lookups-both exception = refl
+
+  pub lookups-quiet : {e : Effect} → QuietEffect m e → lookups x e ≡ []
+  lookups-quiet (quiet-alu h) = refl
+  lookups-quiet (quiet-special h) = refl
+  lookups-quiet (quiet-product h k) = refl
+  lookups-quiet (quiet-load h) = refl
+  lookups-quiet (quiet-store h) = refl
+
+  lookups-alike : {e₁ e₂ : Effect} → AlikeEffect m e₁ e₂ → lookups x e₁ ≡ lookups x e₂
+  lookups-alike (same-effect h) = lookups-both h
+  lookups-alike (quiet-effects h k) = lookups-quiet h ∙ sym (lookups-quiet k)
+
+  -- So all tests of slot one refuse it with the same number, and the same blocks are held then.
+  pub slot-both : {e₁ e₂ : Effect} (g : Settings) {s₁ s₂ : State} → SameState m s₁ s₂ → SameEffect m e₁ e₂
+      → verdictOf (slotTests g x s₁ e₁) ≡ verdictOf (slotTests g x s₂ e₂)
+  unfolding slotTests
+  slot-both {e₁} {e₂} g {s₁} {s₂} a h =
+      verdict-append (effectTests g x s₁ e₁) (lookupTests (x .method) (x .code) (lookups x e₁))
+      ∙ (λ i. andThen (verdict-both g x a h i) (verdictOf (lookupTests (x .method) (x .code) (lookups-both h i))))
+      ∙ sym (verdict-append (effectTests g x s₂ e₂) (lookupTests (x .method) (x .code) (lookups x e₂)))
+
+  held-alike : {e₁ e₂ : Effect} {s₁ s₂ : State} → SameState m s₁ s₂ → AlikeEffect m e₁ e₂ → heldBy x s₁ e₁ ≡ heldBy x s₂ e₂
+  held-alike a h = λ i. heldAfter (x .method) (x .code) (a .further .held i) (lookups-alike h i)
+
 -- A quiet effect counts one bundle and one cycle.
-counts-quiet : {m : Marking} {e : Effect} (g : Settings) (s : State) → QuietEffect m e
-    → countsOf g s e ≡ record { bundles = 1; cycles = 1; spilled = 0; filled = 0 }
-counts-quiet g s (quiet-alu h) = refl
-counts-quiet g s (quiet-special h) = refl
-counts-quiet g s (quiet-product h k) = refl
-counts-quiet g s (quiet-load h) = refl
-counts-quiet g s (quiet-store h) = refl
+counts-quiet : {m : Marking} {e : Effect} (g : Settings) (x : Setup) (s : State) → QuietEffect m e → countsOf g x s e ≡ oneCycle
+unfolding misses wordsFetched
+counts-quiet g x s (quiet-alu h) = refl
+counts-quiet g x s (quiet-special h) = refl
+counts-quiet g x s (quiet-product h k) = refl
+counts-quiet g x s (quiet-load h) = refl
+counts-quiet g x s (quiet-store h) = refl
 
 pub counts-alike : {m : Marking} {e₁ e₂ : Effect} (g : Settings) (x : Setup) {s₁ s₂ : State} → SameState m s₁ s₂ → AlikeEffect m e₁ e₂
-    → countsOf g s₁ e₁ ≡ countsOf g s₂ e₂
+    → countsOf g x s₁ e₁ ≡ countsOf g x s₂ e₂
 counts-alike g x a (same-effect h) = counts-both g x a h
-counts-alike g x {s₁} {s₂} a (quiet-effects h k) = counts-quiet g s₁ h ∙ sym (counts-quiet g s₂ k)
+counts-alike g x {s₁} {s₂} a (quiet-effects h k) = counts-quiet g x s₁ h ∙ sym (counts-quiet g x s₂ k)
 
 -- Onto what slot one writes: no load waits, and the predicates are those of the start.
 onto-none : (s : State) → arrived (landed s) .load ≡ Nothing
@@ -156,9 +197,10 @@ module _ {m : Marking} (g : Settings) (x : Setup) (ordered : x .lo ≤ x .hi) {s
       subst (λ (w : WaitingTransfer). SameState m (onward e₁ (s₁ .transfer) following after₁) (onward e₂ w following after₂))
       (a .transfer) (onward-alike (writeAlu-alike one two) (s₁ .transfer) following e)
 
-  -- Both.
+  -- Both, and the blocks held.
   pub done-alike : {e₁ e₂ : Effect} {two₁ two₂ : AluEffect} (following : ℕ) → AlikeEffect m e₁ e₂ → AlikeAlu m two₁ two₂ → Passed g x s₁ e₁
       → Passed g x s₂ e₂
       → length (s₁ .predicates) ≡ 8 → length (s₂ .predicates) ≡ 8 → getD (s₁ .predicates) 0 false ≡ true → getD (s₂ .predicates) 0 false ≡ true
-      → Agree m x (written g b₁ s₁ e₁ two₁ following) (buffersAfter g x s₁ e₁ b₁) (written g b₂ s₂ e₂ two₂ following) (buffersAfter g x s₂ e₂ b₂)
-  done-alike following e two p q n₁ n₂ t₁ t₂ = record { state = written-alike following e two p n₁ n₂ t₁ t₂; buffers = buffers-alike e p q }
+      → Agree m x (stateDone g x b₁ s₁ e₁ two₁ following) (buffersAfter g x s₁ e₁ b₁) (stateDone g x b₂ s₂ e₂ two₂ following) (buffersAfter g x s₂ e₂ b₂)
+  done-alike following e two p q n₁ n₂ t₁ t₂ =
+      record { state = with-held (written-alike following e two p n₁ n₂ t₁ t₂) _ _ (held-alike x a e); buffers = buffers-alike e p q }

@@ -11,6 +11,8 @@ use Rattle.isa.specs.Format.{reading, row}
 use Rattle.decoder.specs.Decode as decoder
 use Rattle.decoder.specs.Decode.{bundleWords, guardOf, slotTwo, decode}
 use Rattle.stack_cache.specs.Stack.{isCacheSize, cacheWord, putCacheWord, partOf, putPart, cacheNumber, putCacheNumber, below, spillWhile, fillWhile, topAfter, spills, fills, spillAfter, badWindow, badAmount, every, movedOutside, spilled, filled}
+use Rattle.method_cache.specs.declared.Method.{Method}
+use Rattle.method_cache.specs.MethodCache.{capacityOk, sizeAt, badBlock, isHeld, bytesHeld, roomFor, looked, heldAfter, misses, wordsFetched, heldGood, heldOk}
 use Rattle.answers.specs.Answer.{Returned}
 use Rattle.settings.specs.Settings.{admits}
 use Rattle.memory.specs.Access.{loadScale, storeScale, readNumber, extended, loadedValue, stored, mainOpen, accessOpen}
@@ -18,11 +20,13 @@ use Rattle.alu_effects.specs.AluEffects.{predicatesWord, special, op2Value, alu
 use Rattle.effects.specs.Effect.{accessAddress, amountWords, amountAligned, stackEffect, transferOf, effectOf, slotOneEffect}
 use Rattle.products.specs.declared.Products.the-variants as products
 use Rattle.products.specs.Products.{productsOk, dueProduct, nearerProducts, withOneMore}
-use Rattle.core_state.specs.State.{State, Shaped, state, specials, withRegister, withPredicate, predicatesOf, withSpecial, landed, transferred, arrived, further, wellFormed, ended as hasEnded}
+use Rattle.core_state.specs.State.{State, Shaped, state, specials, withRegister, withPredicate, predicatesOf, withSpecial, landed, transferred, arrived, further, partsOk, ended as hasEnded}
 use Rattle.core_state.specs.declared.WaitingTransfer.the-variants as transfer
 use Rattle.core_state.specs.declared.WaitingLoad.{WaitingLoad}
 use Rattle.core_state.specs.declared.WaitingLoad.the-variants as load
-use Rattle.bundle_model.specs.Bundle.{stackMoved, buffersAfter, writeOne, written, bundle, readiness, step}
+use Rattle.bundle_model.specs.Bundle.{stackMoved, buffersAfter, writeOne, written, bundle, wellFormed, readiness, step}
+use Rattle.bundle_model.specs.Lookup.{basesOf, lookupTests}
+use Rattle.bundle_model.specs.Refusal.{slotTests}
 use Rattle.core_state.specs.Writes.{writeAlu, delaySlots}
 use Rattle.run_model.specs.Run.{run, Tried, tries}
 use Rattle.marking.specs.declared.Marking.{Marking}
@@ -44,8 +48,12 @@ bytesOf [] = []
 bytesOf (w ∷ ws) = w / 16777216 ∷ w / 65536 % 256 ∷ w / 256 % 256 ∷ w % 256 ∷ bytesOf ws
 
 -- Main memory of 32 bytes with the stack area from 16 on, 4 bytes of local memory and a cache of 4 words, all zero.
+abbrev pub withMethod : List ℕ → Method → Setup
+withMethod code c = record { code = code; lo = 16; hi = 32; method = c }
+
+-- Without a method cache, unless it is said.
 abbrev pub within : List ℕ → Setup
-within code = record { code = code; lo = 16; hi = 32 }
+within code = withMethod code (record { on = false; blocks = 0; bytes = 0 })
 
 abbrev pub lent : Buffers
 lent = buffers (replicate 32 0) (replicate 4 0) (replicate 4 0)
@@ -68,12 +76,12 @@ marking = markingWith false false
 
 -- A state at address 0 with a value in r1, one in p1, and a load that waits or none.
 abbrev pub begin : ℕ → Bool → WaitingLoad → State
-begin v p waiting = state (0 ∷ v ∷ replicate 30 0) (true ∷ p ∷ replicate 6 false) (specials 0 0 32 32 0 4 0 0) 0 0 transfer.Nothing waiting (further products.Nothing)
+begin v p waiting = state (0 ∷ v ∷ replicate 30 0) (true ∷ p ∷ replicate 6 false) (specials 0 0 32 32 0 4 0 0) 0 0 transfer.Nothing waiting (further products.Nothing [])
 
 -- What the check answers, which rules the bundle at 0 breaks, what a run tries, and what it answers. (The first line of each names
 -- the definitions by which it is computed.)
 unfoldable pub checkUnder : Marking → List ℕ → CheckAnswer
-unfolding checked walkFrom verdict admits isCacheSize markingOk outsideCode numberAt bundleWords decode guardOf decoder.slotOne slotTwo reading row signed
+unfolding checked walkFrom verdict admits isCacheSize capacityOk markingOk outsideCode numberAt bundleWords decode guardOf decoder.slotOne slotTwo reading row signed
     keeps breaks operationBreaks asked breaksA breaksB breaksC breaksD breaksE privateStore someOf
 checkUnder m code = checked (within code) 32 4 4 m
 
@@ -90,7 +98,8 @@ unfolding hasPrivateAccess asked numberAt bundleWords decode guardOf decoder.slo
 hasAccess code a = hasPrivateAccess marking (bundleAt code a)
 
 unfoldable pub tried : ℕ → List ℕ → State → List Tried
-unfolding tries step readiness admits isCacheSize wellFormed hasEnded bundle
+unfolding tries step readiness admits isCacheSize capacityOk wellFormed partsOk heldOk heldGood badBlock sizeAt isHeld bytesHeld hasEnded bundle
+    slotTests basesOf lookupTests looked roomFor heldAfter misses wordsFetched
     outsideCode numberAt bundleWords decode guardOf decoder.slotOne slotTwo reading row signed
     slotOneEffect slotTwoEffect effectOf aluEffect op2Value arithmetic multiply compare combine
     lessSigned lessEqualSigned shiftRightSigned copyBit productSigned predicatesWord special
@@ -109,9 +118,9 @@ answered k code s = run (within code) k s lent .answer
 pub begin-shaped : (v : ℕ) (p : Bool) (w : WaitingLoad) → Shaped (begin v p w)
 begin-shaped v p w = record { registers = refl; predicates = refl }
 
-pub begin-well : (v : ℕ) (p : Bool) → wellFormed (begin v p load.Nothing) ≡ true
-unfolding wellFormed productsOk
-begin-well v p = refl
+pub begin-well : (code : List ℕ) (v : ℕ) (p : Bool) → wellFormed (within code) (begin v p load.Nothing) ≡ true
+unfolding wellFormed partsOk productsOk heldOk
+begin-well code v p = refl
 
 pub begin-agree : (sl sh : Bool) (code : List ℕ) (v₁ v₂ : ℕ) (p₁ p₂ : Bool)
     → Agree (markingWith sl sh) (within code) (begin v₁ p₁ load.Nothing) lent (begin v₂ p₂ load.Nothing) lent

@@ -139,7 +139,7 @@ module _ (v₁ v₂ : ℕ) where
   pub frame-even : Throughout (Stops marking frame) SameFetch (SameTried marking (within frame)) T₁ T₂ (run (within frame) 8 s₁ lent .answer) (run (within frame) 8 s₂ other .answer)
   frame-even =
       go (even-pace (within frame) 8 marking s₁ s₂ lent other frame-accepted (begin-shaped v₁ true load.Nothing) (begin-shaped v₂ false load.Nothing)
-      (begin-well v₁ true) (begin-well v₂ false) frame-agree)
+      (begin-well frame v₁ true) (begin-well frame v₂ false) frame-agree)
     where
       none : {t₁ t₂ : Tried} (k : ℕ) → getElem? T₁ k ≡ some t₁ → getElem? T₂ k ≡ some t₂ → Stops marking frame t₁ ⊎ Stops marking frame t₂ → ⊥
       none k e f (inl h) = all-go T₁ go₁ k _ e h

@@ -9,8 +9,8 @@ use native.Mathlib.Omega.{arith}
 use lib.ListN.{length}
 use Rattle.settings.specs.Setup.{Setup}
 use Rattle.bundle_model.specs.Counts.{plus}
-use Rattle.bundle_model.specs.Bundle.{Outcome}
-use Rattle.run_model.specs.Run.{counted, Tried}
+use Rattle.bundle_model.specs.Bundle.{Outcome, counted}
+use Rattle.run_model.specs.Run.{Tried}
 use Rattle.marking.specs.declared.Marking.{Marking}
 use Rattle.even_pace.specs.Terms.{Stops, SameFetch, SameTried, EvenAt, StopsAt}
 use Rattle.even_pace.specs.BundleLaws.{SameOutcome}

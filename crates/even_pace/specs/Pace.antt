@@ -9,15 +9,15 @@ use lib.ListN.{length}
 use Rattle.settings.specs.declared.Settings.{Settings}
 use Rattle.answers.specs.Answer.{Returned, accepted, done, ended, spent, refused}
 use Rattle.settings.specs.Settings.{admits}
-use Rattle.settings.specs.SettingsLaws.{area-ordered, area-inside}
-use Rattle.core_state.specs.State.{State, Shaped, noneWaits, wellFormed, ended as hasEnded}
+use Rattle.settings.specs.SettingsLaws.{area-ordered, area-inside, capacity-ok}
+use Rattle.core_state.specs.State.{State, Shaped, noneWaits, ended as hasEnded}
 use Rattle.bundle_model.specs.declared.Counts.{Counts}
-use Rattle.bundle_model.specs.Bundle.{Outcome, outcome, bundle}
+use Rattle.bundle_model.specs.Bundle.{Outcome, outcome, counted, wellFormed, bundle}
 use Rattle.step_laws.specs.StepCases.{isDone}
 use Rattle.step_laws.specs.KeptLaws.{bundle-shaped}
-use Rattle.step_laws.specs.WellFormedLaws.{well-formed-parts}
+use Rattle.step_laws.specs.WellFormedLaws.{well-parts, well-formed-parts}
 use Rattle.step_laws.specs.StackKept.{bundle-lengths}
-use Rattle.run_model.specs.Run.{counted, run, Tried, triedAt, tries}
+use Rattle.run_model.specs.Run.{run, Tried, triedAt, tries}
 use Rattle.marking.specs.declared.Marking.{Marking}
 use Rattle.single_path.specs.Check.{Walked}
 use Rattle.single_path.specs.WalkLaws.{walked-decided}
@@ -64,8 +64,8 @@ module _ (m : Marking) (x : Setup) (main local words : ℕ)
     pub cache-length : length (b₁ .cache) ≡ words
     pub shaped₁ : Shaped s₁
     pub shaped₂ : Shaped s₂
-    pub well₁ : wellFormed s₁ ≡ true
-    pub well₂ : wellFormed s₂ ≡ true
+    pub well₁ : wellFormed x s₁ ≡ true
+    pub well₂ : wellFormed x s₂ ≡ true
     pub agree : Agree m x s₁ b₁ s₂ b₂
 
   module _ {s₁ : State} {b₁ : Buffers} {s₂ : State} {b₂ : Buffers} (p : Pair s₁ b₁ s₂ b₂) where
@@ -90,8 +90,8 @@ module _ (m : Marking) (x : Setup) (main local words : ℕ)
     unfolding hasEnded
     ended-both = λ i. eqb (p .agree .state .fetch i) (length (x .code)) && noneWaits (p .agree .state .transfer i)
 
-    grounded : (s : State) → Shaped s → wellFormed s ≡ true → Grounded s
-    grounded s h w = record { eight = h .predicates; first = well-formed-parts s w .true-predicate }
+    grounded : (s : State) → Shaped s → wellFormed x s ≡ true → Grounded s
+    grounded s h w = record { eight = h .predicates; first = well-formed-parts s (well-parts x s w) .true-predicate }
 
     same-as-found : (a : Returned) → SameOutcome m x (outcome a s₁ noCounts b₁) (outcome a s₂ noCounts b₂)
     same-as-found a = record { answer = refl; counts = refl; contents = p .agree }
@@ -110,8 +110,8 @@ module _ (m : Marking) (x : Setup) (main local words : ℕ)
           cache-length = k .cache ∙ p .cache-length;
           shaped₁ = bundle-shaped g x s₁ b₁ (p .shaped₁);
           shaped₂ = bundle-shaped g x s₂ b₂ (p .shaped₂);
-          well₁ = bundle-well-formed g x s₁ b₁ (p .well₁);
-          well₂ = bundle-well-formed g x s₂ b₂ (p .well₂);
+          well₁ = bundle-well-formed g x s₁ b₁ (capacity-ok g admitted) (p .well₁);
+          well₂ = bundle-well-formed g x s₂ b₂ (capacity-ok g admitted) (p .well₂);
           agree = o .contents;
         }
 

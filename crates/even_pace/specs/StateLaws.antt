@@ -9,7 +9,7 @@ use native.Mathlib.Decide.{ℕ-discrete}
 use Rattle.word.specs.BoolLaws.{or-left, or-right}
 use Rattle.alu_effects.specs.declared.Specials.{Specials}
 use Rattle.products.specs.declared.Products.{Products}
-use Rattle.core_state.specs.State.{Further, State, state, withRegister, withPredicate, withLoad, withProducts, withPredicates, withSpecials}
+use Rattle.core_state.specs.State.{Further, State, state, withRegister, withPredicate, withLoad, withProducts, withHeld, withPredicates, withSpecials}
 use Rattle.core_state.specs.declared.WaitingLoad.{WaitingLoad}
 use Rattle.core_state.specs.declared.WaitingLoad.the-variants.{Nothing, Waits}
 use Rattle.marking.specs.declared.Marking.{Marking}
@@ -39,13 +39,13 @@ specials-trans a b =
     }
 
 further-refl : {m : Marking} (f : Further) → SameFurther m f f
-further-refl f = record { products = λ p. refl }
+further-refl f = record { products = λ p. refl; held = refl }
 
 further-sym : {m : Marking} {f g : Further} → SameFurther m f g → SameFurther m g f
-further-sym a = record { products = λ p. sym (a .products p) }
+further-sym a = record { products = λ p. sym (a .products p); held = sym (a .held) }
 
 further-trans : {m : Marking} {f g h : Further} → SameFurther m f g → SameFurther m g h → SameFurther m f h
-further-trans a b = record { products = λ p. a .products p ∙ b .products p }
+further-trans a b = record { products = λ p. a .products p ∙ b .products p; held = a .held ∙ b .held }
 
 pub state-refl : {m : Marking} (s : State) → SameState m s s
 state-refl s =
@@ -177,5 +177,18 @@ module _ {m : Marking} {s₁ s₂ : State} (a : SameState m s₁ s₂) where
         base = a .base;
         transfer = a .transfer;
         load = a .load;
-        further = record { products = h };
+        further = record { products = h; held = a .further .held };
+      }
+
+  pub with-held : (h₁ h₂ : List ℕ) → h₁ ≡ h₂ → SameState m (withHeld s₁ h₁) (withHeld s₂ h₂)
+  with-held h₁ h₂ h =
+      record {
+        registers = a .registers;
+        predicates = a .predicates;
+        specials = a .specials;
+        fetch = a .fetch;
+        base = a .base;
+        transfer = a .transfer;
+        load = a .load;
+        further = record { products = a .further .products; held = h };
       }

@@ -2,7 +2,8 @@
 use Prim.Native.Nat.{ℕ}
 use mathlib.Core.Bool.{true}
 use mathlib.Core.Path.{_≡_}
-use Rattle.core_state.specs.State.{State, Shaped, wellFormed}
+use Rattle.core_state.specs.State.{State, Shaped}
+use Rattle.bundle_model.specs.Bundle.{wellFormed}
 use Rattle.run_model.specs.Run.{run, tries}
 use Rattle.marking.specs.declared.Marking.{Marking}
 use Rattle.even_pace.specs.Terms.{Accepted, Agree, EvenPace}
@@ -15,7 +16,7 @@ use Rattle.bundle_model.specs.Counts.{noCounts}
 abbrev pub Demand3 : Type 0
 Demand3 = (x : Setup) (budget : ℕ) (m : Marking) (s₁ s₂ : State) (b₁ b₂ : Buffers)
     → Accepted x m b₁
-    → Shaped s₁ → Shaped s₂ → wellFormed s₁ ≡ true → wellFormed s₂ ≡ true
+    → Shaped s₁ → Shaped s₂ → wellFormed x s₁ ≡ true → wellFormed x s₂ ≡ true
     → Agree m x s₁ b₁ s₂ b₂
     → EvenPace m x (tries x budget s₁ b₁ noCounts) (tries x budget s₂ b₂ noCounts)
     (run x budget s₁ b₁ .answer) (run x budget s₂ b₂ .answer)

@@ -4,6 +4,7 @@ use mathlib.Core.Bool.{Bool, true, false, not, cond, false≢true}
 use mathlib.Core.Logic.{_⊎_, inl, inr}
 use mathlib.Core.Path.{_≡_, refl, sym, ap, _∙_}
 use lib.Dec.{eqb}
+use lib.ListN.{getD}
 use Rattle.isa.specs.declared.AccessKind.{AccessKind}
 use Rattle.isa.specs.declared.Operation.{Operation}
 use Rattle.isa.specs.declared.Operation.the-variants.{Alu, Multiply, Mts, Mfs, Load, Store, StackControl, Transfer, Trap, Xret}
@@ -21,7 +22,9 @@ use Rattle.effects.specs.declared.Effect.the-variants as effect
 use Rattle.alu_effects.specs.AluEffects.{holds}
 use Rattle.effects.specs.Effect.{address, effectOf, slotOneEffect, slotOne}
 use Rattle.core_state.specs.State.{State, startOf}
-use Rattle.bundle_model.specs.Refusal.{effectTests}
+use Rattle.bundle_model.specs.Lookup.{lookupTests}
+use Rattle.bundle_model.specs.Refusal.{slotTests}
+use Rattle.bundle_model.specs.ExecuteLaws.{slot-plain}
 use Rattle.bundle_model.specs.Bundle.{Outcome, refusedOr, bundle}
 use Rattle.marking.specs.declared.Marking.{Marking}
 use Rattle.marking_rules.specs.declared.Asked.{Asked}
@@ -61,7 +64,7 @@ module _ (g : Settings) (x : Setup) (s : State) (n : ℕ) where
   tests-number main k a u = three (not (eqb (a % u) 0)) (badAccess g (s .specials .st) (s .specials .ss) k) (not (accessOpen main g (s .specials .st) (s .specials .ss) k a u))
 
   access-number : (m : Marking) (o : Operation) → asked m o .access ≡ true
-      → verdictOf (effectTests g x s (effectOf (startOf s) o)) ≡ Refused n → OfAccess n
+      → verdictOf (slotTests g x s (effectOf (startOf s) o)) ≡ Refused n → OfAccess n
   unfolding asked effectOf verdictOf
   access-number m (Alu o) h e = absurd (false≢true (sym (ap (λ (u : Asked). u .access) (alu-row m o)) ∙ h))
   access-number m (Multiply f u y) h e = absurd (false≢true h)
@@ -69,25 +72,25 @@ module _ (g : Settings) (x : Setup) (s : State) (n : ℕ) where
   access-number m (Mfs r d) h e = absurd (false≢true h)
   access-number m (Load k w rd ra o) h e =
       let a = address (s .registers) (s .specials .st) k (loadScale w) ra o in
-      tests-number (mainReadable g x a (2 ^ loadScale w)) k a (2 ^ loadScale w) e
+      tests-number (mainReadable g x a (2 ^ loadScale w)) k a (2 ^ loadScale w) (sym (ap verdictOf (slot-plain g x s (effect.Load k w rd a) refl)) ∙ e)
   access-number m (Store k w ra rs o) h e =
       let a = address (s .registers) (s .specials .st) k (storeScale w) ra o in
-      tests-number (mainWritable g x a (2 ^ storeScale w)) k a (2 ^ storeScale w) e
+      tests-number (mainWritable g x a (2 ^ storeScale w)) k a (2 ^ storeScale w) (sym (ap verdictOf (slot-plain g x s (effect.Store k w a (getD (s .registers) rs 0)) refl)) ∙ e)
   access-number m (StackControl o) h e = absurd (false≢true (sym (ap (λ (u : Asked). u .access) (stack-row m o)) ∙ h))
   access-number m (Transfer d t) h e = absurd (false≢true (sym (ap (λ (u : Asked). u .access) (transfer-row m d t)) ∙ h))
   access-number m (Trap k) h e = absurd (false≢true h)
   access-number m (Xret d) h e = absurd (false≢true h)
 
-  slot-number : (m : Marking) (i : Instruction) → privateAccess m i ≡ true → verdictOf (effectTests g x s (slotOneEffect (startOf s) i)) ≡ Refused n
+  slot-number : (m : Marking) (i : Instruction) → privateAccess m i ≡ true → verdictOf (slotTests g x s (slotOneEffect (startOf s) i)) ≡ Refused n
       → OfAccess n
-  unfolding slotOneEffect verdictOf
+  unfolding slotOneEffect verdictOf slotTests lookupTests
   slot-number m i h = go (holds (s .predicates) (i .guard))
     where
-      go : (t : Bool) → verdictOf (effectTests g x s (cond t (effectOf (startOf s) (i .operation)) (effect.Alu alu.Nothing))) ≡ Refused n → OfAccess n
+      go : (t : Bool) → verdictOf (slotTests g x s (cond t (effectOf (startOf s) (i .operation)) (effect.Alu alu.Nothing))) ≡ Refused n → OfAccess n
       go true e = access-number m (i .operation) (and-right (privateGuard m (i .guard)) _ h) e
       go false e = absurd (false≢true (ap isRefusal e))
 
-  bundle-number : (m : Marking) (i : Bundle) → hasPrivateAccess m i ≡ true → verdictOf (effectTests g x s (slotOne (startOf s) i)) ≡ Refused n
+  bundle-number : (m : Marking) (i : Bundle) → hasPrivateAccess m i ≡ true → verdictOf (slotTests g x s (slotOne (startOf s) i)) ≡ Refused n
       → OfAccess n
   unfolding hasPrivateAccess
   bundle-number m Undecodable h e = absurd (false≢true h)
@@ -114,12 +117,12 @@ pub refused-for-access : {m : Marking} (g : Settings) (x : Setup) (s : State) (b
     → hasPrivateAccess m (bundleAt (x .code) (s .fetch)) ≡ true
     → bundle g x s b .answer ≡ refused n → OfAccess n
 refused-for-access {m} g x s b n f h e =
-    go (verdictOf (effectTests g x s (slotOne (startOf s) i))) refl (sym (ap (λ (o : Outcome). o .answer) (bundle-outcome g x s b f)) ∙ e)
+    go (verdictOf (slotTests g x s (slotOne (startOf s) i))) refl (sym (ap (λ (o : Outcome). o .answer) (bundle-outcome g x s b f)) ∙ e)
   where
     i : Bundle
     i = bundleAt (x .code) (s .fetch)
 
-    go : (v : Verdict) → verdictOf (effectTests g x s (slotOne (startOf s) i)) ≡ v
+    go : (v : Verdict) → verdictOf (slotTests g x s (slotOne (startOf s) i)) ≡ v
         → refusedOr v s b (doneOf g x i (followingAt (x .code) (s .fetch)) s b) .answer ≡ refused n → OfAccess n
     go Passing p q = absurd (false≢true (ap isRefused q))
     go (Refused k) p q = bundle-number g x s n m i h (p ∙ ap Refused (ap (answerNumber n) q))

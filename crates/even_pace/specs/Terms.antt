@@ -26,7 +26,7 @@ use Rattle.settings.specs.Setup.{Setup, Buffers, isStackByte}
 use Rattle.fetch.specs.Fetch.{bundleAt}
 
 -- Terms that stand elsewhere: `settings` (settings, Setup), `Walked` (single_path, Check), `privateGuard` (marking, Marking), well
--- formed as `wellFormed` (core_state, State), and the bundles that a run tries as `tries` (run_model, Run).
+-- formed as `wellFormed` (bundle_model, Bundle), and the bundles that a run tries as `tries` (run_model, Run).
 
 -- Accepted code: the check of it answers so under the settings and the marking. The lengths are those of what is lent.
 abbrev pub Accepted : Setup → Marking → Buffers → Type 0
@@ -67,8 +67,10 @@ shown sl sh (products.Two p q) = products.Two (shownProduct sl sh p) (shownProdu
 abbrev pub SameProducts : Marking → Products → Products → Type 0
 SameProducts m p₁ p₂ = privateProducts m ≡ false → shown (m .sl) (m .sh) p₁ ≡ shown (m .sl) (m .sh) p₂
 
+-- The blocks held are public always, and so is their order.
 pub record SameFurther (m : Marking) (f₁ f₂ : Further) : Type 0 where
   pub products : SameProducts m (f₁ .products) (f₂ .products)
+  pub held : f₁ .held ≡ f₂ .held
 
 -- Public contents: the state. A waiting load counts if its register is public and not r0: then both runs have it, with one value. All
 -- others are left out of the comparison, also where one run has none.
@@ -113,7 +115,8 @@ pub data Stops (m : Marking) (code : List ℕ) (t : Tried) : Type 0 where
   not-walked : ¬ Walked code (t .fetch) → Stops m code t
   refused-access : (n : ℕ) → t .answer ≡ refused n → hasPrivateAccess m (bundleAt code (t .fetch)) ≡ true → Stops m code t
 
--- Of a bundle tried in both runs: its fetch address is equal, and so are, after it, the four counts and the public contents.
+-- Of a bundle tried in both runs: its fetch address is equal, and so are, after it, the counts, misses and words fetched among them, and the public
+-- contents.
 pub record SameTried (m : Marking) (x : Setup) (t₁ t₂ : Tried) : Type 0 where
   pub fetch : t₁ .fetch ≡ t₂ .fetch
   pub counts : t₁ .counts ≡ t₂ .counts

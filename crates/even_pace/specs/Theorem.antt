@@ -8,8 +8,8 @@ use mathlib.Core.Path.{_≡_, refl}
 use lib.ListN.{length, getElem?}
 use Rattle.word.specs.BoolLaws.{and-left}
 use Rattle.settings.specs.Settings.{admits}
-use Rattle.core_state.specs.State.{State, Shaped, wellFormed}
-use Rattle.bundle_model.specs.Bundle.{Outcome}
+use Rattle.core_state.specs.State.{State, Shaped}
+use Rattle.bundle_model.specs.Bundle.{Outcome, wellFormed}
 use Rattle.run_model.specs.Run.{run, Tried, tries}
 use Rattle.marking.specs.declared.Marking.{Marking}
 use Rattle.marking.specs.Marking.{markingOk}
@@ -29,7 +29,7 @@ module _ (x : Setup) (budget : ℕ) (m : Marking) (s₁ s₂ : State) (b₁ b₂
   abbrev T₂ : List Tried
   T₂ = tries x budget s₂ b₂ noCounts
 
-  lists : Accepted x m b₁ → Shaped s₁ → Shaped s₂ → wellFormed s₁ ≡ true → wellFormed s₂ ≡ true
+  lists : Accepted x m b₁ → Shaped s₁ → Shaped s₂ → wellFormed x s₁ ≡ true → wellFormed x s₂ ≡ true
       → Agree m x s₁ b₁ s₂ b₂ → Result m x T₁ T₂ (run x budget s₁ b₁) (run x budget s₂ b₂)
   lists e x₁ x₂ w₁ w₂ a =
       let main = length (b₁ .main) in
@@ -41,7 +41,7 @@ module _ (x : Setup) (budget : ℕ) (m : Marking) (s₁ s₂ : State) (b₁ b₂
 
   -- Where neither run meets a stopping event, what the runs return agrees: answers, counts, and the public contents of states and
   -- buffers.
-  pub even-runs : Accepted x m b₁ → Shaped s₁ → Shaped s₂ → wellFormed s₁ ≡ true → wellFormed s₂ ≡ true
+  pub even-runs : Accepted x m b₁ → Shaped s₁ → Shaped s₂ → wellFormed x s₁ ≡ true → wellFormed x s₂ ≡ true
       → Agree m x s₁ b₁ s₂ b₂
       → ((j : ℕ) (t : Tried) → getElem? T₁ j ≡ some t → ¬ Stops m (x .code) t) → ((j : ℕ) (t : Tried) → getElem? T₂ j ≡ some t → ¬ Stops m (x .code) t)
       → SameOutcome m x (run x budget s₁ b₁) (run x budget s₂ b₂)

@@ -6,11 +6,11 @@ use mathlib.Core.Path.{_≡_, refl, ap}
 use lib.ListN.{length}
 use Rattle.answers.specs.Answer.{Returned, accepted, done, ended, spent, refused}
 use Rattle.settings.specs.Settings.{admits}
-use Rattle.core_state.specs.State.{State, wellFormed, ended as hasEnded}
+use Rattle.core_state.specs.State.{State, ended as hasEnded}
 use Rattle.bundle_model.specs.declared.Counts.{Counts}
-use Rattle.bundle_model.specs.Bundle.{Outcome, outcome, readiness, bundle}
+use Rattle.bundle_model.specs.Bundle.{Outcome, outcome, counted, wellFormed, readiness, bundle}
 use Rattle.step_laws.specs.StepCases.{isDone, Going, step-bundle, step-ended}
-use Rattle.run_model.specs.Run.{ifDone, counted, run, Tried, triedAt, tries}
+use Rattle.run_model.specs.Run.{ifDone, run, Tried, triedAt, tries}
 use Rattle.settings.specs.Setup.{Buffers, lent, Setup}
 use Rattle.bundle_model.specs.Counts.{noCounts, plus}
 
@@ -22,7 +22,7 @@ if-done ended z y = refl
 if-done spent z y = refl
 if-done (refused n) z y = refl
 
-module _ (x : Setup) (k : ℕ) (s : State) (b : Buffers) (admitted : admits (lent x b) ≡ true) (well : wellFormed s ≡ true) where
+module _ (x : Setup) (k : ℕ) (s : State) (b : Buffers) (admitted : admits (lent x b) ≡ true) (well : wellFormed x s ≡ true) where
   -- With no budget left.
   pub run-none : (c : Counts) → tries x 0 s b c ≡ []
   unfolding tries

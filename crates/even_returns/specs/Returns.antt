@@ -1,6 +1,6 @@
 -- Even pace of what the functions `check` and `run` return, from their contracts; and states of which even pace speaks.
 use Prim.Native.Nat.{ℕ}
-use mathlib.Core.Bool.{Bool, true, false, not, cond, _||_}
+use mathlib.Core.Bool.{Bool, true, false, not, cond, _||_, _&&_}
 use mathlib.Core.Option.{some}
 use mathlib.Core.Path.{_≡_, refl, sym, ap, subst, _∙_}
 use lib.Dec.{leb}
@@ -10,9 +10,12 @@ use Rattle.answers.specs.Answer.{accepted as accepts, refused}
 use Rattle.settings.specs.Settings.{admits}
 use Rattle.settings.specs.Setup.{Setup, Buffers, lent}
 use Rattle.products.specs.Products.{productsOk}
-use Rattle.core_state.specs.State.{State, Shaped, predicatesOf, wellFormed, fresh}
+use Rattle.core_state.specs.State.{State, Shaped, predicatesOf, partsOk, fresh}
 use Rattle.bundle_model.specs.Counts.{noCounts}
-use Rattle.bundle_model.specs.Bundle.{Outcome}
+use Rattle.bundle_model.specs.Bundle.{Outcome, wellFormed}
+use Rattle.method_cache.specs.MethodCache.{bytesHeld, heldGood, heldOk}
+use borrow.Author.Tests.{le-leb}
+use native.Mathlib.Omega.{arith}
 use Rattle.run_model.specs.Run.{run, Tried, tries}
 use Rattle.run_model.specs.RunLaws.{run-shaped, run-well-formed}
 use Rattle.state.specs.declared.State as struct
@@ -38,7 +41,7 @@ pub record Ran-as (x : Setup) (budget : ℕ) (start : struct.State) (b : Buffers
 pub even-returns : (x : Setup) (budget : ℕ) (m : Marking) (q₁ q₂ : struct.State) (b₁ b₂ : Buffers) (v : Checked) (r₁ r₂ : Ran) (after₁ after₂ : Buffers)
     → returned v ≡ checked x (length (b₁ .main)) (length (b₁ .local)) (length (b₁ .cache)) m → v ≡ Accepted
     → Ran-as x budget q₁ b₁ r₁ after₁ → Ran-as x budget q₂ b₂ r₂ after₂
-    → wellFormed (stateOf q₁) ≡ true → wellFormed (stateOf q₂) ≡ true → Agree m x (stateOf q₁) b₁ (stateOf q₂) b₂
+    → wellFormed x (stateOf q₁) ≡ true → wellFormed x (stateOf q₂) ≡ true → Agree m x (stateOf q₁) b₁ (stateOf q₂) b₂
     → ((j : ℕ) (t : Tried) → getElem? (tries x budget (stateOf q₁) b₁ noCounts) j ≡ some t → ¬ Stops m (x .code) t)
     → ((j : ℕ) (t : Tried) → getElem? (tries x budget (stateOf q₂) b₂ noCounts) j ≡ some t → ¬ Stops m (x .code) t)
     → SameOutcome m x (whole r₁ after₁) (whole r₂ after₂)
@@ -52,9 +55,13 @@ pub fresh-shaped : (n hi entry : ℕ) → Shaped (fresh n hi entry)
 unfolding fresh predicatesOf
 fresh-shaped n hi entry = record { registers = refl; predicates = refl }
 
-pub fresh-well-formed : (n hi entry : ℕ) → wellFormed (fresh n hi entry) ≡ true
-unfolding fresh wellFormed productsOk
-fresh-well-formed n hi entry = refl
+pub fresh-well-formed : (x : Setup) (n hi entry : ℕ) → wellFormed x (fresh n hi entry) ≡ true
+unfolding fresh wellFormed partsOk productsOk heldOk heldGood bytesHeld
+fresh-well-formed x n hi entry = go (x .method .on)
+  where
+    go : (t : Bool) → cond t (leb 0 (x .method .blocks) && leb 0 (x .method .bytes)) true ≡ true
+    go true = rw (le-leb 0 (x .method .blocks) (omega arith), le-leb 0 (x .method .bytes) (omega arith)) refl
+    go false = refl
 
 -- Whatever is handed to the opening, the state that it hands back is so.
 module _ (x : Setup) (b : Buffers) (entry : ℕ) where
@@ -71,12 +78,12 @@ module _ (x : Setup) (b : Buffers) (entry : ℕ) where
   pub opened-shaped : Shaped (opening x b entry .state)
   opened-shaped = opening-state Shaped fresh-shaped
 
-  pub opened-well-formed : wellFormed (opening x b entry .state) ≡ true
-  opened-well-formed = opening-state (λ s. wellFormed s ≡ true) fresh-well-formed
+  pub opened-well-formed : wellFormed x (opening x b entry .state) ≡ true
+  opened-well-formed = opening-state (λ s. wellFormed x s ≡ true) (fresh-well-formed x)
 
   -- And so is what a run of it leaves.
   pub ran-shaped : (k : ℕ) (c : Buffers) → Shaped (run x k (opening x b entry .state) c .state)
   ran-shaped k c = run-shaped x k (opening x b entry .state) c opened-shaped
 
-  pub ran-well-formed : (k : ℕ) (c : Buffers) → wellFormed (run x k (opening x b entry .state) c .state) ≡ true
+  pub ran-well-formed : (k : ℕ) (c : Buffers) → wellFormed x (run x k (opening x b entry .state) c .state) ≡ true
   ran-well-formed k c = run-well-formed x k (opening x b entry .state) c opened-well-formed

@@ -32,7 +32,7 @@ told r3 sl sh products = record { r3 = r3; sl = sl; sh = sh; products = products
 abbrev pub after : ℕ → Told → State
 after n t =
     state (0 ∷ 6 ∷ 7 ∷ t .r3 ∷ replicate 28 0) (true ∷ replicate 7 false) (specials (t .sl) (t .sh) 1024 1024 0 16 0 0) (4 * n) 0 transfer.Nothing
-    load.Nothing (further (t .products))
+    load.Nothing (further (t .products) [])
 
 -- At the start, and after each bundle.
 abbrev pub start : Told

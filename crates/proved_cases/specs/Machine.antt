@@ -29,7 +29,7 @@ nop = 0x00400000
 
 -- The counts of a bundle of one cycle.
 abbrev pub counting : ℕ → ℕ → Counts
-counting spilled filled = record { bundles = 1; cycles = 1; spilled = spilled; filled = filled }
+counting spilled filled = record { bundles = 1; cycles = 1; spilled = spilled; filled = filled; misses = 0; fetched = 0 }
 
 -- After sres 12 st is 976, and nothing is spilled; after sres 8 st is 944 and ss 1008, and 4 words are spilled, the first to 1020.
 abbrev pub reserving : List Tried → List Tried

@@ -1,5 +1,6 @@
 -- Runs as cases: bundles tried by `step`, one after the other, from the state that `opening` builds.
 use Prim.Native.Nat.{ℕ, zero, suc, _-_, _*_, _/_, _%_}
+use mathlib.Core.Bool.{false}
 use mathlib.Core.List.{List, [], _∷_, _++_, map}
 use mathlib.Core.Path.{_≡_, refl, ap}
 use lib.ListN.{length, replicate}
@@ -11,15 +12,18 @@ use Rattle.decoder.specs.Decode as decoder
 use Rattle.decoder.specs.Decode.{bundleWords, guardOf, slotTwo, decode}
 use Rattle.stack_cache.specs.Stack.{isCacheSize, cacheWord, putCacheWord, partOf, putPart, cacheNumber, putCacheNumber, below, spillWhile, fillWhile, topAfter, spills, fills, spillAfter, badWindow, badAmount, every, movedOutside, spilled, filled}
 use Rattle.products.specs.Products.{productsOk, dueProduct, nearerProducts, withOneMore}
-use Rattle.core_state.specs.State.{State, startOf, withRegister, withPredicate, predicatesOf, withSpecial, withStack, landed, arrived, goingOn, transferred, wellFormed, ended as hasEnded, fresh}
+use Rattle.core_state.specs.State.{State, startOf, withRegister, withPredicate, predicatesOf, withSpecial, withStack, landed, arrived, goingOn, transferred, partsOk, ended as hasEnded, fresh}
 use Rattle.core_state.specs.declared.WaitingTransfer.{WaitingTransfer}
+use Rattle.method_cache.specs.MethodCache.{capacityOk, heldAfter, misses, wordsFetched, heldOk}
 use Rattle.answers.specs.Answer.{Returned, accepted, done, ended, spent, refused}
 use Rattle.bundle_model.specs.declared.Counts.{Counts}
 use Rattle.settings.specs.Settings.{admits}
 use Rattle.memory.specs.Access.{loadScale, storeScale, readNumber, extended, loadedValue, stored, mainOpen, accessOpen}
 use Rattle.alu_effects.specs.AluEffects.{predicatesWord, special, op2Value, aluEffect, slotTwoEffect}
 use Rattle.effects.specs.Effect.{accessAddress, amountWords, amountAligned, stackEffect, transferOf, effectOf, slotOneEffect, slotOne, onEffect}
-use Rattle.bundle_model.specs.Bundle.{stackMoved, buffersAfter, writeOne, written, Outcome, outcome, bundle, readiness, step}
+use Rattle.bundle_model.specs.Bundle.{stackMoved, buffersAfter, writeOne, written, Outcome, outcome, bundle, wellFormed, readiness, step}
+use Rattle.bundle_model.specs.Lookup.{basesOf, lookupTests}
+use Rattle.bundle_model.specs.Refusal.{slotTests}
 use Rattle.core_state.specs.Writes.{writeAlu, delaySlots}
 use Rattle.state.specs.Open.{Open, opening}
 use Rattle.proved_cases.specs.Case.{Case, AllHold}
@@ -27,9 +31,10 @@ use Rattle.settings.specs.Setup.{Setup, Buffers, buffers, touches}
 use Rattle.answers.specs.Test.{verdict}
 use Rattle.fetch.specs.Fetch.{outsideCode, bundleAt}
 
--- The machine of every run: main memory of 1024 bytes, all zero, with the stack area from 512 to its end; no local memory.
+-- The machine of every run: main memory of 1024 bytes, all zero, with the stack area from 512 to its end; no local memory and no method
+-- cache.
 abbrev pub within : List ℕ → Setup
-within code = record { code = code; lo = 512; hi = 1024 }
+within code = record { code = code; lo = 512; hi = 1024; method = record { on = false; blocks = 0; bytes = 0 } }
 
 -- Main memory that is zero but for its last bytes.
 abbrev pub endingIn : List ℕ → List ℕ
@@ -48,7 +53,7 @@ lentAtStart g = buffers (endingIn []) [] (g .cache)
 
 -- The opening. (Its line, and that of `seen`, name the definitions by which it is computed: what unfolds it unfolds them too.)
 unfoldable pub opened : Given → Open
-unfolding opening admits isCacheSize fresh predicatesOf
+unfolding opening admits isCacheSize capacityOk fresh predicatesOf
 opened g = opening (within (g .code)) (lentAtStart g) (g .entry)
 
 -- What a step gives, and the addresses of the words that it spills and fills, in order.
@@ -67,7 +72,7 @@ ifDone (refused n) addresses = []
 
 -- (Below `decoder.slotOne` is what a word holds; `slotOne` is what it does.)
 unfoldable pub seen : List ℕ → State → Buffers → Seen
-unfolding step readiness admits isCacheSize wellFormed hasEnded bundle
+unfolding step readiness admits isCacheSize capacityOk wellFormed partsOk heldOk hasEnded bundle slotTests basesOf lookupTests heldAfter misses wordsFetched
     outsideCode numberAt bundleWords decode guardOf decoder.slotOne slotTwo reading row signed
     slotOneEffect slotTwoEffect effectOf aluEffect op2Value arithmetic multiply compare combine
     lessSigned lessEqualSigned shiftRightSigned copyBit productSigned predicatesWord special

@@ -1,6 +1,7 @@
 // A run with a budget.
 ghost use mathlib.Core.Path.{_≡_};
 ghost use Rattle.settings.specs.Setup.{setup, found, left};
+ghost use Rattle.method_cache.specs.Words.{FixedHeld};
 ghost use Rattle.core_state.specs.State.{Shaped};
 ghost use Rattle.state.specs.Whole.{stateOf};
 ghost use Rattle.run_model.specs.Run.{run};
@@ -9,6 +10,7 @@ use bundle::advance::advance;
 use bundle_model::Answer;
 use bundle_model::Counts;
 use core_state::judged::has_ended;
+use method_cache::words::tidy;
 use settings::Config;
 use state::State;
 
@@ -55,13 +57,17 @@ pub fn run(
 ) -> Ran
     ensures { λ r. ⌜ whole r (left main local cache) ≡ run (setup (now (code .entry)) config) budget (stateOf start) (found main local cache) ⌝ }
     ensures shaped { λ _. ⌜ Shaped (stateOf start) ⌝ }
+    ensures fixed { λ r. ⌜ FixedHeld (r .state .held) ⌝ }
 {
     let mut registers = start.registers;
     let mut predicates = start.predicates;
+    let mut held = start.held;
+    tidy(&mut held);
     let r = advance(
         start.core(),
         &mut registers,
         &mut predicates,
+        &mut held,
         config,
         code,
         &mut *main,
@@ -73,7 +79,7 @@ pub fn run(
     let core = r.core;
     let counts = r.counts;
     let ended = has_ended(core, code.len());
-    let state = State::join(registers, predicates, core);
+    let state = State::join(registers, predicates, held, core);
     Ran {
         answer: at_end(answer, ended),
         state,

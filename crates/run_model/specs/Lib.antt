@@ -4,3 +4,4 @@ pub mod RunLaws
 pub mod TriesLaws
 pub mod Loop
 pub mod LoopLaws
+pub mod FigureLaws

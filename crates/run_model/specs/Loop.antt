@@ -7,8 +7,8 @@ use Rattle.answers.specs.Answer.{done, ended, spent}
 use Rattle.settings.specs.Setup.{Setup, Buffers, lent}
 use Rattle.core_state.specs.State.{State, ended as hasEnded}
 use Rattle.bundle_model.specs.Counts.{noCounts}
-use Rattle.bundle_model.specs.Bundle.{Outcome, outcome, bundle, readiness, readyOr}
-use Rattle.run_model.specs.Run.{ifDone, counted}
+use Rattle.bundle_model.specs.Bundle.{Outcome, outcome, counted, bundle, readiness, readyOr}
+use Rattle.run_model.specs.Run.{ifDone}
 
 -- Up to k bundles from a state on, until one is refused or the state has ended; done where it is neither.
 unfoldable pub goesOn : Setup → ℕ → State → Buffers → Outcome
@@ -20,7 +20,7 @@ goesOn x (suc k) s b =
 
 -- The same, where the settings and the first state are judged before.
 abbrev pub advanced : Setup → ℕ → State → Buffers → Outcome
-advanced x k s b = readyOr (readiness (lent x b) s) s b (goesOn x k s b)
+advanced x k s b = readyOr (readiness (lent x b) x s) s b (goesOn x k s b)
 
 -- A run whose bundles are all done is spent, unless the state has ended.
 abbrev pub ending : Setup → Outcome → Outcome

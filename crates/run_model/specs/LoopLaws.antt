@@ -9,19 +9,19 @@ use Rattle.answers.specs.Answer.{Returned, accepted, done, ended, spent, refuse
 use Rattle.settings.specs.declared.Settings.{Settings}
 use Rattle.settings.specs.Settings.{admits}
 use Rattle.settings.specs.Setup.{Setup, Buffers, lent}
-use Rattle.core_state.specs.State.{State, wellFormed, ended as hasEnded}
+use Rattle.core_state.specs.State.{State, ended as hasEnded}
 use Rattle.bundle_model.specs.declared.Counts.{Counts}
 use Rattle.bundle_model.specs.declared.Readiness.{Readiness}
 use Rattle.bundle_model.specs.declared.Readiness.the-variants as ready
 use Rattle.bundle_model.specs.Counts.{noCounts, plus, plus-none, Few, few-more, few-plus}
-use Rattle.bundle_model.specs.Bundle.{Outcome, outcome, bundle, readiness, readyOr, step}
+use Rattle.bundle_model.specs.Bundle.{Outcome, outcome, counted, bundle, wellFormed, readiness, readyOr, step}
 use Rattle.step_laws.specs.StepCases.{isDone, step-bundle, step-ended}
 use Rattle.bundle_model.specs.BundleLaws.{ready-admits, ready-well-formed, ready-not-ended}
 use Rattle.step_laws.specs.StackKept.{bundle-lengths, lent-same}
 use Rattle.step_laws.specs.CountLaws.{bundle-few}
 use Rattle.step_laws.specs.WellLaws.{bundle-well-formed}
-use Rattle.settings.specs.SettingsLaws.{area-ordered}
-use Rattle.run_model.specs.Run.{ifDone, counted, run}
+use Rattle.settings.specs.SettingsLaws.{area-ordered, capacity-ok}
+use Rattle.run_model.specs.Run.{ifDone, run}
 use Rattle.run_model.specs.RunLaws.{counted-counted}
 use Rattle.run_model.specs.Loop.{goesOn, advanced, ending}
 
@@ -75,7 +75,7 @@ module _ (x : Setup) where
       go (refused n) = refl
 
   -- From settings inside the limits and a well-formed state on, nothing but the end is to be judged.
-  pub run-goes : (k : ℕ) (s : State) (b : Buffers) → admits (lent x b) ≡ true → wellFormed s ≡ true → run x k s b ≡ ending x (goesOn x k s b)
+  pub run-goes : (k : ℕ) (s : State) (b : Buffers) → admits (lent x b) ≡ true → wellFormed x s ≡ true → run x k s b ≡ ending x (goesOn x k s b)
   unfolding run goesOn readiness
   run-goes zero s b a w = rw (a, w) (go (hasEnded s (length (x .code))))
     where
@@ -91,7 +91,7 @@ module _ (x : Setup) where
       after y rest = ifDone (y .answer) (counted (y .counts) rest) y
 
       Next : Type 0
-      Next = admits (lent x (o .buffers)) ≡ true → wellFormed (o .state) ≡ true → run x k (o .state) (o .buffers) ≡ ending x (goesOn x k (o .state) (o .buffers))
+      Next = admits (lent x (o .buffers)) ≡ true → wellFormed x (o .state) ≡ true → run x k (o .state) (o .buffers) ≡ ending x (goesOn x k (o .state) (o .buffers))
 
       kept : admits (lent x (o .buffers)) ≡ true
       kept = ap admits (lent-same x b (o .buffers) (bundle-lengths (lent x b) x s b (area-ordered (lent x b) a))) ∙ a
@@ -109,7 +109,7 @@ module _ (x : Setup) where
 
       by-answer : (y : Returned) → o .answer ≡ y → Next
           → ifDone y (counted (o .counts) (run x k (o .state) (o .buffers))) o ≡ ending x (ifDone y (counted (o .counts) (goesOn x k (o .state) (o .buffers))) o)
-      by-answer done e next = ap (counted (o .counts)) (next kept (bundle-well-formed (lent x b) x s b w)) ∙ ending-counted (o .counts) (goesOn x k (o .state) (o .buffers))
+      by-answer done e next = ap (counted (o .counts)) (next kept (bundle-well-formed (lent x b) x s b (capacity-ok (lent x b) a) w)) ∙ ending-counted (o .counts) (goesOn x k (o .state) (o .buffers))
       by-answer accepted e next = same accepted refl e
       by-answer ended e next = same ended refl e
       by-answer spent e next = same spent refl e
@@ -128,7 +128,7 @@ isReady ready.Ready = true
 isReady ready.Ended = false
 isReady (ready.Refused n) = false
 
-run-not-ready : (x : Setup) (k : ℕ) (s : State) (b : Buffers) (r : Readiness) → readiness (lent x b) s ≡ r → isReady r ≡ false
+run-not-ready : (x : Setup) (k : ℕ) (s : State) (b : Buffers) (r : Readiness) → readiness (lent x b) x s ≡ r → isReady r ≡ false
     → run x k s b ≡ ending x (readyOr r s b (goesOn x k s b))
 unfolding run step
 run-not-ready x zero s b r e n = rw e (go r n)
@@ -150,7 +150,7 @@ run-not-ready x (suc k) s b r e n = rw e (go r n)
 module _ (x : Setup) (s : State) (b : Buffers) where
   pub step-advanced : step x s b ≡ advanced x 1 s b
   unfolding step goesOn
-  step-advanced = go (readiness (lent x b) s) refl
+  step-advanced = go (readiness (lent x b) x s) refl
     where
       o : Outcome
       o = bundle (lent x b) x s b
@@ -162,17 +162,17 @@ module _ (x : Setup) (s : State) (b : Buffers) where
       one spent e = refl
       one (refused n) e = refl
 
-      go : (r : Readiness) → readiness (lent x b) s ≡ r → readyOr r s b o
+      go : (r : Readiness) → readiness (lent x b) x s ≡ r → readyOr r s b o
           ≡ readyOr r s b (cond (hasEnded s (length (x .code))) (outcome ended s noCounts b) (ifDone (o .answer) (outcome done (o .state) (plus (o .counts) noCounts) (o .buffers)) o))
-      go ready.Ready e = rw (ready-not-ended (lent x b) s e) (one (o .answer) refl)
+      go ready.Ready e = rw (ready-not-ended (lent x b) x s e) (one (o .answer) refl)
       go ready.Ended e = refl
       go (ready.Refused n) e = refl
 
   pub run-advanced : (k : ℕ) → run x k s b ≡ ending x (advanced x k s b)
-  run-advanced k = go (readiness (lent x b) s) refl
+  run-advanced k = go (readiness (lent x b) x s) refl
     where
-      go : (r : Readiness) → readiness (lent x b) s ≡ r → run x k s b ≡ ending x (readyOr r s b (goesOn x k s b))
-      go ready.Ready e = run-goes x k s b (ready-admits (lent x b) s e) (ready-well-formed (lent x b) s e)
+      go : (r : Readiness) → readiness (lent x b) x s ≡ r → run x k s b ≡ ending x (readyOr r s b (goesOn x k s b))
+      go ready.Ready e = run-goes x k s b (ready-admits (lent x b) x s e) (ready-well-formed (lent x b) x s e)
       go ready.Ended e = run-not-ready x k s b ready.Ended e refl
       go (ready.Refused n) e = run-not-ready x k s b (ready.Refused n) e refl
 
@@ -201,4 +201,4 @@ module _ (x : Setup) (g : Settings) (s : State) (b : Buffers) (c : Counts) (r : 
   pub turn-few : (budget : ℕ) → left ≤ budget → admits g ≡ true → Few (budget - left) c → Few (budget - (left - 1)) (r .counts)
   turn-few budget h a f =
       few-more (budget - left + 1) (budget - (left - 1)) (r .counts) (omega (arith, h, more))
-      (subst (λ (y : Outcome). Few (budget - left + 1) (y .counts)) (sym e) (few-plus (budget - left) 1 c (bundle g x s b .counts) f (bundle-few g x s b a)))
+      (subst (λ (y : Outcome). Few (budget - left + 1) (y .counts)) (sym e) (few-plus (budget - left) 1 c (bundle g x s b .counts) f (bundle-few g x s b a (ap (λ (h : Settings). h .method) same))))

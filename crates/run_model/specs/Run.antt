@@ -1,13 +1,15 @@
 -- A run with a budget: the bundle repeated, and beside it the list of the bundles that it tries.
 use Prim.Native.Nat.{ℕ, zero, suc, _+_}
-use mathlib.Core.List.{List, [], _∷_}
+use mathlib.Core.List.{List, [], _∷_, _++_}
 use Rattle.answers.specs.Answer.{Returned, accepted, done, ended, spent, refused}
 use Rattle.core_state.specs.State.{State}
 use Rattle.bundle_model.specs.declared.Counts.{Counts}
 use Rattle.bundle_model.specs.declared.Readiness.{Readiness}
 use Rattle.bundle_model.specs.declared.Readiness.the-variants.{Ready, Ended, Refused}
-use Rattle.bundle_model.specs.Bundle.{Outcome, outcome, readiness, readyOr, step}
+use Rattle.bundle_model.specs.Bundle.{Outcome, outcome, counted, readiness, readyOr, step}
 use Rattle.settings.specs.Setup.{Buffers, lent, Setup}
+use Rattle.bundle_model.specs.Lookup.{lookups}
+use Rattle.step_laws.specs.StepCases.{effectAt}
 use Rattle.bundle_model.specs.Counts.{noCounts, plus}
 
 -- By cases: a bundle done, and every other answer.
@@ -18,13 +20,9 @@ ifDone ended a other = other
 ifDone spent a other = other
 ifDone (refused n) a other = other
 
--- The outcome with counts from before.
-abbrev pub counted : Counts → Outcome → Outcome
-counted c o = outcome (o .answer) (o .state) (plus c (o .counts)) (o .buffers)
-
 -- A run with no budget left: 1, 11, ended, spent.
 abbrev pub stopped : Setup → State → Buffers → Outcome
-stopped x s b = readyOr (readiness (lent x b) s) s b (outcome spent s noCounts b)
+stopped x s b = readyOr (readiness (lent x b) x s) s b (outcome spent s noCounts b)
 
 -- A run: a bundle that is done is followed by the run of the rest, and any other answer of the step is the run's. A run is spent if its budget is used up and the state has not ended.
 unfoldable pub run : Setup → ℕ → State → Buffers → Outcome
@@ -60,7 +58,7 @@ tries x (suc k) s b before =
     let o = step x s b in
     let t = triedAt (s .fetch) before o in
     let rest = tries x k (o .state) (o .buffers) (t .counts) in
-    whenReady (readiness (lent x b) s) (t ∷ ifDone (o .answer) rest [])
+    whenReady (readiness (lent x b) x s) (t ∷ ifDone (o .answer) rest [])
 
 -- What a list of tried bundles ends in: the refusal of its last, or, where the last was done, ended or spent; with the state, the
 -- buffers and the counts after the last that was done.
@@ -73,3 +71,10 @@ endOf x s b before (t ∷ rest) =
 unfoldable pub doneIn : List Tried → ℕ
 doneIn [] = 0
 doneIn (t ∷ rest) = ifDone (t .answer) 1 0 + doneIn rest
+
+-- The bases that a run looks up in the method cache, in order: those of the bundles that it does.
+unfoldable pub basesLooked : Setup → ℕ → State → Buffers → List ℕ
+basesLooked x zero s b = []
+basesLooked x (suc k) s b =
+    let o = step x s b in
+    ifDone (o .answer) (lookups x (effectAt x s) ++ basesLooked x k (o .state) (o .buffers)) []

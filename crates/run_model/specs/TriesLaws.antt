@@ -9,9 +9,9 @@ use Rattle.core_state.specs.State.{State}
 use Rattle.bundle_model.specs.declared.Counts.{Counts}
 use Rattle.bundle_model.specs.declared.Readiness.{Readiness}
 use Rattle.bundle_model.specs.declared.Readiness.the-variants.{Ready, Ended, Refused}
-use Rattle.bundle_model.specs.Bundle.{Outcome, outcome, bundle, readiness, readyOr, step}
+use Rattle.bundle_model.specs.Bundle.{Outcome, outcome, counted, bundle, readiness, readyOr, step}
 use Rattle.step_laws.specs.StepCases.{isDone, bundle-cases, step-cases}
-use Rattle.run_model.specs.Run.{ifDone, counted, run, Tried, triedAt, whenReady, tries, endOf, doneIn}
+use Rattle.run_model.specs.Run.{ifDone, run, Tried, triedAt, whenReady, tries, endOf, doneIn}
 use Rattle.run_model.specs.RunLaws.{counted-counted, counted-none}
 use Rattle.settings.specs.Setup.{Buffers, lent, Setup}
 use Rattle.bundle_model.specs.Counts.{noCounts, plus}
@@ -28,16 +28,16 @@ step-one x s b = step-cases x s b (λ o. o .counts .bundles ≡ ifDone (o .answe
     none (refused n) e = refl
 
 -- What a step gives where no bundle is tried.
-step-readiness : (x : Setup) (s : State) (b : Buffers) (r : Readiness) → readiness (lent x b) s ≡ r
+step-readiness : (x : Setup) (s : State) (b : Buffers) (r : Readiness) → readiness (lent x b) x s ≡ r
     → step x s b ≡ readyOr r s b (bundle (lent x b) x s b)
 unfolding step
 step-readiness x s b r e = ap (λ (y : Readiness). readyOr y s b (bundle (lent x b) x s b)) e
 
 -- A step never answers spent.
 step-spent : (x : Setup) (s : State) (b : Buffers) → step x s b .answer ≡ spent → (i k : ℕ) → i ≡ k
-step-spent x s b e = go (readiness (lent x b) s) refl
+step-spent x s b e = go (readiness (lent x b) x s) refl
   where
-    go : (r : Readiness) → readiness (lent x b) s ≡ r → (i k : ℕ) → i ≡ k
+    go : (r : Readiness) → readiness (lent x b) x s ≡ r → (i k : ℕ) → i ≡ k
     go Ready p =
         bundle-cases (lent x b) x s b (λ o. o .answer ≡ spent → (i k : ℕ) → i ≡ k) (λ n j q i k. cc) (λ j q i k. cc)
         (ap (λ (o : Outcome). o .answer) (sym (step-readiness x s b Ready p)) ∙ e)
@@ -65,7 +65,7 @@ module _ (x : Setup) (s : State) (b : Buffers) (before : Counts) where
 
   by-readiness : (rest : State → Buffers → Outcome) (list : State → Buffers → Counts → List Tried)
       → ((s′ : State) (b′ : Buffers) (c : Counts) → counted c (rest s′ b′) ≡ endOf x s′ b′ c (list s′ b′ c))
-      → (r : Readiness) → readiness (lent x b) s ≡ r
+      → (r : Readiness) → readiness (lent x b) x s ≡ r
       → going rest (step x s b) ≡ endOf x s b before (listed list r (step x s b))
   unfolding endOf
   by-readiness rest list h Ready e = by-answer rest list h (step x s b) (step x s b .answer)
@@ -89,7 +89,7 @@ module _ (x : Setup) (s : State) (b : Buffers) (before : Counts) where
 
   bundles-by-readiness : (rest : State → Buffers → Outcome) (list : State → Buffers → Counts → List Tried)
       → ((s′ : State) (b′ : Buffers) (c : Counts) → rest s′ b′ .counts .bundles ≡ doneIn (list s′ b′ c))
-      → (r : Readiness) → readiness (lent x b) s ≡ r → after rest (step x s b) .counts .bundles ≡ doneIn (listed list r (step x s b))
+      → (r : Readiness) → readiness (lent x b) x s ≡ r → after rest (step x s b) .counts .bundles ≡ doneIn (listed list r (step x s b))
   unfolding doneIn
   bundles-by-readiness rest list h Ready e =
       bundles-by-answer (step x s b) _ _ (step x s b .answer) (step-one x s b) (h (step x s b .state) (step x s b .buffers) _)
@@ -102,7 +102,7 @@ module _ (x : Setup) where
   unfolding run tries endOf
   from-here zero s b before = refl
   from-here (suc k) s b before =
-      by-readiness x s b before (run x k) (tries x k) (λ s′ b′ c. from-here k s′ b′ c) (readiness (lent x b) s) refl
+      by-readiness x s b before (run x k) (tries x k) (λ s′ b′ c. from-here k s′ b′ c) (readiness (lent x b) x s) refl
 
   -- A run's answer, state, buffers and counts are those that its list of tried bundles ends in.
   pub run-tries : (k : ℕ) (s : State) (b : Buffers) → run x k s b ≡ endOf x s b noCounts (tries x k s b noCounts)
@@ -111,19 +111,19 @@ module _ (x : Setup) where
   -- The bundles that a run counts are those of the list that were done.
   pub run-bundles : (k : ℕ) (s : State) (b : Buffers) (before : Counts) → run x k s b .counts .bundles ≡ doneIn (tries x k s b before)
   unfolding run tries doneIn
-  run-bundles zero s b before = go (readiness (lent x b) s)
+  run-bundles zero s b before = go (readiness (lent x b) x s)
     where
       go : (r : Readiness) → readyOr r s b (outcome spent s noCounts b) .counts .bundles ≡ 0
       go Ready = refl
       go Ended = refl
       go (Refused n) = refl
   run-bundles (suc k) s b before =
-      bundles-by-readiness x s b before (run x k) (tries x k) (λ s′ b′ c. run-bundles k s′ b′ c) (readiness (lent x b) s) refl
+      bundles-by-readiness x s b before (run x k) (tries x k) (λ s′ b′ c. run-bundles k s′ b′ c) (readiness (lent x b) x s) refl
 
   -- A run that answers spent has done as many bundles as its budget.
   pub run-spent : (k : ℕ) (s : State) (b : Buffers) → run x k s b .answer ≡ spent → run x k s b .counts .bundles ≡ k
   unfolding run
-  run-spent zero s b = go (readiness (lent x b) s)
+  run-spent zero s b = go (readiness (lent x b) x s)
     where
       go : (r : Readiness) → readyOr r s b (outcome spent s noCounts b) .answer ≡ spent → readyOr r s b (outcome spent s noCounts b) .counts .bundles ≡ 0
       go Ready e = refl

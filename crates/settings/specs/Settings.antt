@@ -4,6 +4,7 @@ use mathlib.Core.Bool.{Bool, cond, _&&_}
 use lib.Dec.{leb}
 use Rattle.word.specs.Word.{isMultipleOf4}
 use Rattle.stack_cache.specs.Stack.{isCacheSize}
+use Rattle.method_cache.specs.MethodCache.{capacityOk}
 use Rattle.settings.specs.declared.Settings.{Settings}
 use Rattle.settings.specs.declared.Acceptance.{Acceptance}
 use Rattle.settings.specs.declared.Acceptance.the-variants.{Accepted, Refused}
@@ -24,8 +25,9 @@ areaOk main lo hi = (isMultipleOf4 lo && isMultipleOf4 hi) && (leb lo hi && leb 
 -- Settings inside the limits: where this is false, refusal 1.
 unfoldable pub admits : Settings → Bool
 admits s =
-    (codeLengthOk (s .code) && (leb (s .main) greatestLength && leb (s .local) greatestLength))
-    && (isCacheSize (s .words) && areaOk (s .main) (s .lo) (s .hi))
+    ((codeLengthOk (s .code) && (leb (s .main) greatestLength && leb (s .local) greatestLength))
+    && (isCacheSize (s .words) && areaOk (s .main) (s .lo) (s .hi)))
+    && capacityOk (s .method)
 
 -- The answer of accepting settings, and what its cases return.
 unfoldable pub acceptance : Settings → Returned

@@ -5,6 +5,7 @@ use mathlib.Core.Path.{_≡_, refl, sym, ap}
 use borrow.Author.Tests.{leb-true}
 use lib.Dec.{leb, eqb}
 use Rattle.stack_cache.specs.Stack.{isCacheSize, makeCache}
+use Rattle.method_cache.specs.MethodCache.{capacityOk}
 use Rattle.stack_cache.specs.declared.StackCache.{StackCache}
 use Rattle.stack_cache.specs.declared.Made.the-variants as made
 use Rattle.word.specs.BoolLaws.{and-left, and-right}
@@ -21,7 +22,12 @@ module _ (g : Settings) (ok : admits g ≡ true) where
 
   admitted : (lengths && (isCacheSize (g .words) && area)) ≡ true
   unfolding admits lengths area
-  admitted = ok
+  admitted = and-left (lengths && (isCacheSize (g .words) && area)) (capacityOk (g .method)) ok
+
+  pub capacity-ok : capacityOk (g .method) ≡ true
+  unfolding admits
+  capacity-ok =
+      and-right ((codeLengthOk (g .code) && (leb (g .main) greatestLength && leb (g .local) greatestLength)) && (isCacheSize (g .words) && areaOk (g .main) (g .lo) (g .hi))) (capacityOk (g .method)) ok
 
   lengths-ok : lengths ≡ true
   lengths-ok = and-left lengths (isCacheSize (g .words) && area) admitted

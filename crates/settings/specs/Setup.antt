@@ -6,18 +6,20 @@ use denote.Ref.{RefT, now}
 use denote.Triple.Both.{Both}
 use lib.Dec.{leb, ltb}
 use lib.ListN.{length}
+use Rattle.method_cache.specs.declared.Method.{Method}
 use Rattle.settings.specs.declared.Config.{Config}
 use Rattle.settings.specs.declared.Settings.{Settings}
 
--- What stays the same: the code, and the stack area, which is main memory from lo to hi.
+-- What stays the same: the code, the stack area, which is main memory from lo to hi, and the method cache's capacity.
 pub record Setup : Type 0 where
   pub code : List ℕ
   pub lo : ℕ
   pub hi : ℕ
+  pub method : Method
 
 -- The setup of the code lent and the numbers handed over beside it.
 abbrev pub setup : List ℕ → Config → Setup
-setup code c = record { code = code; lo = c .lo; hi = c .hi }
+setup code c = record { code = code; lo = c .lo; hi = c .hi; method = c .method }
 
 -- What is lent for writing: main memory, local memory, and the words of the stack cache.
 pub record Buffers : Type 0 where
@@ -40,14 +42,14 @@ left main local cache = buffers (now (main .exit)) (now (local .exit)) (now (cac
 
 -- The settings of a setup and the lengths of what is lent beside it; lengths are those of what is lent, so nothing can disagree.
 abbrev pub settings : Setup → ℕ → ℕ → ℕ → Settings
-settings x main local words = record { code = length (x .code); main = main; local = local; words = words; lo = x .lo; hi = x .hi }
+settings x main local words = record { code = length (x .code); main = main; local = local; words = words; lo = x .lo; hi = x .hi; method = x .method }
 
 abbrev pub lent : Setup → Buffers → Settings
 lent x b = settings x (length (b .main)) (length (b .local)) (length (b .cache))
 
 -- The setup of settings and code.
 abbrev pub setupOf : List ℕ → Settings → Setup
-setupOf code g = record { code = code; lo = g .lo; hi = g .hi }
+setupOf code g = record { code = code; lo = g .lo; hi = g .hi; method = g .method }
 
 -- The bytes of main memory that belong to the stack.
 unfoldable pub isStackByte : Setup → ℕ → Bool

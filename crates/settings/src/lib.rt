@@ -3,16 +3,18 @@ ghost use mathlib.Core.Path.{_≡_};
 ghost use Rattle.stack_cache.specs.Stack.{isCacheSize};
 ghost use Rattle.settings.specs.Settings.{codeLengthOk, areaOk, admits, acceptance, returned};
 ghost use Rattle.settings.specs.Setup.{setup, settings};
+use method_cache::Method;
 use stack_cache::Made;
 use stack_cache::StackCache;
 
-// The numbers that a run is given beside what is lent: where the stack area begins and ends.
+// The numbers that a run is given beside what is lent: where the stack area begins and ends, and the method cache.
 pub struct Config {
     pub lo: u32,
     pub hi: u32,
+    pub method: Method,
 }
 
-// The lengths of code, main memory and local memory in bytes, the number of stack cache words, and the stack area.
+// The lengths of code, main memory and local memory in bytes, the number of stack cache words, the stack area, and the method cache.
 pub struct Settings {
     pub code: usize,
     pub main: usize,
@@ -20,6 +22,7 @@ pub struct Settings {
     pub words: usize,
     pub lo: u32,
     pub hi: u32,
+    pub method: Method,
 }
 
 // Settings are accepted, or refused with document 01's number.
@@ -55,6 +58,7 @@ impl Config {
     pub fn settings(self, code: &[u8], main: usize, local: usize, words: usize) -> Settings
         ensures { λ r. ⌜ r ≡ settings (setup (now (code .entry)) self) main local words ⌝ }
     {
+        let method = self.method;
         Settings {
             code: code.len(),
             main,
@@ -62,6 +66,7 @@ impl Config {
             words,
             lo: self.lo,
             hi: self.hi,
+            method,
         }
     }
 }
@@ -72,7 +77,9 @@ impl Settings {
         ensures { λ r. ⌜ r ≡ admits self ⌝ }
     {
         let lengths = code_length_ok(self.code) & ((self.main <= 65536) & (self.local <= 65536));
-        lengths & (is_cache_size(self.words) & area_ok(self.main, self.lo, self.hi))
+        let method = self.method;
+        let stack = is_cache_size(self.words) & area_ok(self.main, self.lo, self.hi);
+        (lengths & stack) & method.is_ok()
     }
 
     // The first of the two operations that make a fresh state.

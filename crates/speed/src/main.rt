@@ -5,6 +5,7 @@ mod workload;
 
 use libc::STDERR_FILENO;
 use libc::STDOUT_FILENO;
+use method_cache::Method;
 use run::Ran;
 use run::RunAnswer;
 use settings::Config;
@@ -14,11 +15,13 @@ use text::Number;
 use text::fields::same;
 use text::numbers::decimal;
 
-// What is handed in beside the workload's name.
+// What is handed in beside the workload's name, and what belongs to the workload: its entry and its method cache.
 pub struct Setting {
     pub budget: u32,
     pub main: u32,
     pub words: u32,
+    pub entry: u32,
+    pub method: Method,
 }
 
 fn put_code(code: &mut [u8], words: &[u32]) {
@@ -63,7 +66,8 @@ fn print_answer(a: RunAnswer) {
     }
 }
 
-fn print_ran(r: Ran) {
+// The method cache's counts are shown where it is on.
+fn print_ran(r: Ran, on: bool) {
     let answer = r.answer;
     let state = r.state;
     let registers = state.registers;
@@ -73,6 +77,10 @@ fn print_ran(r: Ran) {
     print_number(b" cycles ", counts.cycles);
     print_number(b" spilled ", counts.spilled);
     print_number(b" filled ", counts.filled);
+    if on {
+        print_number(b" misses ", counts.misses);
+        print_number(b" fetched ", counts.fetched);
+    }
     io::write_all(STDOUT_FILENO, b" checksum ");
     io::print_hex(STDOUT_FILENO, checksum(registers) as u64, 8);
     io::write_all(STDOUT_FILENO, b"\n");
@@ -96,8 +104,9 @@ fn run_workload(
     let lo = s.main / 8 * 4;
     let hi = s.main / 4 * 4;
     put_code(&mut *code, words);
-    let config = Config { lo, hi };
-    let opened = State::fresh(&*code, &*main, &*local, &mut *cache, config, 0);
+    let method = s.method;
+    let config = Config { lo, hi, method };
+    let opened = State::fresh(&*code, &*main, &*local, &mut *cache, config, s.entry);
     let answer = opened.answer;
     let state = opened.state;
     match answer {
@@ -105,15 +114,18 @@ fn run_workload(
             print_number(b" open refused ", k as u64);
             io::write_all(STDOUT_FILENO, b"\n");
         }
-        Opening::Opened => print_ran(run::run(
-            state,
-            &*code,
-            &mut *main,
-            &mut *local,
-            &mut *cache,
-            config,
-            s.budget,
-        )),
+        Opening::Opened => {
+            let r = run::run(
+                state,
+                &*code,
+                &mut *main,
+                &mut *local,
+                &mut *cache,
+                config,
+                s.budget,
+            );
+            print_ran(r, method.on);
+        }
     }
 }
 
@@ -164,6 +176,21 @@ fn wanted(asked: &[u8], name: &[u8]) -> bool {
     same(asked, b"all") | same(asked, name)
 }
 
+// The same with a method cache of four blocks and 96 bytes, and an entry behind the first block's size.
+fn with_method(s: Setting) -> Setting {
+    Setting {
+        budget: s.budget,
+        main: s.main,
+        words: s.words,
+        entry: 4,
+        method: Method {
+            on: true,
+            blocks: 4,
+            bytes: 96,
+        },
+    }
+}
+
 // The workloads that are asked for.
 fn measure_wanted(asked: &[u8], s: Setting) {
     if wanted(asked, b"loop") {
@@ -178,13 +205,16 @@ fn measure_wanted(asked: &[u8], s: Setting) {
     if wanted(asked, b"products") {
         measure(b"products", &workload::PRODUCTS, s);
     }
+    if wanted(asked, b"methods") {
+        measure(b"methods", &workload::METHODS, with_method(s));
+    }
 }
 
 fn main() {
     if os::arg_count() != 5 {
         io::write_all(
             STDERR_FILENO,
-            b"usage: speed loop|calls|memory|products|all BUDGET MAINLEN W\n",
+            b"usage: speed loop|calls|memory|products|methods|all BUDGET MAINLEN W\n",
         );
         return;
     }
@@ -192,6 +222,12 @@ fn main() {
         budget: argument(2),
         main: argument(3),
         words: argument(4),
+        entry: 0,
+        method: Method {
+            on: false,
+            blocks: 0,
+            bytes: 0,
+        },
     };
     let mut asked = io::buffer();
     let n = os::arg(1, &mut asked);

@@ -19,6 +19,8 @@ pub struct State {
     pub load: WaitingLoad,
     // Of two the second's wait is counted from the landing of the first.
     pub products: Products,
+    // How many blocks the method cache holds, and then their bases, the oldest first. A count above 16 reads as 16.
+    pub held: [u32; 17],
 }
 
 // A step's answer, with the state handed back and the counts of that one bundle.

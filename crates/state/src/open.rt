@@ -3,6 +3,7 @@ ghost use mathlib.Core.Path.{_≡_};
 ghost use mathlib.Core.List.{List};
 ghost use Prim.Native.Nat.{ℕ};
 ghost use lib.ListN.{length, replicate};
+ghost use Rattle.method_cache.specs.Words.{FixedHeld};
 ghost use Rattle.core_state.specs.State.{fresh};
 ghost use Rattle.answers.specs.Answer.{refused};
 ghost use Rattle.settings.specs.Setup.{setup, found};
@@ -18,7 +19,7 @@ use products::Products;
 use settings::Config;
 
 fn initial(code: u32, hi: u32, entry: u32) -> State
-    ensures { λ r. ⌜ stateOf r ≡ fresh code hi entry ⌝ }
+    ensures { λ r. ⌜ (stateOf r ≡ fresh code hi entry) × FixedHeld (r .held) ⌝ }
 {
     State {
         registers: [0; 32],
@@ -38,6 +39,7 @@ fn initial(code: u32, hi: u32, entry: u32) -> State
         transfer: WaitingTransfer::Nothing,
         load: WaitingLoad::Nothing,
         products: Products::Nothing,
+        held: [0; 17],
     }
 }
 
@@ -52,7 +54,7 @@ fn clear(cache: &mut [u32])
 }
 
 fn refused(n: u32) -> Opened
-    ensures { λ r. ⌜ ((c : List ℕ) → openWith r c ≡ openOf (refused n) (fresh 0 0 0) c) ⌝ }
+    ensures { λ r. ⌜ ((c : List ℕ) → openWith r c ≡ openOf (refused n) (fresh 0 0 0) c) × FixedHeld (r .state .held) ⌝ }
 {
     let state = initial(0, 0, 0);
     Opened {
@@ -73,6 +75,7 @@ impl State {
         entry: u32,
     ) -> Opened
         ensures { λ r. ⌜ openWith r (now (cache .exit)) ≡ opening (setup (now (code .entry)) config) (found main local cache) entry ⌝ }
+        ensures fixed { λ r. ⌜ FixedHeld (r .state .held) ⌝ }
     {
         let g = config.settings(code, main.len(), local.len(), cache.len());
         if !g.admits() {

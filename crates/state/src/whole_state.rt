@@ -1,6 +1,8 @@
 // The state of the core, by value, and what is done to it.
 ghost use mathlib.Core.Path.{_≡_};
 ghost use Rattle.settings.specs.Setup.{setup, found, left};
+ghost use Rattle.method_cache.specs.Words.{heldIn, FixedHeld};
+ghost use Rattle.core_state.specs.State.{withHeld};
 ghost use Rattle.core_state.specs.Core.{joined};
 ghost use Rattle.bundle_model.specs.Bundle.{full, step};
 ghost use Rattle.state.specs.Whole.{stateOf, coreOf, steppedOf};
@@ -12,6 +14,7 @@ use core_state::waiting::load_words;
 use core_state::waiting::transfer_words;
 use core_state::waiting::waiting_load;
 use core_state::waiting::waiting_transfer;
+use method_cache::words::tidy;
 use products::words::product_words;
 use products::words::products_in;
 use settings::Config;
@@ -38,9 +41,9 @@ impl State {
         }
     }
 
-    // The state of its three parts.
-    pub fn join(registers: [u32; 32], predicates: [bool; 8], core: Core) -> State
-        ensures { λ x. ⌜ stateOf x ≡ joined registers predicates core ⌝ }
+    // The state of its four parts.
+    pub fn join(registers: [u32; 32], predicates: [bool; 8], held: [u32; 17], core: Core) -> State
+        ensures { λ x. ⌜ (stateOf x ≡ withHeld (joined registers predicates core) (heldIn held)) × (x .held ≡ held) ⌝ }
     {
         let specials = core.specials;
         let waiting = core.transfer;
@@ -58,10 +61,12 @@ impl State {
             transfer,
             load,
             products,
+            held,
         }
     }
 
-    // One step: settings and state are judged, an ended state is left as it is, and else the bundle is done or refused.
+    // One step: settings and state are judged, an ended state is left as it is, and else the bundle is done or refused. The words of
+    // the blocks held are handed back in their one form.
     pub fn step(
         self,
         code: &[u8],
@@ -71,13 +76,17 @@ impl State {
         config: Config,
     ) -> Stepped
         ensures { λ r. ⌜ full (steppedOf r) (left main local cache) ≡ step (setup (now (code .entry)) config) (stateOf self) (found main local cache) ⌝ }
+        ensures fixed { λ r. ⌜ FixedHeld (r .state .held) ⌝ }
     {
         let mut registers = self.registers;
         let mut predicates = self.predicates;
+        let mut held = self.held;
+        tidy(&mut held);
         let r = advance(
             self.core(),
             &mut registers,
             &mut predicates,
+            &mut held,
             config,
             code,
             &mut *main,
@@ -90,7 +99,7 @@ impl State {
         let core = r.core;
         Stepped {
             answer,
-            state: State::join(registers, predicates, core),
+            state: State::join(registers, predicates, held, core),
             counts,
         }
     }

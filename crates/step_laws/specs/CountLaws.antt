@@ -1,8 +1,8 @@
--- The counts of a bundle: 4 cycles, and 512 words moved each way, at most.
+-- The counts of a bundle: 4 cycles, 512 words moved each way, one miss and 4,096 words fetched, at most.
 use Prim.Native.Nat.{ℕ, zero, suc, _-_, _*_, _/_, _≤_, min}
 use mathlib.Core.Bool.{Bool, true, false, cond}
-use mathlib.Core.List.{[], _∷_}
-use mathlib.Core.Path.{_≡_, refl}
+use mathlib.Core.List.{List, [], _∷_}
+use mathlib.Core.Path.{_≡_, refl, sym, ap, subst, _∙_}
 use native.Mathlib.Omega.{arith}
 use native.Mathlib.Nat.{le-trans}
 use borrow.Author.Tests.{ltb-false}
@@ -16,19 +16,33 @@ use Rattle.stack_cache.specs.Count.{Accepted}
 use Rattle.stack_cache.specs.StackLaws.{length-below}
 use Rattle.word.specs.BoolLaws.{or-right}
 use Rattle.stack_control.specs.PlanLaws.{accepted-window}
+use Rattle.method_cache.specs.MethodCache.{capacityOk}
 use Rattle.settings.specs.declared.Settings.{Settings}
 use Rattle.settings.specs.Settings.{admits}
-use Rattle.settings.specs.SettingsLaws.{words-small}
+use Rattle.settings.specs.SettingsLaws.{words-small, capacity-ok}
 use Rattle.effects.specs.declared.Transfer.{Transfer}
 use Rattle.effects.specs.declared.Transfer.the-variants.{Br, Call, Block}
 use Rattle.effects.specs.declared.Effect.{Effect}
 use Rattle.effects.specs.declared.Effect.the-variants as effect
-use Rattle.core_state.specs.State.{State}
-use Rattle.bundle_model.specs.Bundle.{undelayedCycles, countsOf, bundle}
+use Rattle.core_state.specs.State.{State, withHeld}
+use Rattle.method_cache.specs.Words.{heldIn}
+use Rattle.bundle_model.specs.declared.Carried.{Carried}
+use Rattle.bundle_model.specs.declared.Carried.the-variants as carried
+use Rattle.bundle_model.specs.Execute.{carriedAs, carriedOut, oneCycle, Tallied}
+use Rattle.bundle_model.specs.ExecuteLaws.{done-fine, counted-one}
+use Rattle.alu_effects.specs.declared.AluEffect.the-variants.{Nothing}
+use Rattle.bundle_model.specs.HandedLaws.{told-done}
+use Rattle.answers.specs.declared.Verdict.the-variants as verdict
+use Rattle.answers.specs.Test.{verdict as verdictOf}
+use Rattle.answers.specs.TestLaws.{fine-both}
+use Rattle.bundle_model.specs.Lookup.{lookups, lookupTests}
+use Rattle.bundle_model.specs.Refusal.{effectTests, slotTests}
+use Rattle.bundle_model.specs.Bundle.{undelayedCycles, cyclesOf, spilledBy, filledBy, countsOf, bundle}
 use Rattle.step_laws.specs.StepCases.{effectAt, bundle-cases}
-use Rattle.step_laws.specs.StackKept.{Passed, fine-effect, stack-accepted}
+use Rattle.step_laws.specs.StackKept.{Passed, fine-effect, fine-lookups, stack-accepted}
+use Rattle.step_laws.specs.LookupLaws.{Found, misses-small, fetched-small}
 use Rattle.settings.specs.Setup.{Setup, Buffers}
-use Rattle.bundle_model.specs.Counts.{Few, few-none}
+use Rattle.bundle_model.specs.Counts.{Few, Fit, plus, countsIn, few-none, few-plus, few-fit}
 
 -- Each loop moves no more words than it may.
 spillWhile-few : (most w st ss : ℕ) → length (spillWhile most w st ss) ≤ most
@@ -69,28 +83,63 @@ undelayed-small (Br target) = omega arith
 undelayed-small (Call target) = omega arith
 undelayed-small (Block target base) = omega arith
 
-effect-few : (g : Settings) (x : Setup) (s : State) (e : Effect) → g .words ≤ 512 → Passed g x s e → Few 1 (countsOf g s e)
-effect-few g x s (effect.Alu a) h p = record { bundles = omega arith; cycles = omega arith; spilled = omega arith; filled = omega arith }
-effect-few g x s (effect.Special d v) h p = record { bundles = omega arith; cycles = omega arith; spilled = omega arith; filled = omega arith }
-effect-few g x s (effect.Product l k) h p = record { bundles = omega arith; cycles = omega arith; spilled = omega arith; filled = omega arith }
-effect-few g x s (effect.Load k w r a) h p = record { bundles = omega arith; cycles = omega arith; spilled = omega arith; filled = omega arith }
-effect-few g x s (effect.Store k w a v) h p = record { bundles = omega arith; cycles = omega arith; spilled = omega arith; filled = omega arith }
-effect-few g x s (effect.Stack c n m) h p =
-    record {
-      bundles = omega arith;
-      cycles = omega arith;
-      spilled = le-trans (spills-few c (g .words) (s .specials .st) (s .specials .ss) n (stack-accepted g x s c n m p)) h;
-      filled = le-trans (fills-few c (g .words) (s .specials .st) (s .specials .ss) n (stack-accepted g x s c n m p)) h;
-    }
-effect-few g x s (effect.Transfer d t) h p = record { bundles = omega arith; cycles = go d; spilled = omega arith; filled = omega arith }
-  where
-    go : (x : Bool) → cond x 1 (undelayedCycles t) ≤ 4
-    go true = omega arith
-    go false = undelayed-small t
-effect-few g x s effect.Exception h p = record { bundles = omega arith; cycles = omega arith; spilled = omega arith; filled = omega arith }
+-- What slot one has a bundle count, by the two figures of its lookups.
+module _ (g : Settings) (x : Setup) (s : State) (h : g .words ≤ 512) where
+  cycles-few : (e : Effect) → cyclesOf e ≤ 4
+  cycles-few (effect.Alu a) = omega arith
+  cycles-few (effect.Special d v) = omega arith
+  cycles-few (effect.Product l k) = omega arith
+  cycles-few (effect.Load k w r a) = omega arith
+  cycles-few (effect.Store k w a v) = omega arith
+  cycles-few (effect.Stack c n m) = omega arith
+  cycles-few (effect.Transfer d t) = go d
+    where
+      go : (y : Bool) → cond y 1 (undelayedCycles t) ≤ 4
+      go true = omega arith
+      go false = undelayed-small t
+  cycles-few effect.Exception = omega arith
+
+  moved-few : (e : Effect) → Passed g x s e → (spilledBy g s e ≤ 512) × (filledBy s e ≤ 512)
+  moved-few (effect.Alu a) p = (omega arith, omega arith)
+  moved-few (effect.Special d v) p = (omega arith, omega arith)
+  moved-few (effect.Product l k) p = (omega arith, omega arith)
+  moved-few (effect.Load k w r a) p = (omega arith, omega arith)
+  moved-few (effect.Store k w a v) p = (omega arith, omega arith)
+  moved-few (effect.Stack c n m) p =
+      (le-trans (spills-few c (g .words) (s .specials .st) (s .specials .ss) n (stack-accepted g x s c n m p)) h, le-trans (fills-few c (g .words) (s .specials .st) (s .specials .ss) n (stack-accepted g x s c n m p)) h)
+  moved-few (effect.Transfer d t) p = (omega arith, omega arith)
+  moved-few effect.Exception p = (omega arith, omega arith)
+
+  pub effect-few : (e : Effect) → capacityOk (x .method) ≡ true → Passed g x s e → Found x e → Few 1 (countsOf g x s e)
+  effect-few e ok p f =
+      record {
+        bundles = omega arith;
+        cycles = omega (arith, cycles-few e);
+        spilled = omega (arith, moved-few e p .0);
+        filled = omega (arith, moved-few e p .1);
+        misses = omega (arith, misses-small x s e ok f);
+        fetched = omega (arith, fetched-small x s e ok f);
+      }
 
 -- The counts of a bundle are those of one bundle, whatever it answers.
-pub bundle-few : (g : Settings) (x : Setup) (s : State) (b : Buffers) → admits g ≡ true → Few 1 (bundle g x s b .counts)
-bundle-few g x s b h =
+pub bundle-few : (g : Settings) (x : Setup) (s : State) (b : Buffers) → admits g ≡ true → g .method ≡ x .method → Few 1 (bundle g x s b .counts)
+bundle-few g x s b h m =
     bundle-cases g x s b (λ o. Few 1 (o .counts)) (λ n j. few-none 1)
-    (λ j. effect-few g x s (effectAt x s) (words-small g h) (fine-effect g x s j (effectAt x s) refl))
+    (λ j. effect-few g x s (words-small g h) (effectAt x s) (sym (ap capacityOk m) ∙ capacity-ok g h) (fine-effect g x s j (effectAt x s) refl) (fine-lookups g x s j))
+
+-- So are those of a slot one that no test refuses.
+pub slot-few : (g : Settings) (x : Setup) (s : State) (e : Effect) → admits g ≡ true → g .method ≡ x .method → verdictOf (slotTests g x s e) ≡ verdict.Fine → Few 1 (countsOf g x s e)
+unfolding slotTests
+slot-few g x s e h m f =
+    let both = fine-both (effectTests g x s e) (lookupTests (x .method) (x .code) (lookups x e)) f in
+    effect-few g x s (words-small g h) e (sym (ap capacityOk m) ∙ capacity-ok g h) (both .0) (both .1)
+
+-- What is counted so far and what slot one adds leave room for the one cycle of its bundle.
+pub one-more-fits : (g : Settings) (x : Setup) (t : State) (one : Effect) (b b′ : Buffers) {r : Carried} (l st ss : ℕ) (w v c m : List ℕ) → admits g ≡ true → g .method ≡ x .method
+    → r ≡ carried.Done l st ss → carriedAs r b′ ≡ carriedOut g x (withHeld t (heldIn w)) one b → Tallied r g x (withHeld t (heldIn w)) one w v c m → Few 4294967294 (countsIn c)
+    → Fit (plus (countsIn m) oneCycle)
+one-more-fits g x t one b b′ l st ss w v c m h e p q k f =
+    let s = withHeld t (heldIn w) in
+    let fine = done-fine g x t (heldIn w) one Nothing 0 b b′ l st ss (ap (λ (y : Carried). carriedAs y b′) (sym p) ∙ q) in
+    subst Fit (sym (counted-one g x s one (countsIn c) (countsIn m) (told-done l st ss p k .1)))
+    (few-fit 4294967295 _ (omega arith) (few-plus 4294967294 1 (countsIn c) (countsOf g x s one) f (slot-few g x s one h e fine)))

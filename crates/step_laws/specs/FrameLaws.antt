@@ -46,7 +46,7 @@ mayWrite x effect.Exception i = false
 -- A byte that n bytes from a on do not touch lies before or behind them.
 beside : (i a n : ℕ) → touches i (i + 1) a n ≡ false → (i < a) ⊎ (a + n ≤ i)
 beside i a n e =
-    let x : Setup = record { code = []; lo = i; hi = i + 1 } in
+    let x : Setup = record { code = []; lo = i; hi = i + 1; method = record { on = false; blocks = 0; bytes = 0 } } in
     untouched x i a n e (stack-byte x i (omega arith) (omega arith))
 
 -- A store leaves the bytes of main memory that it does not write.

@@ -14,7 +14,7 @@ use Rattle.word.specs.BoolLaws.{and-right}
 use Rattle.settings.specs.declared.Settings.{Settings}
 use Rattle.products.specs.declared.Product.{Product}
 use Rattle.products.specs.Products.{dueProduct, nearerProducts}
-use Rattle.core_state.specs.State.{State, Shaped, state, withRegister, withPredicate, withPredicates, withSpecial, withSpecials, predicatesOf, withFlow, goingOn, landing, landed, withProducts, withArrival, arrived, transferred, waitOk}
+use Rattle.core_state.specs.State.{State, Shaped, state, withRegister, withPredicate, withPredicates, withSpecial, withSpecials, predicatesOf, withFlow, goingOn, landing, landed, withProducts, withArrival, arrived, withHeld, transferred, waitOk}
 use Rattle.effects.specs.declared.Transfer.{Transfer}
 use Rattle.effects.specs.declared.Transfer.the-variants.{Br, Call, Block}
 use Rattle.core_state.specs.declared.WaitingTransfer.{WaitingTransfer}
@@ -166,10 +166,14 @@ written-shaped g b s one two following h =
     let t = written-lasts (λ l. length l ≡ 32) (λ l. length l ≡ 8) lengths-last g b s one two following (h .registers, h .predicates) in
     record { registers = t .0; predicates = t .1 }
 
+-- The blocks held do not matter for them.
+held-shaped : {s : State} {l : List ℕ} → Shaped s → Shaped (withHeld s l)
+held-shaped h = record { registers = h .registers; predicates = h .predicates }
+
 -- A bundle keeps the lengths of the lists of registers and predicates.
 pub bundle-shaped : (g : Settings) (x : Setup) (s : State) (b : Buffers) → Shaped s → Shaped (bundle g x s b .state)
-bundle-shaped g x s b h = bundle-cases g x s b (λ o. Shaped (o .state)) (λ n j. h) (λ j. written-shaped g b s _ _ _ h)
+bundle-shaped g x s b h = bundle-cases g x s b (λ o. Shaped (o .state)) (λ n j. h) (λ j. held-shaped (written-shaped g b s _ _ _ h))
 
 -- So does a step.
 pub step-shaped : (x : Setup) (s : State) (b : Buffers) → Shaped s → Shaped (step x s b .state)
-step-shaped x s b h = step-cases x s b (λ o. Shaped (o .state)) (λ a p. h) (λ p j. written-shaped (lent x b) b s _ _ _ h)
+step-shaped x s b h = step-cases x s b (λ o. Shaped (o .state)) (λ a p. h) (λ p j. held-shaped (written-shaped (lent x b) b s _ _ _ h))

@@ -1,4 +1,5 @@
 -- Open first: StepCases.antt, then WellLaws.antt and CountLaws.antt.
+pub mod LookupLaws
 pub mod StepCases
 pub mod KeptLaws
 pub mod WellFormedLaws

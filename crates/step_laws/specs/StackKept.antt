@@ -34,10 +34,12 @@ use Rattle.settings.specs.SettingsLaws.{area-ordered}
 use Rattle.settings.specs.SetupLaws.{stack-byte-not, untouched}
 use Rattle.answers.specs.TestLaws.{fine-applies, fine-both}
 use Rattle.memory.specs.Access.{stored, storeScale, accessOpen, accessTests}
-use Rattle.bundle_model.specs.Refusal.{effectTests, bundleTests}
+use Rattle.bundle_model.specs.Lookup.{lookups, lookupTests}
+use Rattle.bundle_model.specs.Refusal.{effectTests, slotTests, bundleTests}
 use Rattle.bundle_model.specs.Bundle.{area, withArea, stackMoved, buffersAfter, writeOne, written, bundle, step}
 use Rattle.step_laws.specs.StepCases.{effectAt, judged, bundle-cases, bundle-fine, bundle-done-as, step-cases}
 use Rattle.step_laws.specs.KeptLaws.{writeAlu-cases, onward-cases}
+use Rattle.step_laws.specs.LookupLaws.{Found}
 use Rattle.settings.specs.Setup.{Setup, Buffers, settings, lent, isStackByte}
 use Rattle.answers.specs.Test.{verdict as verdictOf}
 use Rattle.fetch.specs.Fetch.{bundleAt, outsideCode, isUndecodable, fetchTests}
@@ -178,9 +180,20 @@ module _ (g : Settings) (x : Setup) (s : State) (fine : judged g x s ≡ verdict
   pub fine-decodable : isUndecodable (bundleAt (x .code) (s .fetch)) ≡ false
   fine-decodable = fine-applies 3 (bundleTests g x s (effectAt x s)) fine
 
+  fine-slot : verdictOf (slotTests g x s (effectAt x s)) ≡ verdict.Fine
+  fine-slot = fine-both (fetchTests (x .code) (s .fetch)) (slotTests g x s (effectAt x s)) fine .1
+
   -- No test refuses slot one's effect.
   pub fine-effect : (e : Effect) → effectAt x s ≡ e → Passed g x s e
-  fine-effect e p = subst (λ (y : Effect). Passed g x s y) p (fine-both (fetchTests (x .code) (s .fetch)) (effectTests g x s (effectAt x s)) fine .1)
+  unfolding slotTests
+  fine-effect e p =
+      subst (λ (y : Effect). Passed g x s y) p
+      (fine-both (effectTests g x s (effectAt x s)) (lookupTests (x .method) (x .code) (lookups x (effectAt x s))) fine-slot .0)
+
+  -- Nor what it looks up.
+  pub fine-lookups : Found x (effectAt x s)
+  unfolding slotTests
+  fine-lookups = fine-both (effectTests g x s (effectAt x s)) (lookupTests (x .method) (x .code) (lookups x (effectAt x s))) fine-slot .1
 
 -- No test refuses slot one's effect in a bundle that answers Done.
 pub done-passed : (g : Settings) (x : Setup) (s : State) (b : Buffers) → bundle g x s b .answer ≡ done → (e : Effect) → effectAt x s ≡ e → Passed g x s e

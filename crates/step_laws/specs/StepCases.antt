@@ -4,7 +4,7 @@ use mathlib.Core.Bool.{Bool, true, false, not, cond}
 use mathlib.Core.Path.{_≡_, refl, ap, _∙_}
 use lib.ListN.{length}
 use Rattle.settings.specs.declared.Settings.{Settings}
-use Rattle.core_state.specs.State.{State, startOf, wellFormed, ended as hasEnded}
+use Rattle.core_state.specs.State.{State, startOf, ended as hasEnded}
 use Rattle.effects.specs.declared.Effect.{Effect}
 use Rattle.answers.specs.declared.Verdict.{Verdict}
 use Rattle.answers.specs.declared.Verdict.the-variants as verdict
@@ -13,7 +13,7 @@ use Rattle.answers.specs.Answer.{Returned, accepted, done, ended, spent, refuse
 use Rattle.settings.specs.Settings.{admits}
 use Rattle.effects.specs.Effect.{slotOne, slotTwo}
 use Rattle.bundle_model.specs.Refusal.{bundleTests}
-use Rattle.bundle_model.specs.Bundle.{buffersAfter, written, countsOf, Outcome, outcome, refusedOr, bundle, readiness, readyOr, step}
+use Rattle.bundle_model.specs.Bundle.{buffersAfter, stateDone, countsOf, Outcome, outcome, refusedOr, bundle, wellFormed, readiness, readyOr, step}
 use Rattle.settings.specs.Setup.{Buffers, lent, Setup}
 use Rattle.answers.specs.Test.{verdict as verdictOf}
 use Rattle.bundle_model.specs.Counts.{noCounts}
@@ -27,10 +27,10 @@ abbrev pub judged : Settings → Setup → State → Verdict
 judged g x s = verdictOf (bundleTests g x s (effectAt x s))
 
 abbrev pub stateAfter : Settings → Setup → State → Buffers → State
-stateAfter g x s b = written g b s (effectAt x s) (slotTwo (startOf s) (bundleAt (x .code) (s .fetch))) (followingAt (x .code) (s .fetch))
+stateAfter g x s b = stateDone g x b s (effectAt x s) (slotTwo (startOf s) (bundleAt (x .code) (s .fetch))) (followingAt (x .code) (s .fetch))
 
 abbrev pub doneOutcome : Settings → Setup → State → Buffers → Outcome
-doneOutcome g x s b = outcome done (stateAfter g x s b) (countsOf g s (effectAt x s)) (buffersAfter g x s (effectAt x s) b)
+doneOutcome g x s b = outcome done (stateAfter g x s b) (countsOf g x s (effectAt x s)) (buffersAfter g x s (effectAt x s) b)
 
 module _ (g : Settings) (x : Setup) (s : State) (b : Buffers) where
   -- A bundle whose verdict is a refusal changes nothing and counts nothing.
@@ -63,10 +63,10 @@ module _ (g : Settings) (x : Setup) (s : State) (b : Buffers) where
 
   -- What a bundle that answers Done leaves, where slot one's effect is known.
   pub bundle-done-as : (e : Effect) → effectAt x s ≡ e → bundle g x s b .answer ≡ done
-      → bundle g x s b ≡ outcome done (written g b s e (slotTwo (startOf s) (bundleAt (x .code) (s .fetch))) (followingAt (x .code) (s .fetch))) (countsOf g s e) (buffersAfter g x s e b)
+      → bundle g x s b ≡ outcome done (stateDone g x b s e (slotTwo (startOf s) (bundleAt (x .code) (s .fetch))) (followingAt (x .code) (s .fetch))) (countsOf g x s e) (buffersAfter g x s e b)
   bundle-done-as e p d =
       bundle-done (bundle-fine d)
-      ∙ ap (λ (y : Effect). outcome done (written g b s y (slotTwo (startOf s) (bundleAt (x .code) (s .fetch))) (followingAt (x .code) (s .fetch))) (countsOf g s y) (buffersAfter g x s y b)) p
+      ∙ ap (λ (y : Effect). outcome done (stateDone g x b s y (slotTwo (startOf s) (bundleAt (x .code) (s .fetch))) (followingAt (x .code) (s .fetch))) (countsOf g x s y) (buffersAfter g x s y b)) p
 
 -- Whether an answer is done.
 abbrev pub isDone : Returned → Bool
@@ -79,7 +79,7 @@ isDone (refused n) = false
 -- What a step goes past before it does its bundle: settings inside the limits, a well-formed state that has not ended.
 pub record Going (x : Setup) (s : State) (b : Buffers) : Type 0 where
   pub admitted : admits (lent x b) ≡ true
-  pub well-formed : wellFormed s ≡ true
+  pub well-formed : wellFormed x s ≡ true
   pub not-ended : hasEnded s (length (x .code)) ≡ false
 
 module _ (x : Setup) (s : State) (b : Buffers) where
@@ -89,12 +89,12 @@ module _ (x : Setup) (s : State) (b : Buffers) where
   step-settings p = rw p
 
   -- A step on a state that is not well formed is refused with 11 and changes nothing.
-  pub step-state : admits (lent x b) ≡ true → wellFormed s ≡ false → step x s b ≡ outcome (refused 11) s noCounts b
+  pub step-state : admits (lent x b) ≡ true → wellFormed x s ≡ false → step x s b ≡ outcome (refused 11) s noCounts b
   unfolding step readiness
   step-state p q = rw (p, q)
 
   -- Where the code has ended, a step leaves all as it is.
-  pub step-ended : admits (lent x b) ≡ true → wellFormed s ≡ true → hasEnded s (length (x .code)) ≡ true → step x s b ≡ outcome ended s noCounts b
+  pub step-ended : admits (lent x b) ≡ true → wellFormed x s ≡ true → hasEnded s (length (x .code)) ≡ true → step x s b ≡ outcome ended s noCounts b
   unfolding step readiness
   step-ended p q r = rw (p, q, r)
 
@@ -107,9 +107,9 @@ module _ (x : Setup) (s : State) (b : Buffers) where
   pub step-cases : (P : Outcome → Type 0) → ((a : Returned) → isDone a ≡ false → P (outcome a s noCounts b))
       → (Going x s b → judged (lent x b) x s ≡ verdict.Fine → P (doneOutcome (lent x b) x s b)) → P (step x s b)
   unfolding step readiness
-  step-cases P same fine = go (admits (lent x b)) (wellFormed s) (hasEnded s (length (x .code))) refl refl refl
+  step-cases P same fine = go (admits (lent x b)) (wellFormed x s) (hasEnded s (length (x .code))) refl refl refl
     where
-      go : (u y z : Bool) → admits (lent x b) ≡ u → wellFormed s ≡ y → hasEnded s (length (x .code)) ≡ z
+      go : (u y z : Bool) → admits (lent x b) ≡ u → wellFormed x s ≡ y → hasEnded s (length (x .code)) ≡ z
           → P (readyOr (cond (not u) (ready.Refused 1) (cond (not y) (ready.Refused 11) (cond z ready.Ended ready.Ready))) s b (bundle (lent x b) x s b))
       go false y z p q r = same (refused 1) refl
       go true false z p q r = same (refused 11) refl

@@ -1,6 +1,7 @@
 -- The parts of a well-formed state, and what a bundle writes onto one.
 use Prim.Native.Nat.{ℕ, suc}
 use mathlib.Core.Bool.{true, false, _&&_}
+use mathlib.Core.List.{List}
 use mathlib.Core.Path.{_≡_, refl, sym, ap, subst, _∙_}
 use native.Mathlib.Omega.{arith}
 use borrow.Author.Tests.{eq-eqb, eqb-true}
@@ -11,18 +12,33 @@ use Rattle.word.specs.BoolLaws.{and-left, and-right}
 use Rattle.settings.specs.declared.Settings.{Settings}
 use Rattle.products.specs.Products.{productsOk, nearerProducts}
 use Rattle.products.specs.ProductLaws.{hasRoom, nearer-room, room-ok, more-ok}
-use Rattle.core_state.specs.State.{Further, State, withRegister, landing, landed, arrived, loadOk, waitOk, wellFormed}
+use Rattle.core_state.specs.State.{Further, State, withRegister, landing, landed, arrived, withHeld, loadOk, waitOk, partsOk}
 use Rattle.core_state.specs.declared.WaitingLoad.{WaitingLoad}
 use Rattle.core_state.specs.declared.WaitingLoad.the-variants as load
 use Rattle.alu_effects.specs.declared.AluEffect.{AluEffect}
 use Rattle.effects.specs.declared.Effect.{Effect}
 use Rattle.effects.specs.declared.Effect.the-variants as effect
 use Rattle.memory.specs.Access.{loadedValue}
-use Rattle.bundle_model.specs.Bundle.{writeOne, written}
+use Rattle.bundle_model.specs.Bundle.{writeOne, written, wellFormed}
 use Rattle.step_laws.specs.KeptLaws.{withSpecial-cases, writeAlu-cases, arrived-cases, onward-cases, Lasting, written-lasts}
-use Rattle.settings.specs.Setup.{Buffers}
+use Rattle.settings.specs.Setup.{Setup, Buffers}
+use Rattle.method_cache.specs.MethodCache.{heldOk}
 
--- The parts of a well-formed state.
+-- A well-formed state: its parts, and the blocks that it holds.
+module _ (x : Setup) (s : State) where
+  pub well-parts : wellFormed x s ≡ true → partsOk s ≡ true
+  unfolding wellFormed
+  well-parts e = and-left (partsOk s) (heldOk (x .method) (x .code) (s .further .held)) e
+
+  pub well-held : wellFormed x s ≡ true → heldOk (x .method) (x .code) (s .further .held) ≡ true
+  unfolding wellFormed
+  well-held e = and-right (partsOk s) (heldOk (x .method) (x .code) (s .further .held)) e
+
+  pub well-formed-again : (h : List ℕ) → partsOk s ≡ true → heldOk (x .method) (x .code) h ≡ true → wellFormed x (withHeld s h) ≡ true
+  unfolding wellFormed partsOk
+  well-formed-again h p q = (λ i. p i && q i)
+
+-- Its parts.
 pub record WellFormed (s : State) : Type 0 where
   pub zero-register : getD (s .registers) 0 0 ≡ 0
   pub true-predicate : getD (s .predicates) 0 false ≡ true
@@ -31,8 +47,8 @@ pub record WellFormed (s : State) : Type 0 where
   pub products : productsOk (s .further .products) ≡ true
 
 -- A well-formed state has them.
-pub well-formed-parts : (s : State) → wellFormed s ≡ true → WellFormed s
-unfolding wellFormed
+pub well-formed-parts : (s : State) → partsOk s ≡ true → WellFormed s
+unfolding partsOk
 well-formed-parts s e =
     let r = eqb (getD (s .registers) 0 0) 0 in
     let p = getD (s .predicates) 0 false in
@@ -51,8 +67,8 @@ well-formed-parts s e =
     }
 
 -- A state that has them is well formed.
-pub well-formed-whole : (s : State) → WellFormed s → wellFormed s ≡ true
-unfolding wellFormed
+pub well-formed-whole : (s : State) → WellFormed s → partsOk s ≡ true
+unfolding partsOk
 well-formed-whole s h = rw (eq-eqb _ _ (h .zero-register), h .true-predicate, h .load, h .transfer, h .products)
 
 -- The load that slot one begins.

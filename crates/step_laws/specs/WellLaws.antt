@@ -17,16 +17,20 @@ use Rattle.isa.specs.Formats.{longFormats, applied}
 use Rattle.isa.specs.Format.{reading}
 use Rattle.decoder_laws.specs.Ranges.{OperationInRange}
 use Rattle.decoder_laws.specs.RangeLaws.{IfSome, slot-one-in-range}
+use Rattle.method_cache.specs.MethodCache.{capacityOk}
+use Rattle.settings.specs.SettingsLaws.{capacity-ok}
 use Rattle.settings.specs.declared.Settings.{Settings}
 use Rattle.settings.specs.Setup.{Setup, Buffers, lent}
 use Rattle.alu_effects.specs.declared.AluEffect.the-variants as alu
 use Rattle.effects.specs.declared.Effect.the-variants as effect
 use Rattle.effects.specs.Effect.{Start, effectOf, stackEffect, slotOneEffect, slotOne}
 use Rattle.alu_effects.specs.AluEffects.{holds}
-use Rattle.core_state.specs.State.{State, startOf, loadOk, wellFormed}
-use Rattle.bundle_model.specs.Bundle.{Outcome, bundle, step}
+use Rattle.core_state.specs.State.{State, startOf, loadOk}
+use Rattle.bundle_model.specs.Bundle.{Outcome, bundle, wellFormed, step}
 use Rattle.step_laws.specs.StepCases.{effectAt, bundle-cases, bundle-done, step-cases}
-use Rattle.step_laws.specs.WellFormedLaws.{loadBegun, well-formed-parts, well-formed-whole, written-well-formed}
+use Rattle.step_laws.specs.WellFormedLaws.{loadBegun, well-parts, well-held, well-formed-again, well-formed-parts, well-formed-whole, written-well-formed}
+use Rattle.step_laws.specs.LookupLaws.{held-kept}
+use Rattle.step_laws.specs.StackKept.{fine-lookups}
 
 module _ (b : Buffers) (s : Start) where
   operation-ok : (o : Operation) → OperationInRange o → loadOk (loadBegun b (effectOf s o)) ≡ true
@@ -75,13 +79,16 @@ module _ (b : Buffers) (s : Start) where
       go false l (some o) a p = instruction-ok (guardOf first) o p
       go false l none a p = refl
 
--- A bundle, whatever it answers, keeps a state well formed.
-pub bundle-well-formed : (g : Settings) (x : Setup) (s : State) (b : Buffers) → wellFormed s ≡ true → wellFormed (bundle g x s b .state) ≡ true
-bundle-well-formed g x s b h =
-    bundle-cases g x s b (λ o. wellFormed (o .state) ≡ true) (λ n j. h) (λ j.
-    well-formed-whole _ (written-well-formed g b s (effectAt x s) _ _ (decoded-ok b (startOf s) (wordAt (x .code) (s .fetch)) (wordAt (x .code) (add (s .fetch) 4))) (well-formed-parts s h)))
+-- A bundle, whatever it answers, keeps a state well formed: its parts by what is written, the blocks held since 13 describes no lookup.
+pub bundle-well-formed : (g : Settings) (x : Setup) (s : State) (b : Buffers) → capacityOk (x .method) ≡ true → wellFormed x s ≡ true → wellFormed x (bundle g x s b .state) ≡ true
+bundle-well-formed g x s b ok h =
+    let parts = well-formed-parts s (well-parts x s h) in
+    bundle-cases g x s b (λ o. wellFormed x (o .state) ≡ true) (λ n j. h) (λ j.
+    well-formed-again x _ _ (well-formed-whole _ (written-well-formed g b s (effectAt x s) _ _ (decoded-ok b (startOf s) (wordAt (x .code) (s .fetch)) (wordAt (x .code) (add (s .fetch) 4))) parts))
+    (held-kept x s (effectAt x s) ok (fine-lookups g x s j) (well-held x s h)))
 
 -- So does a step.
-pub step-well-formed : (x : Setup) (s : State) (b : Buffers) → wellFormed s ≡ true → wellFormed (step x s b .state) ≡ true
+pub step-well-formed : (x : Setup) (s : State) (b : Buffers) → wellFormed x s ≡ true → wellFormed x (step x s b .state) ≡ true
 step-well-formed x s b h =
-    step-cases x s b (λ o. wellFormed (o .state) ≡ true) (λ a p. h) (λ p j. subst (λ (o : Outcome). wellFormed (o .state) ≡ true) (bundle-done (lent x b) x s b j) (bundle-well-formed (lent x b) x s b h))
+    step-cases x s b (λ o. wellFormed x (o .state) ≡ true) (λ a p. h) (λ p j.
+    subst (λ (o : Outcome). wellFormed x (o .state) ≡ true) (bundle-done (lent x b) x s b j) (bundle-well-formed (lent x b) x s b (capacity-ok (lent x b) (p .admitted)) h))

@@ -9,10 +9,10 @@ mul-hi : tie.Need-mul-hi
 mul-hi c = search needs
 
 put-code-requires : tie.Need-put-code-requires
-put-code-requires c κs = tt
+put-code-requires c κs = search needs
 
 fresh-requires : tie.Need-fresh-requires
-fresh-requires c κs = tt
+fresh-requires c κs = search needs
 
 enum-known-answer : tie.Need-enum-known-answer
 enum-known-answer c = search needs
@@ -24,22 +24,22 @@ cast-print-number : tie.Need-cast-print-number
 cast-print-number c = search needs
 
 print-number-requires : tie.Need-print-number-requires
-print-number-requires c κs = tt
+print-number-requires c κs = search needs
 
 slice-aggregate-write-all : tie.Need-slice-aggregate-write-all
 slice-aggregate-write-all c = search needs
 
 write-all-requires : tie.Need-write-all-requires
-write-all-requires c κs = tt
+write-all-requires c κs = search needs
 
 enum-told : tie.Need-enum-told
 enum-told c = search needs
 
 run-requires : tie.Need-run-requires
-run-requires c κs = tt
+run-requires c κs = search needs
 
 print-ran-requires : tie.Need-print-ran-requires
-print-ran-requires c κs = tt
+print-ran-requires c κs = search needs
 
 same-length : tie.Need-same-length
 same-length c = search needs
@@ -57,7 +57,7 @@ returns : tie.Need-returns
 returns c = search needs
 
 same-length-5 : tie.Need-same-length-5
-same-length-5 c = c .before .before .before .before .before .before .before .before .before .before .before .before .before .before .before .before .before .before .before .before .before .before .before .before .put-code .kept .0
+same-length-5 c = c .before .before .before .before .before .before .before .before .before .before .before .before .before .before .before .before .before .before .before .before .before .before .before .before .before .put-code .kept .0
 
 same-length-6 : tie.Need-same-length-6
 same-length-6 c = search needs

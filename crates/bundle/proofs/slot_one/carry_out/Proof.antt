@@ -1,8 +1,13 @@
-use mathlib.Core.Bool.{not}
-use Rattle.core_state.specs.Core.{waitingTransfer}
-use Prim.Native.Nat.{ℕ}
+use mathlib.Core.Path.{_≡_, refl, sym, ap, subst, _∙_}
 use mathlib.Core.List.{List, [], _∷_}
-use mathlib.Core.Path.{_≡_, refl}
+use mathlib.Core.Bool.{Bool}
+use Prim.Native.Nat.{ℕ}
+use native.Mathlib.Omega.{arith}
+use borrow.Author.Needs.{needs}
+use Rattle.method_cache.specs.Words.{heldIn}
+use Rattle.settings.specs.Setup.{setupOf, Setup, Buffers, buffers}
+use Rattle.core_state.specs.State.{withHeld, State}
+use Rattle.core_state.specs.Core.{joined}
 use denote.Enum.Declared.{tagOf}
 use types.Run.{OneOf, miss}
 use Rattle.effects.specs.declared.Effect.{Effect}
@@ -10,12 +15,13 @@ use Rattle.effects.specs.declared.Effect.the-variants.{Alu, Special, Product, L
 use Rattle.effects.proofs.Effect.{the-type}
 use Rattle.settings.specs.declared.Settings.{Settings}
 use Rattle.answers.specs.Test.{verdict}
-use Rattle.settings.specs.Setup.{Setup, Buffers}
-use Rattle.core_state.specs.State.{State, noneWaits}
+use Rattle.bundle_model.specs.declared.Carried.{Carried}
+use Rattle.bundle_model.specs.Lookup.{lookupTests}
+use Rattle.bundle_model.specs.Refusal.{slotTests}
 use Rattle.bundle_model.specs.Bundle.{buffersAfter}
-use Rattle.bundle_model.specs.Execute.{plainly, carriedAs, carriedOut}
-use Rattle.bundle_model.specs.ExecuteLaws.{transfer-carried}
-use borrow.Author.Needs.{needs}
+use Rattle.bundle_model.specs.Execute.{plainly, carriedAs, carriedOut, Tallied}
+use Rattle.bundle_model.specs.ExecuteLaws.{load-carried, store-carried}
+use Rattle.bundle_model.specs.TallyLaws.{tallied-refused, tallied-as, tallied-none}
 use Rattle.bundle.proofs.slot_one.carry_out.Statement.{statement}
 use Rattle.bundle.proofs.slot_one.carry_out.Tie as tie
 
@@ -24,7 +30,7 @@ abbrev others : List ℕ
 others = 0 ∷ 1 ∷ 2 ∷ []
 
 plain : (g : Settings) (x : Setup) (s : State) (b : Buffers) (e : Effect) → OneOf others (tagOf the-type e) → carriedAs plainly b ≡ carriedOut g x s e b
-unfolding carriedOut buffersAfter verdict
+unfolding carriedOut buffersAfter verdict slotTests lookupTests
 plain g x s b (Alu a) h = refl
 plain g x s b (Special d v) h = refl
 plain g x s b (Product l k) h = refl
@@ -34,17 +40,27 @@ plain g x s b (Stack c n m) h = absurd (miss others 5 tt h)
 plain g x s b (Transfer d t) h = absurd (miss others 6 tt h)
 plain g x s b Exception h = absurd (miss others 7 tt h)
 
+plain-tallied : (g : Settings) (x : Setup) (t : State) (w c : List ℕ) (r : Carried) (e : Effect) → OneOf others (tagOf the-type e) → Tallied r g x (withHeld t (heldIn w)) e w w c c
+plain-tallied g x t w c r (Alu a) h = tallied-none g x t w (Alu a) refl r c refl refl refl
+plain-tallied g x t w c r (Special d v) h = tallied-none g x t w (Special d v) refl r c refl refl refl
+plain-tallied g x t w c r (Product l k) h = tallied-none g x t w (Product l k) refl r c refl refl refl
+plain-tallied g x t w c r (Load k z n a) h = absurd (miss others 3 tt h)
+plain-tallied g x t w c r (Store k z a v) h = absurd (miss others 4 tt h)
+plain-tallied g x t w c r (Stack z n m) h = absurd (miss others 5 tt h)
+plain-tallied g x t w c r (Transfer d y) h = absurd (miss others 6 tt h)
+plain-tallied g x t w c r Exception h = absurd (miss others 7 tt h)
+
 enum-known-one : tie.Need-enum-known-one
 enum-known-one c = search needs
 
 do-load-requires : tie.Need-do-load-requires
-do-load-requires c κs = tt
+do-load-requires c κs = search needs
 
 enum-known-one-2 : tie.Need-enum-known-one-2
 enum-known-one-2 c = search needs
 
 do-store-requires : tie.Need-do-store-requires
-do-store-requires c κs = tt
+do-store-requires c κs = search needs
 
 enum-known-one-3 : tie.Need-enum-known-one-3
 enum-known-one-3 c = search needs
@@ -52,17 +68,17 @@ enum-known-one-3 c = search needs
 do-stack-requires : tie.Need-do-stack-requires
 do-stack-requires c κs = search needs
 
+enum-known-one-4 : tie.Need-enum-known-one-4
+enum-known-one-4 c = search needs
+
+do-transfer-requires : tie.Need-do-transfer-requires
+do-transfer-requires c κs = search needs
+
 enum-told : tie.Need-enum-told
 enum-told c = search needs
 
-judge-transfer-requires : tie.Need-judge-transfer-requires
-judge-transfer-requires c κs = tt
-
-enum-told-2 : tie.Need-enum-told-2
-enum-told-2 c = search needs
-
 nothing-requires : tie.Need-nothing-requires
-nothing-requires c κs = tt
+nothing-requires c κs = search needs
 
 same-length : tie.Need-same-length
 same-length c = search needs
@@ -74,8 +90,13 @@ same-length-3 : tie.Need-same-length-3
 same-length-3 c = search needs
 
 returns : tie.Need-returns
-unfolding carriedOut buffersAfter verdict
-returns c = λ code rs ps. rw (c .before .before .before .before .before .one .given .1) (c .do-load .ensures code)
+returns c =
+    let a = c .before .before .before .before .before .before .before .before .before .before .before .args in
+    rw (c .before .before .before .before .before .one .given .1)
+    (λ rs ps. (
+      load-carried (a .g) (setupOf (a .code .now) (a .g)) (withHeld (joined rs ps (a .core)) (heldIn (a .held .now))) _ _ _ _ _ _ (c .do-load .ensures (a .code .now)),
+      tallied-none (a .g) (setupOf (a .code .now) (a .g)) (joined rs ps (a .core)) (a .held .now) _ refl _ (a .counts .now) refl refl refl,
+    ))
 
 same-length-4 : tie.Need-same-length-4
 same-length-4 c = search needs
@@ -87,8 +108,13 @@ same-length-6 : tie.Need-same-length-6
 same-length-6 c = search needs
 
 returns-2 : tie.Need-returns-2
-unfolding carriedOut buffersAfter verdict
-returns-2 c = λ code rs ps. rw (c .before .before .before .before .before .before .before .before .before .before .before .one2 .given .1) (c .before .before .before .before .before .before .do-store .ensures code)
+returns-2 c =
+    let a = c .before .before .before .before .before .before .before .before .before .before .before .before .before .before .before .before .before .args in
+    rw (c .before .before .before .before .before .before .before .before .before .before .before .one2 .given .1)
+    (λ rs ps. (
+      store-carried (a .g) (setupOf (a .code .now) (a .g)) (withHeld (joined rs ps (a .core)) (heldIn (a .held .now))) _ _ _ _ _ _ (c .before .before .before .before .before .before .do-store .ensures (a .code .now)),
+      tallied-none (a .g) (setupOf (a .code .now) (a .g)) (joined rs ps (a .core)) (a .held .now) _ refl _ (a .counts .now) refl refl refl,
+    ))
 
 same-length-7 : tie.Need-same-length-7
 same-length-7 c = search needs
@@ -97,18 +123,31 @@ same-length-8 : tie.Need-same-length-8
 same-length-8 c = search needs
 
 returns-3 : tie.Need-returns-3
-returns-3 c = λ code rs ps. rw (c .before .before .before .before .before .before .before .before .one3 .given .1) (c .before .before .before .before .do-stack .ensures code rs (c .before .before .before .before .before .before .before .before .before .before .before .before .before .args .local .now) ps)
+returns-3 c =
+    let a = c .before .before .before .before .before .before .before .before .before .before .before .before .before .before .before .args in
+    rw (c .before .before .before .before .before .before .before .before .before .one3 .given .1)
+    (λ rs ps.
+    let e = c .before .before .before .before .do-stack .ensures (a .code .now) rs (heldIn (a .held .now)) (a .local .now) ps in
+    (e .0, tallied-as (a .g) (setupOf (a .code .now) (a .g)) (joined rs ps (a .core)) (a .held .now) _ refl _ (a .counts .now) _ (e .1)))
 
 returns-4 : tie.Need-returns-4
-unfolding carriedOut buffersAfter verdict
-returns-4 c = λ code rs ps. rw (c .before .enum-told .given .1, c .judge-transfer .ensures) (transfer-carried (not (noneWaits (waitingTransfer (c .before .before .before .before .before .before .args .core .transfer)))) _)
+returns-4 c =
+    let a = c .before .before .before .before .before .before .before .before .before .before .args in
+    rw (c .before .before .before .before .one4 .given .1) (λ rs ps. c .do-transfer .ensures rs ps (buffers (a .main .now) (a .local .now) (a .cache .now)))
 
 returns-5 : tie.Need-returns-5
-unfolding carriedOut buffersAfter verdict
-returns-5 c = λ code rs ps. rw (c .enum-told2 .given .1)
+unfolding carriedOut buffersAfter verdict slotTests lookupTests
+returns-5 c =
+    let a = c .before .before .before .before .before .before .args in
+    rw (c .enum-told .given .1) (λ rs ps. (refl, tallied-refused 10 (a .g) (setupOf (a .code .now) (a .g)) (joined rs ps (a .core)) (a .held .now) (a .counts .now) Exception))
 
 returns-6 : tie.Need-returns-6
-returns-6 c = λ code rs ps. rw (c .nothing .ensures) (plain _ _ _ _ (c .before .before .before .before .before .args .one) (c .before .match .keys6))
+returns-6 c =
+    let a = c .before .before .before .before .before .before .args in
+    λ rs ps. (
+      rw (c .nothing .ensures) (plain (a .g) (setupOf (a .code .now) (a .g)) (withHeld (joined rs ps (a .core)) (heldIn (a .held .now))) _ (a .one) (c .before .match .keys6)),
+      plain-tallied (a .g) (setupOf (a .code .now) (a .g)) (joined rs ps (a .core)) (a .held .now) (a .counts .now) _ (a .one) (c .before .match .keys6),
+    )
 
 pub carry-out-spec : {M : Type 1} → statement M
 carry-out-spec =
@@ -120,9 +159,9 @@ carry-out-spec =
     do-store-requires
     enum-known-one-3
     do-stack-requires
+    enum-known-one-4
+    do-transfer-requires
     enum-told
-    judge-transfer-requires
-    enum-told-2
     nothing-requires
     same-length
     same-length-2

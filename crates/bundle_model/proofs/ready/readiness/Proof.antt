@@ -1,4 +1,13 @@
-use Rattle.bundle_model.specs.Bundle.{readiness}
+use mathlib.Core.Bool.{true, false}
+use mathlib.Core.Path.{_≡_, refl, sym, _∙_}
+use Rattle.method_cache.specs.Words.{heldIn}
+use Rattle.method_cache.specs.MethodCache.{heldOk}
+use Rattle.settings.specs.Setup.{setupOf}
+use Rattle.settings.specs.Settings.{admits}
+use Rattle.core_state.specs.State.{partsOk, ended}
+use Rattle.core_state.specs.Core.{joined}
+use Rattle.bundle_model.specs.BundleLaws.{ready-as}
+use borrow.Author.Needs.{needs}
 use Rattle.bundle_model.proofs.ready.readiness.Statement.{statement}
 use Rattle.bundle_model.proofs.ready.readiness.Tie as tie
 
@@ -6,26 +15,37 @@ admits-requires : tie.Need-admits-requires
 admits-requires c κs = tt
 
 returns : tie.Need-returns
-unfolding readiness
-returns c = rw (← c .before .admits .ensures, c .if1 .taken)
+returns c =
+    let a = c .before .before .before .args in
+    let s = joined (a .registers .now) (a .predicates .now) (a .core) in
+    rw (c .if1 .taken) at (ready-as (a .g) (setupOf (a .code .now) (a .g)) s (heldIn (a .held .now)) (c .before .admits .result) _ _ _ (c .before .admits .ensures) refl refl refl)
 
-is-well-formed-requires : tie.Need-is-well-formed-requires
-is-well-formed-requires c κs = tt
+parts-ok-requires : tie.Need-parts-ok-requires
+parts-ok-requires c κs = tt
+
+held-ok-requires : tie.Need-held-ok-requires
+held-ok-requires c κs = tt
 
 returns-2 : tie.Need-returns-2
-unfolding readiness
-returns-2 c = rw (← c .before .before .before .admits .ensures, c .before .before .if1 .left, ← c .before .is-well-formed .ensures, c .if2 .taken)
+returns-2 c =
+    let a = c .before .before .before .before .before .before .before .args in
+    let s = joined (a .registers .now) (a .predicates .now) (a .core) in
+    rw (c .before .before .before .before .if1 .left, c .if2 .taken) at (ready-as (a .g) (setupOf (a .code .now) (a .g)) s (heldIn (a .held .now)) (c .before .before .before .before .before .admits .result) (c .before .before .parts-ok .result) (c .before .held-ok .result) _ (c .before .before .before .before .before .admits .ensures) (c .before .before .parts-ok .ensures) (c .before .held-ok .ensures) refl)
 
 has-ended-requires : tie.Need-has-ended-requires
 has-ended-requires c κs = tt
 
 returns-3 : tie.Need-returns-3
-unfolding readiness
-returns-3 c = rw (← c .before .before .before .before .before .admits .ensures, c .before .before .before .before .if1 .left, ← c .before .before .before .is-well-formed .ensures, c .before .before .if2 .left, ← c .before .has-ended .ensures (c .before .before .before .before .before .before .args .registers .now) (c .before .before .before .before .before .before .args .predicates .now), c .if3 .taken)
+returns-3 c =
+    let a = c .before .before .before .before .before .before .before .before .before .args in
+    let s = joined (a .registers .now) (a .predicates .now) (a .core) in
+    rw (c .before .before .before .before .before .before .if1 .left, c .before .before .if2 .left, c .if3 .taken) at (ready-as (a .g) (setupOf (a .code .now) (a .g)) s (heldIn (a .held .now)) (c .before .before .before .before .before .before .before .admits .result) (c .before .before .before .before .parts-ok .result) (c .before .before .before .held-ok .result) (c .before .has-ended .result) (c .before .before .before .before .before .before .before .admits .ensures) (c .before .before .before .before .parts-ok .ensures) (c .before .before .before .held-ok .ensures) (c .before .has-ended .ensures _ _))
 
 returns-4 : tie.Need-returns-4
-unfolding readiness
-returns-4 c = rw (← c .before .before .before .before .before .admits .ensures, c .before .before .before .before .if1 .left, ← c .before .before .before .is-well-formed .ensures, c .before .before .if2 .left, ← c .before .has-ended .ensures (c .before .before .before .before .before .before .args .registers .now) (c .before .before .before .before .before .before .args .predicates .now), c .if3 .left)
+returns-4 c =
+    let a = c .before .before .before .before .before .before .before .before .before .args in
+    let s = joined (a .registers .now) (a .predicates .now) (a .core) in
+    rw (c .before .before .before .before .before .before .if1 .left, c .before .before .if2 .left, c .if3 .left) at (ready-as (a .g) (setupOf (a .code .now) (a .g)) s (heldIn (a .held .now)) (c .before .before .before .before .before .before .before .admits .result) (c .before .before .before .before .parts-ok .result) (c .before .before .before .held-ok .result) (c .before .has-ended .result) (c .before .before .before .before .before .before .before .admits .ensures) (c .before .before .before .before .parts-ok .ensures) (c .before .before .before .held-ok .ensures) (c .before .has-ended .ensures _ _))
 
 pub readiness-spec : {M : Type 1} → statement M
 readiness-spec =
@@ -33,7 +53,8 @@ readiness-spec =
     (tie.spec
     admits-requires
     returns
-    is-well-formed-requires
+    parts-ok-requires
+    held-ok-requires
     returns-2
     has-ended-requires
     returns-3

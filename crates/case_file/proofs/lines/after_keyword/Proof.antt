@@ -42,8 +42,8 @@ word-line-requires c κs = tt
 enum-told-5 : tie.Need-enum-told-5
 enum-told-5 c = search needs
 
-pred-line-requires : tie.Need-pred-line-requires
-pred-line-requires c κs = tt
+two-numbers-requires : tie.Need-two-numbers-requires
+two-numbers-requires c κs = tt
 
 enum-told-6 : tie.Need-enum-told-6
 enum-told-6 c = search needs
@@ -90,6 +90,18 @@ product-line-requires c κs = tt
 enum-told-13 : tie.Need-enum-told-13
 enum-told-13 c = search needs
 
+two-numbers-requires-2 : tie.Need-two-numbers-requires-2
+two-numbers-requires-2 c κs = tt
+
+enum-told-14 : tie.Need-enum-told-14
+enum-told-14 c = search needs
+
+list-line-requires-4 : tie.Need-list-line-requires-4
+list-line-requires-4 c κs = tt
+
+enum-told-15 : tie.Need-enum-told-15
+enum-told-15 c = search needs
+
 returns : tie.Need-returns
 unfolding lineAfter
 returns c = rw (c .before .enum-told .given .1) (c .case-line .ensures)
@@ -116,7 +128,7 @@ returns-6 c = rw (c .before .before .k2 .given .1) (c .word-line .ensures)
 
 returns-7 : tie.Need-returns-7
 unfolding lineAfter
-returns-7 c = rw (c .before .enum-told5 .given .1) (c .pred-line .ensures)
+returns-7 c = rw (c .before .enum-told5 .given .1) (c .two-numbers .ensures)
 
 returns-8 : tie.Need-returns-8
 unfolding lineAfter
@@ -148,7 +160,15 @@ returns-14 c = rw (c .before .enum-told12 .given .1) (c .product-line .ensures)
 
 returns-15 : tie.Need-returns-15
 unfolding lineAfter
-returns-15 c = rw (c .enum-told13 .given .1)
+returns-15 c = rw (c .before .enum-told13 .given .1) (c .two-numbers2 .ensures)
+
+returns-16 : tie.Need-returns-16
+unfolding lineAfter
+returns-16 c = rw (c .before .enum-told14 .given .1) (c .list-line4 .ensures)
+
+returns-17 : tie.Need-returns-17
+unfolding lineAfter
+returns-17 c = rw (c .enum-told15 .given .1)
 
 pub after-keyword-spec : {M : Type 1} → statement M
 after-keyword-spec =
@@ -167,7 +187,7 @@ after-keyword-spec =
     enum-known-k-2
     word-line-requires
     enum-told-5
-    pred-line-requires
+    two-numbers-requires
     enum-told-6
     special-line-requires
     enum-told-7
@@ -183,6 +203,10 @@ after-keyword-spec =
     enum-told-12
     product-line-requires
     enum-told-13
+    two-numbers-requires-2
+    enum-told-14
+    list-line-requires-4
+    enum-told-15
     returns
     returns-2
     returns-3
@@ -197,4 +221,6 @@ after-keyword-spec =
     returns-12
     returns-13
     returns-14
-    returns-15)
+    returns-15
+    returns-16
+    returns-17)

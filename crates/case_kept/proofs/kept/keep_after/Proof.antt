@@ -1,3 +1,4 @@
+use Rattle.case_kept.specs.Indices.{ALL}
 use Prim.Native.Nat.{_+_, _≤_}
 use native.Mathlib.Omega.{arith}
 use borrow.Author.Tests.{le-ltb}
@@ -6,12 +7,12 @@ use Rattle.case_kept.proofs.kept.keep_after.Tie as tie
 
 returns : tie.Need-returns
 returns c = let a = c .before .args in
-    let h : 150200 ≤ a .first + a .i = omega arith in
+    let h : ALL ≤ a .first + a .i = omega arith in
     rw (le-ltb _ _ h)
 
 returns-2 : tie.Need-returns-2
 returns-2 c = let a = c .before .before .args in
-    let h : 150200 ≤ a .first + a .i = omega arith in
+    let h : ALL ≤ a .first + a .i = omega arith in
     rw (le-ltb _ _ h)
 
 add-keep : tie.Need-add-keep

@@ -1,3 +1,4 @@
+use Rattle.case_kept.specs.Indices.{ALL}
 use Prim.Native.Nat.{_+_, _*_, _≤_}
 use native.Mathlib.Nat.{min-le-right}
 use Rattle.case_kept.specs.Places.{outsideFrom, firstOutside}
@@ -9,7 +10,7 @@ use Rattle.case_kept.proofs.places.first_outside.Statement.{statement}
 use Rattle.case_kept.proofs.places.first_outside.Tie as tie
 
 abbrev Inv-loop : tie.InvT-loop
-Inv-loop kept left₀ at₀ left at = (at + 3 * left ≤ 150200) × (outsideFrom left kept at ≡ firstOutside kept)
+Inv-loop kept left₀ at₀ left at = (at + 3 * left ≤ ALL) × (outsideFrom left kept at ≡ firstOutside kept)
 
 abbrev μ-loop : tie.MeasureT-loop
 μ-loop kept left₀ at₀ left at = left

@@ -1,3 +1,4 @@
+use Rattle.case_kept.specs.Indices.{ALL, NOTES}
 use Prim.Native.Nat.{_+_, _*_, _<_}
 use lib.ListN.{getD}
 use borrow.Author.Needs.{needs}
@@ -56,9 +57,9 @@ element-write-kept-4 c = search needs
 
 returns-2 : tie.Need-returns-2
 returns-2 c = let n = getD (c .before .before .before .before .args .kept .now) 179 0 in
-    let h : 200 + 3 * n < 150200 = omega arith in
-    let h1 : 200 + 3 * n + 1 < 150200 = omega arith in
-    let h2 : 200 + 3 * n + 2 < 150200 = omega arith in
+    let h : NOTES + 3 * n < ALL = omega arith in
+    let h1 : NOTES + 3 * n + 1 < ALL = omega arith in
+    let h2 : NOTES + 3 * n + 2 < ALL = omega arith in
     rw (lt-leb _ _ (c .before .before .if1 .left), lt-ltb _ _ h, lt-ltb _ _ h1, lt-ltb _ _ h2, ← c .length-index .ensures)
 
 pub note-if-room-spec : {M : Type 1} → statement M

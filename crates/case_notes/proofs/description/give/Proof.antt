@@ -12,7 +12,7 @@ use Rattle.case_notes.proofs.description.give.Tie as tie
 
 -- The lines that say nothing of the numbers.
 abbrev others : List ℕ
-others = 0 ∷ 1 ∷ 2 ∷ 3 ∷ 4 ∷ 18 ∷ 19 ∷ 20 ∷ 21 ∷ 22 ∷ 23 ∷ 24 ∷ 25 ∷ []
+others = 0 ∷ 1 ∷ 2 ∷ 3 ∷ 4 ∷ 18 ∷ 19 ∷ 20 ∷ 21 ∷ 22 ∷ 23 ∷ 24 ∷ 25 ∷ 28 ∷ []
 
 other-line : (said : Line) (kept : List ℕ) → OneOf others (tagOf the-type said) → given said kept ≡ fine kept
 unfolding given
@@ -43,6 +43,8 @@ other-line Line.Check kept h = refl
 other-line (Line.Write text) kept h = refl
 other-line Line.Listing kept h = refl
 other-line (Line.Product wait low high) kept h = absurd (miss others 26 tt h)
+other-line (Line.Method blocks bytes) kept h = absurd (miss others 27 tt h)
+other-line (Line.Held list) kept h = refl
 
 enum-known-said : tie.Need-enum-known-said
 enum-known-said c = c .match .keys1
@@ -128,6 +130,12 @@ enum-known-said-14 c = c .match .keys14
 give-product-requires : tie.Need-give-product-requires
 give-product-requires c κs = tt
 
+enum-known-said-15 : tie.Need-enum-known-said-15
+enum-known-said-15 c = c .match .keys15
+
+give-method-requires : tie.Need-give-method-requires
+give-method-requires c κs = tt
+
 returns : tie.Need-returns
 unfolding given
 returns c = rw (c .before .before .before .said .given .1) (c .give-length .ensures)
@@ -183,7 +191,11 @@ unfolding given
 returns-14 c = rw (c .before .before .before .said14 .given .1) (c .give-product .ensures)
 
 returns-15 : tie.Need-returns-15
-returns-15 c = rw (other-line _ (c .before .args .kept .now) (c .match .keys15))
+unfolding given
+returns-15 c = rw (c .before .before .before .said15 .given .1) (c .give-method .ensures)
+
+returns-16 : tie.Need-returns-16
+returns-16 c = rw (other-line _ (c .before .args .kept .now) (c .match .keys16))
 
 pub give-spec : {M : Type 1} → statement M
 give-spec =
@@ -217,6 +229,8 @@ give-spec =
     give-load-requires
     enum-known-said-14
     give-product-requires
+    enum-known-said-15
+    give-method-requires
     returns
     returns-2
     returns-3
@@ -231,4 +245,5 @@ give-spec =
     returns-12
     returns-13
     returns-14
-    returns-15)
+    returns-15
+    returns-16)

@@ -13,7 +13,7 @@ use Rattle.case_notes.proofs.description_line.describe.Tie as tie
 
 -- The lines that fill no buffer but the kept numbers.
 abbrev others : List ℕ
-others = 0 ∷ 1 ∷ 2 ∷ 5 ∷ 6 ∷ 7 ∷ 8 ∷ 9 ∷ 10 ∷ 11 ∷ 12 ∷ 13 ∷ 14 ∷ 15 ∷ 16 ∷ 17 ∷ 21 ∷ 22 ∷ 23 ∷ 24 ∷ 25 ∷ 26 ∷ []
+others = 0 ∷ 1 ∷ 2 ∷ 5 ∷ 6 ∷ 7 ∷ 8 ∷ 9 ∷ 10 ∷ 11 ∷ 12 ∷ 13 ∷ 14 ∷ 15 ∷ 16 ∷ 17 ∷ 21 ∷ 22 ∷ 23 ∷ 24 ∷ 25 ∷ 26 ∷ 27 ∷ []
 
 module _ (line code main local cache kept : List ℕ) where
   other-line : (said : Line) → OneOf others (tagOf the-type said) → describedBy line code main local cache kept said ≡ inKept line code main local cache kept (given said kept)
@@ -45,6 +45,8 @@ module _ (line code main local cache kept : List ℕ) where
   other-line (Line.Write text) h = refl
   other-line Line.Listing h = refl
   other-line (Line.Product wait low high) h = refl
+  other-line (Line.Method blocks bytes) h = refl
+  other-line (Line.Held list) h = absurd (miss others 28 tt h)
 
 enum-known-said : tie.Need-enum-known-said
 enum-known-said c = c .match .keys1
@@ -61,17 +63,23 @@ mark-items-requires c κs = tt
 enum-known-said-3 : tie.Need-enum-known-said-3
 enum-known-said-3 c = c .match .keys3
 
-memory-word-requires : tie.Need-memory-word-requires
-memory-word-requires c κs = tt
+hold-bases-requires : tie.Need-hold-bases-requires
+hold-bases-requires c κs = tt
 
 enum-known-said-4 : tie.Need-enum-known-said-4
 enum-known-said-4 c = c .match .keys4
 
-memory-word-requires-2 : tie.Need-memory-word-requires-2
-memory-word-requires-2 c κs = tt
+memory-word-requires : tie.Need-memory-word-requires
+memory-word-requires c κs = tt
 
 enum-known-said-5 : tie.Need-enum-known-said-5
 enum-known-said-5 c = c .match .keys5
+
+memory-word-requires-2 : tie.Need-memory-word-requires-2
+memory-word-requires-2 c κs = tt
+
+enum-known-said-6 : tie.Need-enum-known-said-6
+enum-known-said-6 c = c .match .keys6
 
 cache-word-requires : tie.Need-cache-word-requires
 cache-word-requires c κs = tt
@@ -89,18 +97,22 @@ returns-2 c = rw (c .before .before .before .said2 .given .1, ← c .mark-items 
 
 returns-3 : tie.Need-returns-3
 unfolding describedBy
-returns-3 c = rw (c .before .before .before .before .said3 .given .1, ← c .memory-word .ensures)
+returns-3 c = rw (c .before .before .before .said3 .given .1, ← c .hold-bases .ensures)
 
 returns-4 : tie.Need-returns-4
 unfolding describedBy
-returns-4 c = rw (c .before .before .before .before .said4 .given .1, ← c .memory-word2 .ensures)
+returns-4 c = rw (c .before .before .before .before .said4 .given .1, ← c .memory-word .ensures)
 
 returns-5 : tie.Need-returns-5
 unfolding describedBy
-returns-5 c = rw (c .before .before .before .before .said5 .given .1, ← c .cache-word .ensures)
+returns-5 c = rw (c .before .before .before .before .said5 .given .1, ← c .memory-word2 .ensures)
 
 returns-6 : tie.Need-returns-6
-returns-6 c = rw (other-line _ _ _ _ _ _ _ (c .before .before .match .keys6), ← c .give .ensures)
+unfolding describedBy
+returns-6 c = rw (c .before .before .before .before .said6 .given .1, ← c .cache-word .ensures)
+
+returns-7 : tie.Need-returns-7
+returns-7 c = rw (other-line _ _ _ _ _ _ _ (c .before .before .match .keys7), ← c .give .ensures)
 
 pub describe-spec : {M : Type 1} → statement M
 describe-spec =
@@ -111,10 +123,12 @@ describe-spec =
     enum-known-said-2
     mark-items-requires
     enum-known-said-3
-    memory-word-requires
+    hold-bases-requires
     enum-known-said-4
-    memory-word-requires-2
+    memory-word-requires
     enum-known-said-5
+    memory-word-requires-2
+    enum-known-said-6
     cache-word-requires
     give-requires
     returns
@@ -122,4 +136,5 @@ describe-spec =
     returns-3
     returns-4
     returns-5
-    returns-6)
+    returns-6
+    returns-7)

@@ -1,3 +1,4 @@
+use Rattle.case_kept.specs.Indices.{ALL}
 use Prim.Native.Nat.{ℕ, _-_}
 use mathlib.Core.Path.{_≡_, ap, _∙_}
 use mathlib.Core.List.{List}
@@ -32,9 +33,9 @@ same-length c = search needs
 
 returns : tie.Need-returns
 returns c = let a = c .before .before .before .before .before .before .before .before .before .args in
-    let n : length (a .kept .now) ≡ 150200 = search needs in
+    let n : length (a .kept .now) ≡ ALL = search needs in
     c .before .before .say .ensures ∙ ap (λ (l : List ℕ). withText (page (a .used) (a .out .now)) (filled (a .form .now) l))
-    (ap (λ (k : ℕ). take (length (a .kept .now) - k) (drop k (a .kept .now))) (c .before .before .before .before .before .before .least .ensures .2) ∙ from-on 150200 (a .first) (a .kept .now) n)
+    (ap (λ (k : ℕ). take (length (a .kept .now) - k) (drop k (a .kept .now))) (c .before .before .before .before .before .before .least .ensures .2) ∙ from-on ALL (a .first) (a .kept .now) n)
 
 pub say-kept-spec : {M : Type 1} → statement M
 say-kept-spec =

@@ -28,26 +28,19 @@ slice-aggregate-say-kept-4 c = search needs
 say-kept-requires-4 : tie.Need-say-kept-requires-4
 say-kept-requires-4 c κs = search needs
 
-put-transfer-requires : tie.Need-put-transfer-requires
-put-transfer-requires c κs = search needs
-
-put-load-requires : tie.Need-put-load-requires
-put-load-requires c κs = search needs
-
-put-products-requires : tie.Need-put-products-requires
-put-products-requires c κs = search needs
+put-waiting-requires : tie.Need-put-waiting-requires
+put-waiting-requires c κs = search needs
 
 same-length : tie.Need-same-length
 same-length c = search needs
 
 returns : tie.Need-returns
 unfolding stateText
-returns c = text-then _ _ _ _ _ (c .before .before .before .before .before .before .before .before .before .before .before .before .before .before .before .before .before .before .before .before .before .before .before .before .before .before .before .before .before .say-kept .ensures)
-    (text-then _ _ _ _ _ (c .before .before .before .before .before .before .before .before .before .before .before .before .before .before .before .before .before .before .before .before .before .before .before .before .say-kept2 .ensures)
-    (text-then _ _ _ _ _ (c .before .before .before .before .before .before .before .before .before .before .before .before .before .before .before .before .before .before .before .say-kept3 .ensures)
-    (text-then _ _ _ _ _ (c .before .before .before .before .before .before .before .before .before .before .before .before .before .before .say-kept4 .ensures)
-    (text-then _ _ _ _ _ (c .before .before .before .before .before .before .before .before .before .before .put-transfer .ensures)
-    (text-then _ _ _ _ _ (c .before .before .before .before .before .before .put-load .ensures) (c .before .before .put-products .ensures))))))
+returns c = text-then _ _ _ _ _ (c .before .before .before .before .before .before .before .before .before .before .before .before .before .before .before .before .before .before .before .before .before .say-kept .ensures)
+    (text-then _ _ _ _ _ (c .before .before .before .before .before .before .before .before .before .before .before .before .before .before .before .before .say-kept2 .ensures)
+    (text-then _ _ _ _ _ (c .before .before .before .before .before .before .before .before .before .before .before .say-kept3 .ensures)
+    (text-then _ _ _ _ _ (c .before .before .before .before .before .before .say-kept4 .ensures)
+    (c .before .before .put-waiting .ensures))))
 
 pub put-state-spec : {M : Type 1} → statement M
 put-state-spec =
@@ -61,8 +54,6 @@ put-state-spec =
     say-kept-requires-3
     slice-aggregate-say-kept-4
     say-kept-requires-4
-    put-transfer-requires
-    put-load-requires
-    put-products-requires
+    put-waiting-requires
     same-length
     returns)

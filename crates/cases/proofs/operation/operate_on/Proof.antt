@@ -6,6 +6,9 @@ use Rattle.cases.proofs.operation.operate_on.Tie as tie
 extents-of-requires : tie.Need-extents-of-requires
 extents-of-requires c κs = tt
 
+config-of-requires : tie.Need-config-of-requires
+config-of-requires c κs = tt
+
 sub-operate : tie.Need-sub-operate
 sub-operate c = omega arith
 
@@ -13,7 +16,7 @@ part-operate-start : tie.Need-part-operate-start
 part-operate-start c = omega arith
 
 part-operate-end : tie.Need-part-operate-end
-part-operate-end c = omega (arith, c .extents-of .ensures .0, c .before .before .before .before .before .before .pre .0)
+part-operate-end c = omega (arith, c .before .before .extents-of .ensures .0, c .before .before .before .before .before .before .before .before .pre .0)
 
 sub-operate-2 : tie.Need-sub-operate-2
 sub-operate-2 c = omega arith
@@ -22,7 +25,7 @@ part-operate-start-2 : tie.Need-part-operate-start-2
 part-operate-start-2 c = omega arith
 
 part-operate-end-2 : tie.Need-part-operate-end-2
-part-operate-end-2 c = omega (arith, c .before .extents-of .ensures .1, c .before .before .before .before .before .before .before .pre .1)
+part-operate-end-2 c = omega (arith, c .before .before .before .extents-of .ensures .1, c .before .before .before .before .before .before .before .before .before .pre .1)
 
 sub-operate-3 : tie.Need-sub-operate-3
 sub-operate-3 c = omega arith
@@ -31,7 +34,7 @@ part-operate-start-3 : tie.Need-part-operate-start-3
 part-operate-start-3 c = omega arith
 
 part-operate-end-3 : tie.Need-part-operate-end-3
-part-operate-end-3 c = omega (arith, c .before .before .extents-of .ensures .2, c .before .before .before .before .before .before .before .before .pre .2)
+part-operate-end-3 c = omega (arith, c .before .before .before .before .extents-of .ensures .2, c .before .before .before .before .before .before .before .before .before .before .pre .2)
 
 sub-operate-4 : tie.Need-sub-operate-4
 sub-operate-4 c = omega arith
@@ -40,7 +43,7 @@ part-operate-start-4 : tie.Need-part-operate-start-4
 part-operate-start-4 c = omega arith
 
 part-operate-end-4 : tie.Need-part-operate-end-4
-part-operate-end-4 c = omega (arith, c .before .before .before .extents-of .ensures .3, c .before .before .before .before .before .before .before .before .before .pre .3)
+part-operate-end-4 c = omega (arith, c .before .before .before .before .before .extents-of .ensures .3, c .before .before .before .before .before .before .before .before .before .before .before .pre .3)
 
 operate-requires : tie.Need-operate-requires
 operate-requires c κs = tt
@@ -62,6 +65,7 @@ operate-on-spec =
     tie.close
     (tie.spec
     extents-of-requires
+    config-of-requires
     sub-operate
     part-operate-start
     part-operate-end

@@ -11,10 +11,15 @@ is-cache-size-requires c κs = tt
 area-ok-requires : tie.Need-area-ok-requires
 area-ok-requires c κs = tt
 
+is-ok-requires : tie.Need-is-ok-requires
+is-ok-requires c κs = tt
+
 returns : tie.Need-returns
 unfolding admits
-returns c = rw (← c .before .before .before .before .code-length-ok .ensures, ← c .before .is-cache-size .ensures, ← c .area-ok .ensures)
+returns c =
+    rw (← c .before .before .before .before .before .before .code-length-ok .ensures, ← c .before .before .is-cache-size .ensures, ← c .before .area-ok .ensures, ← c .is-ok .ensures)
 
 pub admits-spec : {M : Type 1} → statement M
 admits-spec =
-    tie.close (tie.spec code-length-ok-requires is-cache-size-requires area-ok-requires returns)
+    tie.close
+    (tie.spec code-length-ok-requires is-cache-size-requires area-ok-requires is-ok-requires returns)

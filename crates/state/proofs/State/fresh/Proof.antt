@@ -25,14 +25,15 @@ refused-requires c κs = tt
 
 returns : tie.Need-returns
 unfolding opening
-returns c = rw (← c .before .before .before .settings .ensures, ← c .before .before .admits .ensures, c .before .if1 .taken) (c .refused .ensures _)
+returns c =
+    (rw (← c .before .before .before .settings .ensures, ← c .before .before .admits .ensures, c .before .if1 .taken) (c .refused .ensures .0 _), c .refused .ensures .1)
 
 refused-requires-2 : tie.Need-refused-requires-2
 refused-requires-2 c κs = tt
 
 returns-2 : tie.Need-returns-2
 unfolding opening
-returns-2 c = rw (← c .before .before .before .before .settings .ensures, ← c .before .before .before .admits .ensures, c .before .before .if1 .left, ne-eqb _ _ (c .before .if2 .taken)) (c .refused2 .ensures _)
+returns-2 c = (rw (← c .before .before .before .before .settings .ensures, ← c .before .before .before .admits .ensures, c .before .before .if1 .left, ne-eqb _ _ (c .before .if2 .taken)) (c .refused2 .ensures .0 _), c .refused2 .ensures .1)
 
 refused-requires-3 : tie.Need-refused-requires-3
 refused-requires-3 c κs = tt
@@ -45,10 +46,12 @@ at-end x b entry a m e = rw (a, m, le-leb _ _ e)
 
 returns-3 : tie.Need-returns-3
 returns-3 c =
-    let a = c .before .before .before .before .before .before .before .before .before .before .args in
-    c .refused3 .ensures _
-    ∙ sym (at-end (setup (a .code .now) (a .config)) (buffers (a .main .now) (a .local .now) (a .cache .now)) (a .entry)
-    (ap admits (sym (c .before .before .before .before .before .settings .ensures)) ∙ sym (c .before .before .before .before .admits .ensures) ∙ not-false _ (c .before .before .before .if1 .left)) (c .before .before .if2 .left) (c .before .if3 .taken))
+    let a = c .before .before .before .before .before .before .before .before .before .before .args in (
+      c .refused3 .ensures .0 _
+          ∙ sym (at-end (setup (a .code .now) (a .config)) (buffers (a .main .now) (a .local .now) (a .cache .now)) (a .entry)
+          (ap admits (sym (c .before .before .before .before .before .settings .ensures)) ∙ sym (c .before .before .before .before .admits .ensures) ∙ not-false _ (c .before .before .before .if1 .left)) (c .before .before .if2 .left) (c .before .if3 .taken)),
+      c .refused3 .ensures .1,
+    )
 
 clear-requires : tie.Need-clear-requires
 clear-requires c κs = tt
@@ -67,7 +70,7 @@ same-length c = search needs
 
 returns-4 : tie.Need-returns-4
 unfolding opening
-returns-4 c = rw (← c .before .before .before .before .before .before .before .before .before .settings .ensures, ← c .before .before .before .before .before .before .before .before .admits .ensures, c .before .before .before .before .before .before .before .if1 .left, c .before .before .before .before .before .before .if2 .left, lt-leb _ _ (c .before .before .before .before .before .if3 .left), c .before .before .before .clear .ensures, c .initial .ensures)
+returns-4 c = (rw (← c .before .before .before .before .before .before .before .before .before .settings .ensures, ← c .before .before .before .before .before .before .before .before .admits .ensures, c .before .before .before .before .before .before .before .if1 .left, c .before .before .before .before .before .before .if2 .left, lt-leb _ _ (c .before .before .before .before .before .if3 .left), c .before .before .before .clear .ensures, c .initial .ensures .0), c .initial .ensures .1)
 
 pub fresh-spec : {M : Type 1} → statement M
 fresh-spec =

@@ -1,4 +1,6 @@
+use mathlib.Core.Path.{refl}
 use Rattle.state.specs.Whole.{stateOf}
+use borrow.Author.Needs.{needs}
 use Rattle.state.proofs.State.join.Statement.{statement}
 use Rattle.state.proofs.State.join.Tie as tie
 
@@ -13,7 +15,9 @@ products-in-requires c κs = tt
 
 returns : tie.Need-returns
 unfolding stateOf
-returns c = rw (c .before .before .before .before .waiting-transfer .ensures, c .before .before .waiting-load .ensures, c .products-in .ensures)
+returns c = (rw (c .before .before .before .before .waiting-transfer .ensures, c .before .before .waiting-load .ensures, c .products-in .ensures) refl, refl)
 
 pub join-spec : {M : Type 1} → statement M
-join-spec = tie.close (tie.spec waiting-transfer-requires waiting-load-requires products-in-requires returns)
+join-spec =
+    tie.close
+    (tie.spec waiting-transfer-requires waiting-load-requires products-in-requires returns)

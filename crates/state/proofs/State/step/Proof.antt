@@ -1,13 +1,21 @@
-use mathlib.Core.Path.{sym, ap, _∙_}
+use mathlib.Core.Path.{_≡_, sym, ap, subst, _∙_}
+use mathlib.Core.List.{List}
+use Prim.Native.Nat.{ℕ}
+use Rattle.method_cache.specs.Words.{heldIn, FixedHeld}
 use Rattle.settings.specs.Setup.{setup, buffers}
-use Rattle.core_state.specs.State.{State}
+use Rattle.core_state.specs.declared.Core.{Core}
+use Rattle.core_state.specs.State.{State, withHeld}
 use Rattle.core_state.specs.Core.{joined}
+use Rattle.bundle_model.specs.Bundle.{Stepped, full}
 use Rattle.run_model.specs.Loop.{advanced}
 use Rattle.run_model.specs.LoopLaws.{step-advanced}
-use Rattle.state.specs.Whole.{stateOf, core-joined}
+use Rattle.state.specs.Whole.{stateOf, tidied}
 use borrow.Author.Needs.{needs}
 use Rattle.state.proofs.State.step.Statement.{statement}
 use Rattle.state.proofs.State.step.Tie as tie
+
+tidy-requires : tie.Need-tidy-requires
+tidy-requires c κs = search needs
 
 core-requires : tie.Need-core-requires
 core-requires c κs = search needs
@@ -29,15 +37,20 @@ same-length-3 c = search needs
 
 returns : tie.Need-returns
 returns c =
-    let a = c .before .before .before .before .before .before .before .before .before .before .before .before .before .before .before .before .before .before .before .before .before .before .args in
+    let a = c .before .before .before .before .before .before .before .before .before .before .before .before .before .before .before .before .before .before .before .before .before .before .before .before .before .before .args in
     let x = setup (a .code .now) (a .config) in
     let b = buffers (a .main .now) (a .local .now) (a .cache .now) in
-    rw (c .join .ensures) (c .before .before .before .before .before .before .before .before .before .advance .ensures .given ∙ ap (λ (s : State). advanced x 1 s b) (ap (joined (a .self .registers) (a .self .predicates)) (c .before .before .before .before .before .before .before .before .before .before .before .before .before .before .before .core .ensures) ∙ core-joined (a .self)) ∙ sym (step-advanced x (stateOf (a .self)) b))
+    let t = tidied (a .self) (c .before .before .before .before .before .before .before .before .before .before .before .before .before .before .before .before .before .tidy .last .0) (c .before .before .before .before .before .before .before .before .before .before .before .before .before .before .before .before .before .tidy .ensures .1) (c .before .before .before .before .before .before .before .before .before .before .before .before .before .before .before .before .before .tidy .ensures .0) in
+    let start = ap (λ (y : Core). withHeld (joined (a .self .registers) (a .self .predicates) y) (heldIn (c .before .before .before .before .before .before .before .before .before .before .before .before .before .before .before .before .before .tidy .last .0))) (c .before .before .before .before .before .before .before .before .before .before .before .before .before .before .before .before .core .ensures) ∙ t .0 in (
+      rw (c .join .ensures .0) (c .before .before .before .before .before .before .before .before .before .advance .ensures .given ∙ ap (λ (s : State). advanced x 1 s b) start ∙ sym (step-advanced x (stateOf (a .self)) b)),
+      subst FixedHeld (sym (c .join .ensures .1)) (c .before .before .before .before .before .before .before .before .before .advance .ensures .held (t .1)),
+    )
 
 pub step-spec : {M : Type 1} → statement M
 step-spec =
     tie.close
     (tie.spec
+    tidy-requires
     core-requires
     advance-requires
     join-requires

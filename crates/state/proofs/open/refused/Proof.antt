@@ -1,3 +1,5 @@
+use mathlib.Core.Path.{refl}
+use borrow.Author.Needs.{needs}
 use Rattle.state.proofs.open.refused.Statement.{statement}
 use Rattle.state.proofs.open.refused.Tie as tie
 
@@ -5,7 +7,7 @@ initial-requires : tie.Need-initial-requires
 initial-requires c κs = tt
 
 returns : tie.Need-returns
-returns c = λ l. rw (c .initial .ensures)
+returns c = (λ l. rw (c .initial .ensures .0) refl, c .initial .ensures .1)
 
 pub refused-spec : {M : Type 1} → statement M
 refused-spec = tie.close (tie.spec initial-requires returns)

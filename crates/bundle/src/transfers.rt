@@ -1,0 +1,55 @@
+// Transfers: judged, looked up in the method cache, and counted. Where they go is written with the rest of the state.
+ghost use mathlib.Core.Path.{_≡_};
+ghost use mathlib.Core.Bool.{Bool, true};
+ghost use mathlib.Core.List.{List};
+ghost use Prim.Native.Nat.{ℕ};
+ghost use Rattle.method_cache.specs.Words.{heldIn};
+ghost use Rattle.settings.specs.Settings.{admits};
+ghost use Rattle.settings.specs.Setup.{Buffers, setupOf};
+ghost use Rattle.core_state.specs.State.{withHeld};
+ghost use Rattle.core_state.specs.Core.{joined};
+ghost use Rattle.bundle_model.specs.Counts.{Few, countsIn};
+ghost use Rattle.bundle_model.specs.Execute.{carriedAs, carriedOut, Tallied};
+use crate::counting::add;
+use bundle_model::Carried;
+use bundle_model::Counts;
+use bundle_model::outcome::nothing;
+use bundle_writes::extra_cycles;
+use bundle_writes::lookup::look_up_transfer;
+use bundle_writes::slot_one::judge_transfer;
+use core_state::Core;
+use effects::Effect;
+use effects::Transfer;
+use settings::Settings;
+
+// A transfer that neither 4 nor 13 refuses looks its block up; what is counted is beside the one cycle of its bundle.
+pub(crate) fn do_transfer(
+    core: Core,
+    held: &mut [u32; 17],
+    counts: &mut [u64; 6],
+    g: Settings,
+    code: &[u8],
+    delayed: bool,
+    transfer: Transfer,
+) -> Carried
+    requires { ⌜ (admits g ≡ true) × Few 4294967294 (countsIn (now counts)) ⌝ }
+    ensures { λ r. ⌜ ((rs : List ℕ) (ps : List Bool) (b : Buffers) → (carriedAs r b ≡ carriedOut g (setupOf (now (code .entry)) g) (withHeld (joined rs ps core) (heldIn (now (held .entry)))) (Effect.Transfer delayed transfer) b) × Tallied r g (setupOf (now (code .entry)) g) (withHeld (joined rs ps core) (heldIn (now (held .entry)))) (Effect.Transfer delayed transfer) (now (held .entry)) (now (held .exit)) (now (counts .entry)) (now (counts .exit))) ⌝ }
+{
+    let judged = judge_transfer(core, g, code, transfer);
+    if let Carried::Refused(n) = judged {
+        return Carried::Refused(n);
+    }
+    let looked = look_up_transfer(g, code, &mut *held, transfer);
+    add(
+        &mut *counts,
+        Counts {
+            bundles: 0,
+            cycles: extra_cycles(delayed, transfer),
+            spilled: 0,
+            filled: 0,
+            misses: looked.misses as u64,
+            fetched: looked.fetched as u64,
+        },
+    );
+    nothing()
+}
