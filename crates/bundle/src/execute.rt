@@ -1,4 +1,5 @@
-// What is left of a bundle once its effects are known: slot one is carried out, then the state is written, then it is counted.
+// What is left of a bundle once its effects are known: slot one is carried out, then the state is written, and then the bundle's
+// own cycle is counted.
 ghost use mathlib.Core.Path.{_≡_};
 ghost use mathlib.Core.Bool.{true};
 ghost use lib.ListN.{length};

@@ -4,13 +4,10 @@ ghost use mathlib.Core.Bool.{Bool, true};
 ghost use mathlib.Core.List.{List};
 ghost use Prim.Native.Nat.{ℕ};
 ghost use lib.ListN.{length};
-ghost use Rattle.method_cache.specs.Words.{heldIn};
 ghost use Rattle.settings.specs.Settings.{admits};
 ghost use Rattle.settings.specs.Setup.{found, left, setupOf};
-ghost use Rattle.core_state.specs.State.{withHeld};
-ghost use Rattle.core_state.specs.Core.{joined};
 ghost use Rattle.bundle_model.specs.Counts.{Few, countsIn};
-ghost use Rattle.bundle_model.specs.Execute.{carriedAs, carriedOut, Tallied};
+ghost use Rattle.bundle_model.specs.Execute.{holding, CarriesOut};
 use crate::stack_moves::do_stack;
 use crate::transfers::do_transfer;
 use bundle_model::Carried;
@@ -34,7 +31,7 @@ pub(crate) fn carry_out(
     cache: &mut [u32],
 ) -> Carried
     requires { ⌜ (admits g ≡ true) × (g .main ≡ length (now main)) × Few 4294967294 (countsIn (now counts)) ⌝ }
-    ensures { λ r. ⌜ ((rs : List ℕ) (ps : List Bool) → (carriedAs r (left main local cache) ≡ carriedOut g (setupOf (now (code .entry)) g) (withHeld (joined rs ps core) (heldIn (now (held .entry)))) one (found main local cache)) × Tallied r g (setupOf (now (code .entry)) g) (withHeld (joined rs ps core) (heldIn (now (held .entry)))) one (now (held .entry)) (now (held .exit)) (now (counts .entry)) (now (counts .exit))) ⌝ }
+    ensures { λ r. ⌜ ((rs : List ℕ) (ps : List Bool) → CarriesOut g (setupOf (now (code .entry)) g) (holding rs ps core held) one r (found main local cache) (left main local cache) held counts) ⌝ }
 {
     let st = core.specials.st;
     let ss = core.specials.ss;

@@ -3,13 +3,10 @@ ghost use mathlib.Core.Path.{_≡_};
 ghost use mathlib.Core.Bool.{Bool, true};
 ghost use mathlib.Core.List.{List};
 ghost use Prim.Native.Nat.{ℕ};
-ghost use Rattle.method_cache.specs.Words.{heldIn};
 ghost use Rattle.settings.specs.Settings.{admits};
 ghost use Rattle.settings.specs.Setup.{Buffers, setupOf};
-ghost use Rattle.core_state.specs.State.{withHeld};
-ghost use Rattle.core_state.specs.Core.{joined};
 ghost use Rattle.bundle_model.specs.Counts.{Few, countsIn};
-ghost use Rattle.bundle_model.specs.Execute.{carriedAs, carriedOut, Tallied};
+ghost use Rattle.bundle_model.specs.Execute.{holding, CarriesOut};
 use crate::counting::add;
 use bundle_model::Carried;
 use bundle_model::Counts;
@@ -33,7 +30,7 @@ pub(crate) fn do_transfer(
     transfer: Transfer,
 ) -> Carried
     requires { ⌜ (admits g ≡ true) × Few 4294967294 (countsIn (now counts)) ⌝ }
-    ensures { λ r. ⌜ ((rs : List ℕ) (ps : List Bool) (b : Buffers) → (carriedAs r b ≡ carriedOut g (setupOf (now (code .entry)) g) (withHeld (joined rs ps core) (heldIn (now (held .entry)))) (Effect.Transfer delayed transfer) b) × Tallied r g (setupOf (now (code .entry)) g) (withHeld (joined rs ps core) (heldIn (now (held .entry)))) (Effect.Transfer delayed transfer) (now (held .entry)) (now (held .exit)) (now (counts .entry)) (now (counts .exit))) ⌝ }
+    ensures { λ r. ⌜ ((rs : List ℕ) (ps : List Bool) (b : Buffers) → CarriesOut g (setupOf (now (code .entry)) g) (holding rs ps core held) (Effect.Transfer delayed transfer) r b b held counts) ⌝ }
 {
     let judged = judge_transfer(core, g, code, transfer);
     if let Carried::Refused(n) = judged {

@@ -131,6 +131,15 @@ pub record Tallied (r : Carried) (g : Settings) (x : Setup) (s : State) (one : E
   pub counts : countsIn d ≡ plus (countsIn c) (countedBy r (extraOf g x s one))
   pub fixed : FixedHeld w → FixedHeld v
 
+-- In contracts, slot one carried out from a state, with all that it finds and leaves: the stores, the blocks held and the counts.
+abbrev pub CarriesOut : Settings → Setup → State → Effect → Carried → Buffers → Buffers → Lent → Lent → Type 0
+CarriesOut g x s one r b b′ held counts =
+    (carriedAs r b′ ≡ carriedOut g x s one b) × Tallied r g x s one (now (held .entry)) (now (held .exit)) (now (counts .entry)) (now (counts .exit))
+
+-- In contracts, the state of any registers and predicates with the core and the blocks that a function finds.
+abbrev pub holding : List ℕ → List Bool → Core → Lent → State
+holding rs ps core held = withHeld (joined rs ps core) (heldIn (now (held .entry)))
+
 -- What slot one writes to the state, of the value loaded and st and ss.
 unfoldable pub writeDone : Effect → ℕ → ℕ → ℕ → State → State
 writeDone (effect.Alu a) loaded st ss onto = writeAlu a onto

@@ -29,16 +29,15 @@ use Rattle.answers.specs.declared.Verdict.the-variants.{Fine, Refused}
 use Rattle.answers.specs.Answer.{done, refused}
 use Rattle.answers.specs.Test.{Test, verdict}
 use Rattle.settings.specs.Setup.{Setup, Buffers, buffers}
-use Rattle.bundle_model.specs.declared.Carried.{Carried}
 use Rattle.bundle_model.specs.declared.Carried.the-variants as carried
 use Rattle.bundle_model.specs.declared.Counts.{Counts}
 use Rattle.bundle_model.specs.Lookup.{lookups, lookupTests, heldBy}
 use Rattle.bundle_model.specs.Refusal.{effectTests, slotTests}
-use Rattle.bundle_model.specs.Counts.{noCounts, plus, plus-none, plus-plus, countsIn}
+use Rattle.bundle_model.specs.Counts.{noCounts, plus, plus-plus}
 use Rattle.core_state.specs.Writes.{writeAlu}
 use Rattle.bundle_model.specs.Bundle.{Outcome, outcome, counted, written, stateDone, writeOne, onward, undelayedCycles, cyclesOf, countsOf, buffersAfter, refusedOr, stackMoved}
 use Rattle.bundle_model.specs.HeldLaws.{written-held}
-use Rattle.bundle_model.specs.Execute.{executed, CarriedOut, plainly, loading, carriedAs, unlessRefused, loadedBy, topBy, spillBy, carriedOut, extraCycles, extraOf, oneCycle, Tallied, writeDone, Moved}
+use Rattle.bundle_model.specs.Execute.{executed, CarriedOut, plainly, loading, carriedAs, unlessRefused, loadedBy, topBy, spillBy, carriedOut, extraCycles, extraOf, oneCycle, writeDone, Moved}
 
 -- An effect that looks nothing up is refused as its own tests say.
 pub slot-plain : (g : Settings) (x : Setup) (s : State) (e : Effect) → lookups x e ≡ [] → slotTests g x s e ≡ effectTests g x s e
@@ -109,7 +108,7 @@ write-done g b s onto (effect.Transfer d t) = refl
 write-done g b s onto effect.Exception = refl
 
 -- What slot one counts, with the one cycle of every bundle, is what the bundle counts.
-pub extra-one : (g : Settings) (x : Setup) (s : State) (e : Effect) → plus (extraOf g x s e) oneCycle ≡ countsOf g x s e
+extra-one : (g : Settings) (x : Setup) (s : State) (e : Effect) → plus (extraOf g x s e) oneCycle ≡ countsOf g x s e
 extra-one g x s e =
     λ i. record {
       bundles = 1;

@@ -2,7 +2,7 @@
 use Prim.Native.Nat.{ℕ}
 use mathlib.Core.Bool.{Bool}
 use mathlib.Core.List.{List}
-use mathlib.Core.Path.{_≡_, refl, sym, ap, subst, _∙_}
+use mathlib.Core.Path.{_≡_, sym, ap, subst, _∙_}
 use Rattle.answers.specs.Answer.{Returned, refused}
 use Rattle.method_cache.specs.Words.{heldIn}
 use Rattle.settings.specs.declared.Settings.{Settings}
@@ -30,7 +30,7 @@ use Rattle.bundle_model.specs.ExecuteLaws.{executed-refused, executed-do
 use Rattle.bundle_model.specs.BundleLaws.{bundle-refused, bundle-found}
 
 -- What was tallied of a slot one that was refused, and of one that was done.
-pub told-refused : {g : Settings} {x : Setup} {s : State} {one : Effect} {w v c d : List ℕ} {r : Carried} (n : ℕ) → r ≡ carried.Refused n → Tallied r g x s one w v c d
+told-refused : {g : Settings} {x : Setup} {s : State} {one : Effect} {w v c d : List ℕ} {r : Carried} (n : ℕ) → r ≡ carried.Refused n → Tallied r g x s one w v c d
     → (heldIn v ≡ s .further .held) × (countsIn d ≡ plus (countsIn c) noCounts)
 told-refused {g} {x} {s} {one} {w} {v} {c} {d} n e t =
     let u = subst (λ (y : Carried). Tallied y g x s one w v c d) e t in (u .held, u .counts)

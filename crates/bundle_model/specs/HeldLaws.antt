@@ -8,7 +8,7 @@ use lib.Dec.{leb}
 use Rattle.isa.specs.declared.Special.{Special}
 use Rattle.isa.specs.declared.Special.the-variants.{S0, Sl, Sh, Ss, St, Srb, Sro, Sxb, Sxo}
 use Rattle.settings.specs.declared.Settings.{Settings}
-use Rattle.settings.specs.Setup.{Setup, Buffers}
+use Rattle.settings.specs.Setup.{Buffers}
 use Rattle.alu_effects.specs.declared.AluEffect.{AluEffect}
 use Rattle.alu_effects.specs.declared.AluEffect.the-variants as alu
 use Rattle.effects.specs.declared.Transfer.{Transfer}
@@ -23,8 +23,7 @@ use Rattle.core_state.specs.declared.WaitingLoad.{WaitingLoad}
 use Rattle.core_state.specs.declared.WaitingLoad.the-variants as load
 use Rattle.core_state.specs.State.{State, withRegister, withPredicate, withSpecial, withHeld, withProducts, withArrival, landing, landed, arrived, goingOn, transferred}
 use Rattle.core_state.specs.Writes.{writeAlu, nearer, begun}
-use Rattle.bundle_model.specs.Refusal.{effectTests, slotTests}
-use Rattle.bundle_model.specs.Bundle.{buffersAfter, stackMoved, writeOne, onward, written}
+use Rattle.bundle_model.specs.Bundle.{writeOne, onward, written}
 
 module _ (h : List ℕ) where
   landed-held : (s : State) → landed (withHeld s h) ≡ withHeld (landed s) h
@@ -112,14 +111,3 @@ module _ (h : List ℕ) where
       ∙ ap (λ (y : State). onward one (s .transfer) following (writeAlu two y)) (one-held g b s one (arrived (landed s)))
       ∙ ap (λ (y : State). onward one (s .transfer) following y) (alu-held two (writeOne g b s one (arrived (landed s))))
       ∙ onward-held one (s .transfer) following (writeAlu two (writeOne g b s one (arrived (landed s))))
-
-  -- Nor do the tests of an effect and the stores depend on them.
-  pub tests-held : (g : Settings) (x : Setup) (s : State) (e : Effect) → effectTests g x (withHeld s h) e ≡ effectTests g x s e
-  tests-held g x s (effect.Alu a) = refl
-  tests-held g x s (effect.Special d v) = refl
-  tests-held g x s (effect.Product l k) = refl
-  tests-held g x s (effect.Load k w r a) = refl
-  tests-held g x s (effect.Store k w a v) = refl
-  tests-held g x s (effect.Stack c n m) = refl
-  tests-held g x s (effect.Transfer d t) = refl
-  tests-held g x s effect.Exception = refl

@@ -7,8 +7,8 @@ use lib.Dec.{eqb}
 use lib.ListN.{length}
 use Rattle.word.specs.BoolLaws.{and-left}
 use Rattle.method_cache.specs.MethodCache.{capacityOk, looked, heldAfter}
-use Rattle.method_cache.specs.CacheLaws.{Capacity, capacity-on, looked-few}
-use Rattle.method_cache.specs.Words.{heldIn, lookedWords, wordsAfter, FixedHeld}
+use Rattle.method_cache.specs.CacheLaws.{capacity-on, looked-few}
+use Rattle.method_cache.specs.Words.{heldIn, wordsAfter, FixedHeld}
 use Rattle.method_cache.specs.WordLaws.{held-few, looked-back, looked-fixed}
 use Rattle.settings.specs.Setup.{Setup}
 use Rattle.effects.specs.declared.Transfer.{Transfer}
@@ -26,7 +26,7 @@ module _ (P : List ℕ → Type 0) (x : Setup) (none : P []) (one : (base : ℕ)
       go true e = one base (and-left (x .method .on) (not (eqb target (length (x .code)))) e)
       go false e = none
 
-  pub bases-cases : (t : Transfer) → P (basesOf x t)
+  bases-cases : (t : Transfer) → P (basesOf x t)
   unfolding basesOf
   bases-cases (Br target) = none
   bases-cases (Call target) = looked-cases target target

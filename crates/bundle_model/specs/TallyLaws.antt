@@ -10,7 +10,6 @@ use Rattle.effects.specs.declared.Effect.{Effect}
 use Rattle.core_state.specs.State.{State, withHeld}
 use Rattle.bundle_model.specs.declared.Carried.{Carried}
 use Rattle.bundle_model.specs.declared.Carried.the-variants as carried
-use Rattle.bundle_model.specs.declared.Counts.{Counts}
 use Rattle.bundle_model.specs.Lookup.{lookups, heldBy}
 use Rattle.bundle_model.specs.Counts.{noCounts, plus, plus-none, countsIn}
 use Rattle.bundle_model.specs.Bundle.{spilledBy, filledBy}

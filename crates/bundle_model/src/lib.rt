@@ -29,7 +29,7 @@ pub struct Counts {
     pub fetched: u64,
 }
 
-// A bundle's answer, with the state beside registers and predicates handed back. What is counted is added to numbers that are lent.
+// A bundle's answer, with the state beside what is lent handed back. What is counted is added to numbers that are lent.
 pub struct Bundled {
     pub answer: Answer,
     pub core: Core,

@@ -10,7 +10,7 @@ use Rattle.answers.specs.declared.Verdict.the-variants.{Fine, Refused}
 use Rattle.answers.specs.Test.{Test, test, verdict}
 use Rattle.method_cache.specs.declared.Looked.{Looked}
 use Rattle.method_cache.specs.MethodCache.{capacityOk, badBlock, isHeld, sizeAt, heldAfter, misses, wordsFetched}
-use Rattle.method_cache.specs.Words.{heldIn, FixedHeld, lookedWords, wordsAfter, countedBy}
+use Rattle.method_cache.specs.Words.{heldIn, FixedHeld, lookedWords, wordsAfter, lookedCount}
 use Rattle.settings.specs.declared.Settings.{Settings}
 use Rattle.settings.specs.Setup.{setupOf}
 use Rattle.effects.specs.declared.Transfer.{Transfer}
@@ -57,8 +57,8 @@ module _ (g : Settings) (code : List ℕ) (t : Transfer) (w : List ℕ) where
 
   -- One block is looked up.
   pub looked-one : (v : List ℕ) (r : Looked) (base : ℕ) → base ≡ newBase t → newBase t ∷ [] ≡ basesOf (setupOf code g) t → length w ≡ 17
-      → v ≡ lookedWords (g .method) code w base → r ≡ countedBy code (heldIn w) base → LookedUp g code t w v r
-  unfolding wordsAfter heldAfter misses wordsFetched countedBy
+      → v ≡ lookedWords (g .method) code w base → r ≡ lookedCount code (heldIn w) base → LookedUp g code t w v r
+  unfolding wordsAfter heldAfter misses wordsFetched lookedCount
   looked-one v r base b e long p q =
       let one : base ∷ [] ≡ basesOf (setupOf code g) t = ap (λ (a : ℕ). a ∷ []) b ∙ e in
       let after : v ≡ wordsAfter (g .method) code w (basesOf (setupOf code g) t) = p ∙ ap (wordsAfter (g .method) code w) one in

@@ -1,7 +1,7 @@
 -- A transfer carried out: judged by 4 and 13, looked up, and counted.
 use Prim.Native.Nat.{ℕ}
 use mathlib.Core.Bool.{Bool, true, not}
-use mathlib.Core.List.{List, [], _∷_}
+use mathlib.Core.List.{List, _∷_}
 use mathlib.Core.Path.{_≡_, refl, sym, ap, subst, _∙_}
 use Rattle.answers.specs.declared.Verdict.{Verdict}
 use Rattle.answers.specs.declared.Verdict.the-variants.{Fine, Refused}
@@ -35,7 +35,7 @@ transfer-carried g x s delayed t b r e = ap (λ (c : Carried). carriedAs c b) e 
     go (Refused n) = refl
 
 -- What it counts: its cycles beside the one of its bundle, and what the lookup counts.
-abbrev pub lookedCounts : ℕ → Looked → Counts
+abbrev lookedCounts : ℕ → Looked → Counts
 lookedCounts cycles looked = record { bundles = 0; cycles = cycles; spilled = 0; filled = 0; misses = looked .misses; fetched = looked .fetched }
 
 pub transfer-tallied : (g : Settings) (code : List ℕ) (s : State) (delayed : Bool) (t : Transfer) (w v c d : List ℕ) (r : Carried) (cycles : ℕ) (looked : Looked) → r ≡ plainly

@@ -2,10 +2,8 @@
 ghost use mathlib.Core.Path.{_≡_};
 ghost use mathlib.Core.Bool.{cond};
 ghost use mathlib.Core.List.{[], _∷_};
-ghost use lib.ListN.{length};
 ghost use Rattle.answers.specs.Test.{verdict};
-ghost use Rattle.method_cache.specs.MethodCache.{misses, wordsFetched};
-ghost use Rattle.method_cache.specs.Words.{heldIn, wordsAfter};
+ghost use Rattle.method_cache.specs.MethodCache.{misses};
 ghost use Rattle.settings.specs.Setup.{setupOf};
 ghost use Rattle.bundle_model.specs.Lookup.{basesOf, lookupTests};
 ghost use Rattle.bundle_writes.specs.Lookup.{newBase, LookedUp};

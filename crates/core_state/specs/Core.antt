@@ -1,4 +1,4 @@
--- The state in three parts, for the contracts of the functions that are lent the registers and the predicates.
+-- The state in parts, for the contracts of the functions that are lent the registers and the predicates.
 use Prim.Native.Nat.{ℕ, _-_}
 use mathlib.Core.Bool.{Bool, cond}
 use mathlib.Core.List.{List, []}

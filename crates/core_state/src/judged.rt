@@ -1,4 +1,4 @@
-// What is judged of a state: whether it is well formed, and whether it has ended.
+// What is judged of a state: whether its parts are well formed, the blocks held aside, and whether it has ended.
 ghost use mathlib.Core.Path.{_≡_};
 ghost use mathlib.Core.Bool.{Bool};
 ghost use mathlib.Core.List.{List};

@@ -1,4 +1,5 @@
-// The state beside registers and predicates, and what a bundle writes to it. The registers and predicates are lent.
+// The state beside registers, predicates and blocks held, and what a bundle writes to it. The registers and predicates are lent; no write
+// reads or changes the blocks.
 pub mod flow;
 pub mod judged;
 mod special;
@@ -36,7 +37,7 @@ pub struct LoadWords {
     pub value: u32,
 }
 
-// The state beside registers and predicates, inside a bundle. It holds words alone: an enum in it would be copied byte by byte.
+// The state beside what is lent, inside a bundle. It holds words alone: an enum in it would be copied byte by byte.
 pub struct Core {
     pub specials: Specials,
     pub fetch: u32,

@@ -49,7 +49,7 @@ pub program-even : (k v₁ v₂ : ℕ) (p₁ p₂ : Bool) → Even k program (be
 unfolding check
 program-even k v₁ v₂ p₁ p₂ =
     even-pace (within program) k marking (begin v₁ p₁ load.Nothing) (begin v₂ p₂ load.Nothing) lent lent program-accepted
-    (begin-shaped v₁ p₁ load.Nothing) (begin-shaped v₂ p₂ load.Nothing) (begin-well program v₁ p₁) (begin-well program v₂ p₂) (begin-agree false false program v₁ v₂ p₁ p₂)
+    (begin-shaped v₁ p₁ load.Nothing) (begin-shaped v₂ p₂ load.Nothing) (begin-well program v₁ p₁) (begin-well program v₂ p₂) (begin-agree false false (within program) v₁ v₂ p₁ p₂)
 
 pub program-ends : (answered 3 program (begin 7 true load.Nothing) ≡ ended) × (answered 3 program (begin 9 false load.Nothing) ≡ ended)
 unfolding answered

@@ -24,7 +24,7 @@ use Rattle.core_state.specs.State.{State, Shaped, state, specials, withRegister
 use Rattle.core_state.specs.declared.WaitingTransfer.the-variants as transfer
 use Rattle.core_state.specs.declared.WaitingLoad.{WaitingLoad}
 use Rattle.core_state.specs.declared.WaitingLoad.the-variants as load
-use Rattle.bundle_model.specs.Bundle.{stackMoved, buffersAfter, writeOne, written, bundle, wellFormed, readiness, step}
+use Rattle.bundle_model.specs.Bundle.{stackMoved, buffersAfter, writeOne, written, Outcome, bundle, wellFormed, readiness, step}
 use Rattle.bundle_model.specs.Lookup.{basesOf, lookupTests}
 use Rattle.bundle_model.specs.Refusal.{slotTests}
 use Rattle.core_state.specs.Writes.{writeAlu, delaySlots}
@@ -78,7 +78,7 @@ marking = markingWith false false
 abbrev pub begin : ℕ → Bool → WaitingLoad → State
 begin v p waiting = state (0 ∷ v ∷ replicate 30 0) (true ∷ p ∷ replicate 6 false) (specials 0 0 32 32 0 4 0 0) 0 0 transfer.Nothing waiting (further products.Nothing [])
 
--- What the check answers, which rules the bundle at 0 breaks, what a run tries, and what it answers. (The first line of each names
+-- What the check answers, which rules the bundle at 0 breaks, what a step gives, what a run tries, and what it answers. (The first line of each names
 -- the definitions by which it is computed.)
 unfoldable pub checkUnder : Marking → List ℕ → CheckAnswer
 unfolding checked walkFrom verdict admits isCacheSize capacityOk markingOk outsideCode numberAt bundleWords decode guardOf decoder.slotOne slotTwo reading row signed
@@ -97,8 +97,8 @@ unfoldable pub hasAccess : List ℕ → ℕ → Bool
 unfolding hasPrivateAccess asked numberAt bundleWords decode guardOf decoder.slotOne slotTwo reading row signed
 hasAccess code a = hasPrivateAccess marking (bundleAt code a)
 
-unfoldable pub tried : ℕ → List ℕ → State → List Tried
-unfolding tries step readiness admits isCacheSize capacityOk wellFormed partsOk heldOk heldGood badBlock sizeAt isHeld bytesHeld hasEnded bundle
+unfoldable pub stepped : List ℕ → Method → State → Outcome
+unfolding step readiness admits isCacheSize capacityOk wellFormed partsOk heldOk heldGood badBlock sizeAt isHeld bytesHeld hasEnded bundle
     slotTests basesOf lookupTests looked roomFor heldAfter misses wordsFetched
     outsideCode numberAt bundleWords decode guardOf decoder.slotOne slotTwo reading row signed
     slotOneEffect slotTwoEffect effectOf aluEffect op2Value arithmetic multiply compare combine
@@ -108,6 +108,10 @@ unfolding tries step readiness admits isCacheSize capacityOk wellFormed partsOk 
     written landed arrived productsOk dueProduct nearerProducts withOneMore writeOne writeAlu withRegister withPredicate withSpecial predicatesOf delaySlots transferred
     loadedValue extended signExtend readNumber cacheNumber cacheWord partOf
     buffersAfter stored putNumber putCacheNumber putCacheWord putPart stackMoved spilled filled
+stepped code c s = step (withMethod code c) s lent
+
+unfoldable pub tried : ℕ → List ℕ → State → List Tried
+unfolding stepped tries
 tried k code s = tries (within code) k s lent noCounts
 
 unfoldable pub answered : ℕ → List ℕ → State → Returned
@@ -122,9 +126,9 @@ pub begin-well : (code : List ℕ) (v : ℕ) (p : Bool) → wellFormed (within c
 unfolding wellFormed partsOk productsOk heldOk
 begin-well code v p = refl
 
-pub begin-agree : (sl sh : Bool) (code : List ℕ) (v₁ v₂ : ℕ) (p₁ p₂ : Bool)
-    → Agree (markingWith sl sh) (within code) (begin v₁ p₁ load.Nothing) lent (begin v₂ p₂ load.Nothing) lent
-begin-agree sl sh code v₁ v₂ p₁ p₂ =
+pub begin-agree : (sl sh : Bool) (x : Setup) (v₁ v₂ : ℕ) (p₁ p₂ : Bool)
+    → Agree (markingWith sl sh) x (begin v₁ p₁ load.Nothing) lent (begin v₂ p₂ load.Nothing) lent
+begin-agree sl sh x v₁ v₂ p₁ p₂ =
     record {
       state = with-predicates (with-registers (state-refl (begin v₁ p₁ load.Nothing)) (0 ∷ v₁ ∷ replicate 30 0) (0 ∷ v₂ ∷ replicate 30 0) (record { lengths = refl; places = registers }))
           (true ∷ p₁ ∷ replicate 6 false) (true ∷ p₂ ∷ replicate 6 false) (record { lengths = refl; places = predicates });

@@ -20,4 +20,5 @@ pub mod Theorem
 pub mod Examples
 pub mod Evidence
 pub mod ProductEvidence
+pub mod HeldEvidence
 pub mod Frame

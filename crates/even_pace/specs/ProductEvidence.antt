@@ -34,7 +34,7 @@ pub even-M : (k v₁ v₂ : ℕ) (p₁ p₂ : Bool) → EvenUnder secret k progr
 unfolding checkUnder
 even-M k v₁ v₂ p₁ p₂ =
     even-pace (within programM) k secret (begin v₁ p₁ load.Nothing) (begin v₂ p₂ load.Nothing) lent lent accepted-M
-    (begin-shaped v₁ p₁ load.Nothing) (begin-shaped v₂ p₂ load.Nothing) (begin-well programM v₁ p₁) (begin-well programM v₂ p₂) (begin-agree true true programM v₁ v₂ p₁ p₂)
+    (begin-shaped v₁ p₁ load.Nothing) (begin-shaped v₂ p₂ load.Nothing) (begin-well programM v₁ p₁) (begin-well programM v₂ p₂) (begin-agree true true (within programM) v₁ v₂ p₁ p₂)
 
 pub products-M : (one programM (begin 3 true load.Nothing) .state .further .products ≡ One (product 2 9 0))
     × (one programM (begin 3 false load.Nothing) .state .further .products ≡ Nothing)

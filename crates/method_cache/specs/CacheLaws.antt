@@ -1,9 +1,9 @@
 -- Laws of the method cache: that the replacement is what is asked for, that a lookup keeps what 11 lets pass, and lookups one after the
 -- other.
 use Prim.Native.Nat.{ℕ, zero, suc, _+_, _/_, _<_, _≤_, suc-le-suc}
-use mathlib.Core.Bool.{Bool, true, false, not, cond, _&&_, _||_, false≢true}
+use mathlib.Core.Bool.{Bool, true, false, not, cond, _&&_, _||_}
 use mathlib.Core.List.{List, [], _∷_, _++_}
-use mathlib.Core.Path.{_≡_, refl, sym, ap, subst, _∙_}
+use mathlib.Core.Path.{_≡_, refl, sym, ap, _∙_}
 use native.Mathlib.Omega.{arith}
 use native.Mathlib.Nat.{add-assoc, zero-add}
 use borrow.Author.Tests.{leb-true, le-leb, ltb-false, eqb-false, ne-eqb, not-true}
@@ -19,6 +19,10 @@ module _ (c : Method) (code held : List ℕ) (base : ℕ) where
   pub hit-keeps : isHeld base held ≡ true → looked c code held base ≡ held
   unfolding looked
   hit-keeps e = rw e
+
+  pub hit-free : isHeld base held ≡ true → (misses c code held (base ∷ []) ≡ 0) × (wordsFetched c code held (base ∷ []) ≡ 0)
+  unfolding misses wordsFetched
+  hit-free e = (rw e refl, rw e refl)
 
   pub miss-youngest : isHeld base held ≡ false → looked c code held base ≡ roomFor c code (sizeAt code base) held ++ (base ∷ [])
   unfolding looked
@@ -55,6 +59,15 @@ room-least c code size (h ∷ hs) = go (hasRoom c code size (h ∷ hs)) refl (ro
         before : (j : ℕ) → j < suc (r .gone) → hasRoom c code size (drop j (h ∷ hs)) ≡ false
         before zero p = e
         before (suc j) p = r .needed j (omega (arith, p))
+
+-- Where the block fits an empty cache, there is room then in any case.
+pub room-made : (c : Method) (code : List ℕ) (size : ℕ) (held : List ℕ) → 1 ≤ c .blocks → size ≤ c .bytes → hasRoom c code size (roomFor c code size held) ≡ true
+unfolding bytesHeld
+room-made c code size held p q = go (roomFor c code size held) (room-least c code size held)
+  where
+    go : (left : List ℕ) → Replaces c code size held left → hasRoom c code size left ≡ true
+    go [] r = λ i. le-leb 1 (c .blocks) p i && le-leb (0 + size) (c .bytes) (omega (arith, q)) i
+    go (h ∷ hs) r = r .enough (λ z. cons-not-nil z)
 
 -- So a lookup leaves no more than sixteen blocks.
 pub looked-few : (c : Method) (code held : List ℕ) (base : ℕ) → c .blocks ≤ 16 → length held ≤ 16 → length (looked c code held base) ≤ 16
@@ -123,7 +136,7 @@ capacity-on c e on =
     }
 
 -- The size of a block that 13 does not describe fits the capacity.
-pub size-fits : (c : Method) (code : List ℕ) (base : ℕ) → badBlock c code base ≡ false → sizeAt code base ≤ c .bytes
+size-fits : (c : Method) (code : List ℕ) (base : ℕ) → badBlock c code base ≡ false → sizeAt code base ≤ c .bytes
 unfolding badBlock
 size-fits c code base e =
     let size = sizeAt code base in

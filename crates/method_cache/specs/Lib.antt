@@ -1,4 +1,4 @@
--- Open first: MethodCache.antt, then CacheLaws.antt; Words.antt has the words that the code is lent.
+-- Open first: MethodCache.antt, then CacheLaws.antt and Words.antt.
 pub mod MethodCache
 pub mod CacheLaws
 pub mod Words

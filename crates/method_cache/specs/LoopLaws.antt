@@ -26,7 +26,7 @@ module _ (held : List ℕ) (i j : ℕ) (next : j ≡ i + 1) (more : i < length h
   unfolding bytesHeld
   bytes-step code = ap (bytesHeld code) from-here
 
-  pub good-step : (c : Method) (code : List ℕ) → heldGood c code (drop i held) ≡ (not (badBlock c code here) && not (isHeld here (drop j held))) && heldGood c code (drop j held)
+  good-step : (c : Method) (code : List ℕ) → heldGood c code (drop i held) ≡ (not (badBlock c code here) && not (isHeld here (drop j held))) && heldGood c code (drop j held)
   unfolding heldGood
   good-step c code = ap (heldGood c code) from-here
 

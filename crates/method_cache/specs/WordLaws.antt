@@ -1,5 +1,5 @@
 -- Laws of the words of the blocks held: what they say, that a list of up to sixteen blocks has one form, and the words of a place.
-use Prim.Native.Nat.{ℕ, zero, suc, _+_, _-_, _/_, _<_, _≤_, min, suc-le-suc}
+use Prim.Native.Nat.{ℕ, zero, suc, _+_, _-_, _<_, _≤_, min}
 use mathlib.Core.Bool.{Bool, true, false, cond, _&&_}
 use mathlib.Core.List.{List, [], _∷_, _++_}
 use mathlib.Core.Path.{_≡_, refl, sym, ap, _∙_}
@@ -8,11 +8,11 @@ use native.Mathlib.Numerals.{add-one}
 use native.Mathlib.Decide.{ℕ-discrete}
 use borrow.Author.Tests.{ltb-true, ltb-false, eqb-true, eqb-false}
 use lib.Dec.{eqb, ltb}
-use lib.ListN.{length, getD, take, drop, replicate, set, length-take, length-drop, length-set, length-append, length-replicate, getD-replicate, List·getD-append, List·getD-eq-default}
+use lib.ListN.{length, getD, drop, replicate, set, length-take, length-drop, length-set, length-append, length-replicate, getD-replicate, List·getD-append, List·getD-eq-default}
 use lib.Seq.{take-take, take-append-seam, getD-take, getD-drop, getD-at, ext-getD, getD-append-add, getD-set-same, getD-set-other}
 use Rattle.method_cache.specs.declared.Method.{Method}
 use Rattle.method_cache.specs.MethodCache.{sizeAt, isHeld, roomFor, looked}
-use Rattle.method_cache.specs.Words.{heldIn, heldWords, FixedHeld, keptFrom, wordAt, lookedWords}
+use Rattle.method_cache.specs.Words.{heldIn, heldWords, FixedHeld, keptFrom, placeWord, lookedWords}
 
 -- How many blocks words say there are, and the base of each.
 pub held-length : (w : List ℕ) → length w ≡ 17 → length (heldIn w) ≡ min (getD w 0 0) 16
@@ -68,7 +68,7 @@ module _ (w : List ℕ) (from stay : ℕ) (more : Bool) (base : ℕ) (all : from
   unfolding stays
   stays-length = length-drop from (heldIn w) ∙ omega (arith, all)
 
-  kept-at : (j : ℕ) → wordAt w from stay more base j ≡ getD (keptFrom from more base (heldIn w)) j 0
+  kept-at : (j : ℕ) → placeWord w from stay more base j ≡ getD (keptFrom from more base (heldIn w)) j 0
   unfolding stays
   kept-at j = go (ltb j stay) refl
     where
@@ -88,7 +88,7 @@ module _ (w : List ℕ) (from stay : ℕ) (more : Bool) (base : ℕ) (all : from
       go false e = behind more (eqb j stay) refl (ltb-false j stay e)
 
   -- Words that have these at all places are those of the blocks kept.
-  pub settled : (v : List ℕ) → length v ≡ 17 → getD v 0 0 ≡ stay + cond more 1 0 → ((j : ℕ) → j < 16 → getD v (suc j) 0 ≡ wordAt w from stay more base j)
+  settled : (v : List ℕ) → length v ≡ 17 → getD v 0 0 ≡ stay + cond more 1 0 → ((j : ℕ) → j < 16 → getD v (suc j) 0 ≡ placeWord w from stay more base j)
       → v ≡ heldWords (keptFrom from more base (heldIn w))
   unfolding stays heldWords
   settled v e n h = ext-getD 0 v (heldWords kept) (e ∙ sym (words-length kept)) at
@@ -108,13 +108,13 @@ module _ (w : List ℕ) (from stay : ℕ) (more : Bool) (base : ℕ) (all : from
   pub record Settling (v : List ℕ) (i : ℕ) : Type 0 where
     pub within : i ≤ 16
     pub long : length v ≡ 17
-    pub before : (j : ℕ) → j < i → getD v (suc j) 0 ≡ wordAt w from stay more base j
+    pub before : (j : ℕ) → j < i → getD v (suc j) 0 ≡ placeWord w from stay more base j
     pub behind : (j : ℕ) → i ≤ j → getD v (suc j) 0 ≡ getD w (suc j) 0
 
   pub settling-none : length w ≡ 17 → Settling w 0
   settling-none e = record { within = omega arith; long = e; before = λ j p. absurd (omega arith); behind = λ j p. refl }
 
-  pub settling-more : (v : List ℕ) (i k x : ℕ) → Settling v i → i < 16 → k ≡ i + 1 → x ≡ wordAt v from stay more base i → Settling (set v k x) k
+  pub settling-more : (v : List ℕ) (i k x : ℕ) → Settling v i → i < 16 → k ≡ i + 1 → x ≡ placeWord v from stay more base i → Settling (set v k x) k
   settling-more v i k x h p n e =
       record { within = omega (arith, p, n); long = length-set v k x ∙ h .long; before = done; behind = others }
     where
@@ -122,18 +122,18 @@ module _ (w : List ℕ) (from stay : ℕ) (more : Bool) (base : ℕ) (all : from
       here = n ∙ add-one i
 
       -- What is read behind place i is as it was.
-      same : x ≡ wordAt w from stay more base i
+      same : x ≡ placeWord w from stay more base i
       same = e ∙ ap (λ (y : ℕ). cond (ltb i stay) y (cond (more && eqb i stay) base 0)) (h .behind (from + i) (omega arith))
 
-      done : (j : ℕ) → j < k → getD (set v k x) (suc j) 0 ≡ wordAt w from stay more base j
+      done : (j : ℕ) → j < k → getD (set v k x) (suc j) 0 ≡ placeWord w from stay more base j
       done j q = go (ℕ-discrete j i)
         where
-          go : Dec (j ≡ i) → getD (set v k x) (suc j) 0 ≡ wordAt w from stay more base j
+          go : Dec (j ≡ i) → getD (set v k x) (suc j) 0 ≡ placeWord w from stay more base j
           go (yes r) =
               ap (λ (z : ℕ). getD (set v k x) z 0) (ap suc r ∙ sym here)
               ∙ getD-set-same v k x 0 (omega (arith, h .long, p, n))
               ∙ same
-              ∙ ap (wordAt w from stay more base) (sym r)
+              ∙ ap (placeWord w from stay more base) (sym r)
           go (no r) = getD-set-other v k (suc j) x 0 (λ z. omega (arith, q, n, r, z)) ∙ h .before j (omega (arith, q, n, r))
 
       others : (j : ℕ) → k ≤ j → getD (set v k x) (suc j) 0 ≡ getD w (suc j) 0

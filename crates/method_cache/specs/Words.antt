@@ -25,8 +25,8 @@ FixedHeld w = heldWords (heldIn w) ≡ w
 abbrev pub keptFrom : ℕ → Bool → ℕ → List ℕ → List ℕ
 keptFrom from more base held = drop from held ++ cond more (base ∷ []) []
 
-abbrev pub wordAt : List ℕ → ℕ → ℕ → Bool → ℕ → ℕ → ℕ
-wordAt w from stay more base at = cond (ltb at stay) (getD w (suc (from + at)) 0) (cond (more && eqb at stay) base 0)
+abbrev pub placeWord : List ℕ → ℕ → ℕ → Bool → ℕ → ℕ → ℕ
+placeWord w from stay more base at = cond (ltb at stay) (getD w (suc (from + at)) 0) (cond (more && eqb at stay) base 0)
 
 -- The words after a lookup, which are the same where the block is held, and after a sequence of them; and what one counts.
 unfoldable pub lookedWords : Method → List ℕ → List ℕ → ℕ → List ℕ
@@ -36,5 +36,5 @@ unfoldable pub wordsAfter : Method → List ℕ → List ℕ → List ℕ → Li
 wordsAfter c code w [] = w
 wordsAfter c code w (b ∷ bs) = wordsAfter c code (lookedWords c code w b) bs
 
-unfoldable pub countedBy : List ℕ → List ℕ → ℕ → Looked
-countedBy code held base = record { misses = cond (isHeld base held) 0 1; fetched = cond (isHeld base held) 0 (sizeAt code base / 4) }
+unfoldable pub lookedCount : List ℕ → List ℕ → ℕ → Looked
+lookedCount code held base = record { misses = cond (isHeld base held) 0 1; fetched = cond (isHeld base held) 0 (sizeAt code base / 4) }

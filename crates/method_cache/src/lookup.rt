@@ -3,7 +3,7 @@ ghost use mathlib.Core.Path.{_≡_};
 ghost use Prim.Native.Nat.{_≤_};
 ghost use lib.ListN.{length, drop};
 ghost use Rattle.method_cache.specs.MethodCache.{sizeAt, badBase, badSize, badBlock, isHeld, bytesHeld, roomFor, heldGood, heldOk};
-ghost use Rattle.method_cache.specs.Words.{heldIn, lookedWords, countedBy};
+ghost use Rattle.method_cache.specs.Words.{heldIn, lookedWords, lookedCount};
 use crate::Looked;
 use crate::Method;
 use crate::words::held_base;
@@ -88,7 +88,7 @@ fn evicted(method: Method, code: &[u8], held: &[u32; 17], size: u32) -> u32
     k
 }
 
-// Whether no block held from a place on is one that 13 describes, or held again behind it.
+// Whether no block held is one that 13 describes, or held again behind it.
 fn all_good(method: Method, code: &[u8], held: &[u32; 17]) -> bool
     ensures { λ r. ⌜ r ≡ heldGood method (now (code .entry)) (heldIn (now (held .entry))) ⌝ }
 {
@@ -118,7 +118,7 @@ pub fn held_ok(method: Method, code: &[u8], held: &[u32; 17]) -> bool
 
 // A block looked up by its base: where it is not held, the oldest go until there is room, and it becomes the youngest.
 pub fn look_up(method: Method, code: &[u8], held: &mut [u32; 17], base: u32) -> Looked
-    ensures { λ r. ⌜ (now (held .exit) ≡ lookedWords method (now (code .entry)) (now (held .entry)) base) × (r ≡ countedBy (now (code .entry)) (heldIn (now (held .entry))) base) × (length (now (held .entry)) ≡ 17) ⌝ }
+    ensures { λ r. ⌜ (now (held .exit) ≡ lookedWords method (now (code .entry)) (now (held .entry)) base) × (r ≡ lookedCount (now (code .entry)) (heldIn (now (held .entry))) base) × (length (now (held .entry)) ≡ 17) ⌝ }
 {
     if is_held(&*held, 0, base) {
         return Looked {

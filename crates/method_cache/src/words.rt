@@ -2,7 +2,7 @@
 ghost use mathlib.Core.Path.{_≡_};
 ghost use Prim.Native.Nat.{_≤_, _+_};
 ghost use lib.ListN.{length, getD};
-ghost use Rattle.method_cache.specs.Words.{heldIn, heldWords, keptFrom, wordAt};
+ghost use Rattle.method_cache.specs.Words.{heldIn, heldWords, keptFrom, placeWord};
 
 // That an array has the length of its type, which is known of one by value, and not of one that is lent.
 fn seventeen(held: [u32; 17])
@@ -35,7 +35,7 @@ pub(crate) fn held_base(held: &[u32; 17], at: u32) -> u32
 // The word of a place in what is to be held: of blocks that stay, of one that follows them, and behind it 0.
 fn word_at(held: &[u32; 17], at: u32, from: u32, stay: u32, more: bool, base: u32) -> u32
     requires { ⌜ from + stay ≤ 16 ⌝ }
-    ensures { λ r. ⌜ r ≡ wordAt (now (held .entry)) from stay more base at ⌝ }
+    ensures { λ r. ⌜ r ≡ placeWord (now (held .entry)) from stay more base at ⌝ }
 {
     if at < stay {
         return held[(from + at) as usize + 1];

@@ -44,7 +44,8 @@ fn at_end(a: Answer, ended: bool) -> RunAnswer
     }
 }
 
-// A run from a state. Inside it the registers and predicates are lent to each bundle. That the state has 32 registers and 8 predicates,
+// A run from a state. Inside it the registers, the predicates, the blocks held and the counts are lent to each
+// bundle. That the state has 32 registers and 8 predicates,
 // as its type says, is what even pace asks of it.
 pub fn run(
     start: State,

@@ -13,8 +13,8 @@ use Rattle.bundle_model.specs.declared.Readiness.{Readiness}
 use Rattle.bundle_model.specs.declared.Readiness.the-variants.{Ready, Ended, Refused}
 use Rattle.bundle_model.specs.Lookup.{lookups}
 use Rattle.bundle_model.specs.Counts.{noCounts}
-use Rattle.bundle_model.specs.Bundle.{Outcome, outcome, counted, buffersAfter, readiness, readyOr, step}
-use Rattle.step_laws.specs.StepCases.{effectAt, stateAfter, doneOutcome, isDone, step-cases}
+use Rattle.bundle_model.specs.Bundle.{Outcome, outcome, counted, readiness, readyOr, step}
+use Rattle.step_laws.specs.StepCases.{effectAt, doneOutcome, isDone, step-cases}
 use Rattle.run_model.specs.Run.{ifDone, run, basesLooked}
 
 -- The figures of an outcome, and the blocks held then, are those of a sequence of bases looked up from these blocks on.

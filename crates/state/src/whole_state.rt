@@ -20,7 +20,7 @@ use products::words::products_in;
 use settings::Config;
 
 impl State {
-    // The state beside registers and predicates.
+    // The state beside registers, predicates and blocks held.
     pub fn core(self) -> Core
         ensures { λ x. ⌜ x ≡ coreOf self ⌝ }
     {

@@ -110,7 +110,7 @@ module _ (g : Settings) (x : Setup) (s : State) (h : g .words ≤ 512) where
   moved-few (effect.Transfer d t) p = (omega arith, omega arith)
   moved-few effect.Exception p = (omega arith, omega arith)
 
-  pub effect-few : (e : Effect) → capacityOk (x .method) ≡ true → Passed g x s e → Found x e → Few 1 (countsOf g x s e)
+  effect-few : (e : Effect) → capacityOk (x .method) ≡ true → Passed g x s e → Found x e → Few 1 (countsOf g x s e)
   effect-few e ok p f =
       record {
         bundles = omega arith;
@@ -128,7 +128,7 @@ bundle-few g x s b h m =
     (λ j. effect-few g x s (words-small g h) (effectAt x s) (sym (ap capacityOk m) ∙ capacity-ok g h) (fine-effect g x s j (effectAt x s) refl) (fine-lookups g x s j))
 
 -- So are those of a slot one that no test refuses.
-pub slot-few : (g : Settings) (x : Setup) (s : State) (e : Effect) → admits g ≡ true → g .method ≡ x .method → verdictOf (slotTests g x s e) ≡ verdict.Fine → Few 1 (countsOf g x s e)
+slot-few : (g : Settings) (x : Setup) (s : State) (e : Effect) → admits g ≡ true → g .method ≡ x .method → verdictOf (slotTests g x s e) ≡ verdict.Fine → Few 1 (countsOf g x s e)
 unfolding slotTests
 slot-few g x s e h m f =
     let both = fine-both (effectTests g x s e) (lookupTests (x .method) (x .code) (lookups x e)) f in

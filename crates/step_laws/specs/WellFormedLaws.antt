@@ -110,7 +110,7 @@ written-load g b s one two following =
     let t = writeOne-load g b s one (arrived (landed s)) (arrived-cases (λ x. x .load ≡ load.Nothing) (landed s) (λ x. landed-load s)) in
     onward-cases (λ x. x .load ≡ loadBegun b one) following _ one (s .transfer) (λ srb sro fetch base w q. writeAlu-cases (λ x. x .load ≡ loadBegun b one) two _ (λ rs ps. t))
 
--- A load that lands leaves the products under way.
+-- A load that lands leaves the products under way and the blocks held.
 landed-further : (s : State) → landed s .further ≡ s .further
 unfolding landed withRegister
 landed-further s = go (s .load)

@@ -1,4 +1,4 @@
-use mathlib.Core.Path.{_≡_, refl, sym, ap, _∙_}
+use mathlib.Core.Path.{refl, sym, ap, _∙_}
 use Rattle.method_cache.specs.Words.{heldIn}
 use Rattle.settings.specs.declared.Settings.{Settings}
 use Rattle.settings.specs.Setup.{buffers, lent, setup, setupOf}

@@ -1,4 +1,4 @@
-use mathlib.Core.Path.{_≡_, refl, sym, ap, subst}
+use mathlib.Core.Path.{refl, sym, ap, subst}
 use mathlib.Core.List.{[]}
 use Rattle.settings.specs.Setup.{setupOf}
 use Rattle.core_state.specs.Core.{joined, Canonical}

@@ -1,6 +1,6 @@
-use Prim.Native.Nat.{_<_, _^_, _≤_}
-use mathlib.Core.List.{List, _∷_}
-use mathlib.Core.Path.{subst, _≡_, refl, sym, ap, _∙_}
+use Prim.Native.Nat.{_<_, _^_}
+use mathlib.Core.List.{_∷_}
+use mathlib.Core.Path.{sym, _∙_}
 use mathlib.Core.Bool.{not}
 use Rattle.answers.specs.Test.{test, verdict}
 use Rattle.bundle_model.specs.Lookup.{basesOf, lookupTests}
@@ -16,8 +16,6 @@ use Rattle.method_cache.specs.Words.{heldIn}
 use Rattle.settings.specs.SettingsLaws.{capacity-ok}
 use Rattle.settings.specs.Setup.{setupOf}
 use Rattle.effects.specs.declared.Effect.the-variants as effect
-use Rattle.bundle_model.specs.Execute.{Tallied}
-use Rattle.bundle_model.specs.declared.Carried.{Carried}
 use Rattle.bundle_writes.specs.Transfers.{transfer-carried, transfer-tallied}
 use Rattle.bundle.proofs.transfers.do_transfer.Statement.{statement}
 use Rattle.bundle.proofs.transfers.do_transfer.Tie as tie

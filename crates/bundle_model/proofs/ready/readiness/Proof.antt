@@ -1,13 +1,9 @@
-use mathlib.Core.Bool.{true, false}
-use mathlib.Core.Path.{_≡_, refl, sym, _∙_}
+use mathlib.Core.Path.{refl}
 use Rattle.method_cache.specs.Words.{heldIn}
-use Rattle.method_cache.specs.MethodCache.{heldOk}
 use Rattle.settings.specs.Setup.{setupOf}
 use Rattle.settings.specs.Settings.{admits}
-use Rattle.core_state.specs.State.{partsOk, ended}
 use Rattle.core_state.specs.Core.{joined}
 use Rattle.bundle_model.specs.BundleLaws.{ready-as}
-use borrow.Author.Needs.{needs}
 use Rattle.bundle_model.proofs.ready.readiness.Statement.{statement}
 use Rattle.bundle_model.proofs.ready.readiness.Tie as tie
 

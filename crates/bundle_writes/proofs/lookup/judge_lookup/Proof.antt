@@ -1,8 +1,7 @@
-use mathlib.Core.Path.{_≡_, sym, ap, _∙_}
+use mathlib.Core.Path.{sym, ap, _∙_}
 use mathlib.Core.Bool.{Bool, cond}
 use Rattle.answers.specs.declared.Verdict.the-variants.{Fine, Refused}
 use Rattle.bundle_writes.specs.Lookup.{bases-none, bases-one, judged-none, judged-one}
-use borrow.Author.Needs.{needs}
 use Rattle.bundle_writes.proofs.lookup.judge_lookup.Statement.{statement}
 use Rattle.bundle_writes.proofs.lookup.judge_lookup.Tie as tie
 

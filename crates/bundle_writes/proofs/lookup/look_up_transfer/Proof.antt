@@ -1,6 +1,4 @@
-use mathlib.Core.Path.{_≡_, refl, sym, _∙_}
 use Rattle.bundle_writes.specs.Lookup.{looked-none, looked-one, bases-none, bases-one}
-use borrow.Author.Needs.{needs}
 use Rattle.bundle_writes.proofs.lookup.look_up_transfer.Statement.{statement}
 use Rattle.bundle_writes.proofs.lookup.look_up_transfer.Tie as tie
 

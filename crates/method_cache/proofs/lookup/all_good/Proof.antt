@@ -1,9 +1,7 @@
 use mathlib.Core.Path.{_≡_, refl, sym, ap, _∙_}
-use mathlib.Core.Bool.{Bool, true, false, not, _&&_, _||_}
 use native.Mathlib.Omega.{arith}
-use Prim.Native.Nat.{ℕ, _+_, _-_}
+use Prim.Native.Nat.{_+_, _-_}
 use lib.ListN.{drop}
-use borrow.Author.Needs.{needs}
 use Rattle.method_cache.specs.MethodCache.{heldGood}
 use Rattle.method_cache.specs.Words.{heldIn}
 use Rattle.method_cache.specs.LoopLaws.{good-bad, good-next, past-end}

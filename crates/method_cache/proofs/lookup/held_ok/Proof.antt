@@ -1,7 +1,3 @@
-use mathlib.Core.Path.{_≡_, refl, sym, ap, _∙_}
-use mathlib.Core.Bool.{Bool, cond}
-use Rattle.method_cache.specs.MethodCache.{heldOk, heldFits}
-use Rattle.method_cache.specs.Words.{heldIn}
 use Rattle.method_cache.specs.LoopLaws.{ok-off, ok-on}
 use borrow.Author.Needs.{needs}
 use Rattle.method_cache.proofs.lookup.held_ok.Statement.{statement}

@@ -1,10 +1,8 @@
 use mathlib.Core.Path.{_≡_, refl, sym, ap, _∙_}
-use mathlib.Core.Bool.{false}
 use native.Mathlib.Omega.{arith}
 use Prim.Native.Nat.{_-_}
 use lib.ListN.{drop}
 use borrow.Author.Tests.{eq-eqb, ne-eqb}
-use borrow.Author.Needs.{needs}
 use Rattle.method_cache.specs.MethodCache.{isHeld}
 use Rattle.method_cache.specs.Words.{heldIn}
 use Rattle.method_cache.specs.LoopLaws.{held-step, past-end}

@@ -1,7 +1,6 @@
-use mathlib.Core.Path.{_≡_, refl, sym, ap, _∙_}
-use mathlib.Core.List.{List}
+use mathlib.Core.Path.{refl, sym, _∙_}
 use Rattle.method_cache.specs.MethodCache.{looked}
-use Rattle.method_cache.specs.Words.{heldIn, heldWords, lookedWords, countedBy}
+use Rattle.method_cache.specs.Words.{lookedWords, lookedCount}
 use borrow.Author.Needs.{needs}
 use Rattle.method_cache.proofs.lookup.look_up.Statement.{statement}
 use Rattle.method_cache.proofs.lookup.look_up.Tie as tie
@@ -10,7 +9,7 @@ is-held-requires : tie.Need-is-held-requires
 is-held-requires c κs = search needs
 
 returns : tie.Need-returns
-unfolding lookedWords countedBy
+unfolding lookedWords lookedCount
 returns c = let e = sym (c .before .is-held .ensures .0) ∙ c .if1 .taken in (rw e refl, rw e refl, c .before .is-held .ensures .1)
 
 size-at-requires : tie.Need-size-at-requires
@@ -23,7 +22,7 @@ settle-requires : tie.Need-settle-requires
 settle-requires c κs = c .before .evicted .ensures .1
 
 returns-2 : tie.Need-returns-2
-unfolding lookedWords countedBy looked
+unfolding lookedWords lookedCount looked
 returns-2 c =
     let e = sym (c .before .before .before .before .before .before .is-held .ensures .0) ∙ c .before .before .before .before .before .if1 .left in
     let s = c .before .before .before .before .size-at .ensures in

@@ -1,6 +1,5 @@
-use mathlib.Core.Path.{refl}
 use native.Mathlib.Omega.{arith}
-use Prim.Native.Nat.{ℕ, _-_}
+use Prim.Native.Nat.{_-_}
 use mathlib.Core.Path.{_≡_, ap, _∙_}
 use Rattle.big_endian.specs.Bytes.{wordAt}
 use Rattle.method_cache.specs.MethodCache.{sizeAt}

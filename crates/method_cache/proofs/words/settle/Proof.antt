@@ -1,8 +1,7 @@
-use mathlib.Core.Path.{_≡_, refl, sym, ap, _∙_}
+use mathlib.Core.Path.{_≡_, refl, sym}
 use native.Mathlib.Omega.{arith}
 use native.Mathlib.Nat.{add-zero}
 use Prim.Native.Nat.{_+_, _-_}
-use mathlib.Core.Bool.{cond}
 use lib.ListN.{length}
 use borrow.Author.Needs.{needs}
 use Rattle.method_cache.specs.Words.{heldIn}

@@ -1,6 +1,5 @@
 use mathlib.Core.Path.{refl}
 use Rattle.state.specs.Whole.{stateOf}
-use borrow.Author.Needs.{needs}
 use Rattle.state.proofs.State.join.Statement.{statement}
 use Rattle.state.proofs.State.join.Tie as tie
 

@@ -1,12 +1,9 @@
-use mathlib.Core.Path.{_≡_, sym, ap, subst, _∙_}
-use mathlib.Core.List.{List}
-use Prim.Native.Nat.{ℕ}
+use mathlib.Core.Path.{sym, ap, subst, _∙_}
 use Rattle.method_cache.specs.Words.{heldIn, FixedHeld}
 use Rattle.settings.specs.Setup.{setup, buffers}
 use Rattle.core_state.specs.declared.Core.{Core}
 use Rattle.core_state.specs.State.{State, withHeld}
 use Rattle.core_state.specs.Core.{joined}
-use Rattle.bundle_model.specs.Bundle.{Stepped, full}
 use Rattle.run_model.specs.Loop.{advanced}
 use Rattle.run_model.specs.LoopLaws.{step-advanced}
 use Rattle.state.specs.Whole.{stateOf, tidied}

@@ -1,5 +1,4 @@
 use mathlib.Core.Path.{refl}
-use borrow.Author.Needs.{needs}
 use Rattle.state.proofs.open.refused.Statement.{statement}
 use Rattle.state.proofs.open.refused.Tie as tie
 
