@@ -14,7 +14,7 @@ use Rattle.core_state.specs.declared.WaitingLoad.{WaitingLoad}
 use Rattle.core_state.specs.declared.WaitingLoad.the-variants.{Nothing, Waits}
 use Rattle.marking.specs.declared.Marking.{Marking}
 use Rattle.marking.specs.Marking.{privateRegister, privatePredicate, publicRegister, publicPredicate, some}
-use Rattle.even_pace.specs.Terms.{Same, SameSpecials, SameProducts, SameFurther, SameState}
+use Rattle.even_pace.specs.Terms.{Same, SameSpecials, SameProducts, SameHeld, SameFurther, SameState}
 use Rattle.even_pace.specs.SameLaws.{same-refl, same-sym, same-trans, same-write}
 
 -- It is an equivalence.
@@ -180,7 +180,7 @@ module _ {m : Marking} {s₁ s₂ : State} (a : SameState m s₁ s₂) where
         further = record { products = h; held = a .further .held };
       }
 
-  pub with-held : (h₁ h₂ : List ℕ) → h₁ ≡ h₂ → SameState m (withHeld s₁ h₁) (withHeld s₂ h₂)
+  pub with-held : (h₁ h₂ : List ℕ) → SameHeld h₁ h₂ → SameState m (withHeld s₁ h₁) (withHeld s₂ h₂)
   with-held h₁ h₂ h =
       record {
         registers = a .registers;

@@ -67,10 +67,13 @@ shown sl sh (products.Two p q) = products.Two (shownProduct sl sh p) (shownProdu
 abbrev pub SameProducts : Marking → Products → Products → Type 0
 SameProducts m p₁ p₂ = privateProducts m ≡ false → shown (m .sl) (m .sh) p₁ ≡ shown (m .sl) (m .sh) p₂
 
--- The blocks held are public always, and so is their order.
+-- Public contents: the blocks held, always, and in their order.
+abbrev pub SameHeld : List ℕ → List ℕ → Type 0
+SameHeld h₁ h₂ = h₁ ≡ h₂
+
 pub record SameFurther (m : Marking) (f₁ f₂ : Further) : Type 0 where
   pub products : SameProducts m (f₁ .products) (f₂ .products)
-  pub held : f₁ .held ≡ f₂ .held
+  pub held : SameHeld (f₁ .held) (f₂ .held)
 
 -- Public contents: the state. A waiting load counts if its register is public and not r0: then both runs have it, with one value. All
 -- others are left out of the comparison, also where one run has none.
