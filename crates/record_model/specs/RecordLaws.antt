@@ -1,0 +1,100 @@
+-- Laws of the record. A well-formed box's record is accepted and read as that box; what is read of an accepted record is written as its bytes,
+-- so that different accepted records are different boxes; and how long records are. That equal boxes have equal bytes is that `recordOf` is
+-- a function of the box.
+use Prim.Native.Nat.{ℕ, _*_, _%_, _<_, _≤_}
+use mathlib.Core.Bool.{Bool, true, false, cond, _&&_}
+use mathlib.Core.List.{List}
+use mathlib.Core.Path.{_≡_, refl, sym, ap, subst, _∙_}
+use native.Mathlib.Omega.{arith}
+use borrow.Author.Tests.{eqb-true, leb-true, eq-eqb}
+use lib.Dec.{eqb, leb}
+use lib.ListN.{length, getD}
+use Rattle.word.specs.BoolLaws.{and-left, and-right}
+use Rattle.sections.specs.Words.{bytesOf, wordsIn}
+use Rattle.sections.specs.WordLaws.{bytes-length, words-again, bytes-again, are-words}
+use Rattle.method_cache.specs.declared.Method.{Method}
+use Rattle.method_cache.specs.MethodCache.{capacityOk, bytesHeld, heldGood, heldOk}
+use Rattle.method_cache.specs.CacheLaws.{capacity-on}
+use Rattle.settings.specs.Setup.{Setup}
+use Rattle.products.specs.Products.{productsOk}
+use Rattle.core_state.specs.State.{State, Shaped, partsOk, loadOk, waitOk}
+use Rattle.bundle_model.specs.Bundle.{wellFormed}
+use Rattle.record_model.specs.Record.{Stopped, recordWords, recordOf, stoppedIn, isRecord, readRecord, accepts, longest, shortest, InWords}
+use Rattle.record_model.specs.PartLaws.{transfer-few, load-few, products-few}
+use Rattle.record_model.specs.FormLaws.{Form, Formed, form-is, is-form, read-again, written-form, written-again, words-many}
+
+-- The lengths of the shortest and the longest record.
+module _ (p : Stopped) (registers : length (p .state .registers) ≡ 32) where
+  pub record-short : shortest (length (p .cache)) ≤ length (recordOf p)
+  unfolding recordOf
+  record-short = omega (arith, words-many p registers, bytes-length (recordWords p))
+
+  pub record-long : length (p .state .further .held) ≤ 16 → length (recordOf p) ≤ longest (length (p .cache))
+  unfolding recordOf
+  record-long few =
+      let s = p .state in
+      omega (arith, words-many p registers, bytes-length (recordWords p), few, transfer-few (s .transfer), load-few (s .load), products-few (s .further .products))
+
+-- Of a well-formed state no more blocks are held than a record has room for.
+held-few : (c : Method) (code held : List ℕ) → capacityOk c ≡ true → heldOk c code held ≡ true → length held ≤ 16
+unfolding heldOk
+held-few c code held ok h = go (c .on) refl h
+  where
+    go : (t : Bool) → c .on ≡ t → cond t (heldGood c code held && (leb (length held) (c .blocks) && leb (bytesHeld code held) (c .bytes))) (eqb (length held) 0) ≡ true → length held ≤ 16
+    go true e f =
+        let fits = and-right (heldGood c code held) (leb (length held) (c .blocks) && leb (bytesHeld code held) (c .bytes)) f in
+        omega (arith, leb-true (length held) (c .blocks) (and-left (leb (length held) (c .blocks)) (leb (bytesHeld code held) (c .bytes)) fits), capacity-on c ok e)
+    go false e f = omega (arith, eqb-true (length held) 0 f)
+
+module _ (x : Setup) (s : State) (capacity : capacityOk (x .method) ≡ true) (well : wellFormed x s ≡ true) where
+  pub well-few : length (s .further .held) ≤ 16
+  unfolding wellFormed
+  well-few = held-few (x .method) (x .code) (s .further .held) capacity (and-right (partsOk s) (heldOk (x .method) (x .code) (s .further .held)) well)
+
+  well-products : productsOk (s .further .products) ≡ true
+  unfolding wellFormed partsOk
+  well-products =
+      let parts = and-left (partsOk s) (heldOk (x .method) (x .code) (s .further .held)) well in
+      let rest = and-right (eqb (getD (s .registers) 0 0) 0 && getD (s .predicates) 0 false) ((loadOk (s .load) && waitOk (s .transfer)) && productsOk (s .further .products)) parts in
+      and-right (loadOk (s .load) && waitOk (s .transfer)) (productsOk (s .further .products)) rest
+
+-- A well-formed box, whose numbers are words, is what its record is read as; and the record is accepted.
+module _ (x : Setup) (p : Stopped) (words : InWords p) (shaped : Shaped (p .state)) (capacity : capacityOk (x .method) ≡ true) (well : wellFormed x (p .state) ≡ true) where
+  formed : Formed p
+  formed = record { shaped = shaped; products = well-products x (p .state) capacity well; held = well-few x (p .state) capacity well }
+
+  pub record-read : readRecord (recordOf p) ≡ p
+  unfolding recordOf
+  record-read = ap stoppedIn (words-again (recordWords p) words) ∙ read-again p formed
+
+  pub record-accepted : accepts x (length (p .cache)) (recordOf p) ≡ true
+  unfolding accepts recordOf
+  record-accepted =
+      let n : length (bytesOf (recordWords p)) % 4 ≡ 0 = omega (arith, bytes-length (recordWords p)) in
+      let form = ap (isRecord (length (p .cache))) (words-again (recordWords p) words) ∙ form-is (length (p .cache)) (recordWords p) (written-form p formed) in
+      rw (n, form) (ap (λ (q : Stopped). wellFormed x (q .state)) record-read ∙ well)
+
+-- What an accepted record is read as is written as its bytes.
+module _ (x : Setup) (w : ℕ) (bytes : List ℕ) (are : (i : ℕ) → getD bytes i 0 < 256) (accepted : accepts x w bytes ≡ true) where
+  accepted-form : Form w (wordsIn bytes)
+  unfolding accepts
+  accepted-form =
+      let form = and-left (eqb (length bytes % 4) 0 && isRecord w (wordsIn bytes)) (wellFormed x (readRecord bytes .state)) accepted in
+      is-form w (wordsIn bytes) (and-right (eqb (length bytes % 4) 0) (isRecord w (wordsIn bytes)) form)
+
+  pub record-written : recordOf (readRecord bytes) ≡ bytes
+  unfolding recordOf accepts
+  record-written =
+      let form = and-left (eqb (length bytes % 4) 0 && isRecord w (wordsIn bytes)) (wellFormed x (readRecord bytes .state)) accepted in
+      let n = eqb-true (length bytes % 4) 0 (and-left (eqb (length bytes % 4) 0) (isRecord w (wordsIn bytes)) form) in
+      ap bytesOf (written-again w (wordsIn bytes) (are-words bytes are) accepted-form) ∙ bytes-again bytes are n
+
+  -- Its state is well formed, has the form of its type, and W cache words.
+  pub accepted-well : wellFormed x (readRecord bytes .state) ≡ true
+  unfolding accepts
+  accepted-well = and-right (eqb (length bytes % 4) 0 && isRecord w (wordsIn bytes)) (wellFormed x (readRecord bytes .state)) accepted
+
+-- Two accepted records that are read as the same box are the same.
+pub records-same : (x : Setup) (w : ℕ) (l m : List ℕ) → ((i : ℕ) → getD l i 0 < 256) → ((i : ℕ) → getD m i 0 < 256) → accepts x w l ≡ true → accepts x w m ≡ true
+    → readRecord l ≡ readRecord m → l ≡ m
+records-same x w l m a b f g e = sym (record-written x w l a f) ∙ ap recordOf e ∙ record-written x w m b g

@@ -1,0 +1,96 @@
+-- A run continued from the record of a stopped one, over the same memories, goes on as if it had never stopped, its own counts from 0.
+use Prim.Native.Nat.{ℕ, _+_, _≤_}
+use mathlib.Core.Bool.{Bool, true, not, cond, _||_}
+use mathlib.Core.List.{List}
+use mathlib.Core.Path.{_≡_, refl, sym, ap, subst, _∙_}
+use borrow.Author.Tests.{le-ltb}
+use lib.Dec.{ltb}
+use lib.ListN.{length}
+use Rattle.answers.specs.Answer.{Returned, accepted, done, ended, spent, refused}
+use Rattle.settings.specs.Setup.{Setup, Buffers, buffers, settings, lent}
+use Rattle.settings.specs.Settings.{admits}
+use Rattle.settings.specs.SettingsLaws.{capacity-ok}
+use Rattle.sections.specs.Words.{over}
+use Rattle.core_state.specs.State.{State, Shaped}
+use Rattle.bundle_model.specs.declared.Counts.{Counts}
+use Rattle.bundle_model.specs.declared.Readiness.{Readiness}
+use Rattle.bundle_model.specs.declared.Readiness.the-variants.{Ready, Ended, Refused}
+use Rattle.bundle_model.specs.Counts.{plus}
+use Rattle.bundle_model.specs.Bundle.{Outcome, counted, wellFormed, readiness, readyOr}
+use Rattle.bundle_model.specs.BundleLaws.{ready-admits, ready-well-formed}
+use Rattle.step_laws.specs.StackKept.{SameLengths, lent-same}
+use Rattle.run_model.specs.Run.{run}
+use Rattle.run_model.specs.RunLaws.{run-shaped, run-well-formed}
+use Rattle.run_model.specs.SplitLaws.{ifSpent, continued, run-split, run-lengths}
+use Rattle.run_model.specs.Loop.{goesOn, ending}
+use Rattle.run_model.specs.LoopLaws.{run-advanced}
+use Rattle.record_model.specs.Record.{Stopped, stopped, recordOf, readRecord, accepts, longest, InWords}
+use Rattle.record_model.specs.RecordLaws.{record-read, record-accepted}
+use Rattle.resume_model.specs.Resume.{Resumed, boxOf, handedOut, fromRecord, resumed}
+
+-- What goes on from the record of a box goes on from the box.
+pub from-box : (go : State → Buffers → Outcome) (x : Setup) (p : Stopped) (main local out : List ℕ) → InWords p → Shaped (p .state) → wellFormed x (p .state) ≡ true
+    → admits (settings x (length main) (length local) (length (p .cache))) ≡ true → longest (length (p .cache)) ≤ length out
+    → fromRecord go x (length (p .cache)) (recordOf p) main local out ≡ handedOut (go (p .state) (buffers main local (p .cache))) out
+unfolding fromRecord
+from-box go x p main local out words shaped well admitted room =
+    let g = settings x (length main) (length local) (length (p .cache)) in
+    let capacity = capacity-ok g admitted in
+    rw (admitted, le-ltb (length out) (longest (length (p .cache))) room, record-accepted x p words shaped capacity well)
+    (ap (λ (q : Stopped). handedOut (go (q .state) (buffers main local (q .cache))) out) (record-read x p words shaped capacity well))
+
+-- From the record of a run, whatever it answered, a run with a budget does what it does from the state and buffers that the first one left.
+module _ (x : Setup) (m n : ℕ) (s : State) (b : Buffers) (out : List ℕ) (shaped : Shaped s) (words : InWords (boxOf (run x m s b))) (room : longest (length (b .cache)) ≤ length out) where
+  abbrev first : Outcome
+  first = run x m s b
+
+  abbrev again : Resumed
+  again = resumed x n (length (b .cache)) (recordOf (boxOf (run x m s b))) (run x m s b .buffers .main) (run x m s b .buffers .local) out
+
+  pub resume-goes-on : admits (lent x b) ≡ true → wellFormed x s ≡ true → again ≡ handedOut (run x n (first .state) (first .buffers)) out
+  resume-goes-on admitted well =
+      let kept = run-lengths x m s b in
+      let w : length (first .buffers .cache) ≡ length (b .cache) = kept .cache in
+      let same = ap admits (lent-same x b (first .buffers) kept) ∙ admitted in
+      let fits : longest (length (first .buffers .cache)) ≤ length out = subst (λ (k : ℕ). longest k ≤ length out) (sym w) room in
+      ap (λ (k : ℕ). resumed x n k (recordOf (boxOf first)) (first .buffers .main) (first .buffers .local) out) (sym w)
+      ∙ from-box (run x n) x (boxOf first) (first .buffers .main) (first .buffers .local) out words (run-shaped x m s b shaped) (run-well-formed x m s b well) same fits
+
+-- A run that is spent went past 1 and 11.
+spent-ready : (x : Setup) (m : ℕ) (s : State) (b : Buffers) → run x m s b .answer ≡ spent → readiness (lent x b) x s ≡ Ready
+spent-ready x m s b e = go (readiness (lent x b) x s) refl (sym (ap (λ (o : Outcome). o .answer) (run-advanced x s b m)) ∙ e)
+  where
+    go : (r : Readiness) → readiness (lent x b) x s ≡ r → ending x (readyOr r s b (goesOn x m s b)) .answer ≡ spent → readiness (lent x b) x s ≡ Ready
+    go Ready f h = f
+    go Ended f h = cc
+    go (Refused k) f h = cc
+
+-- A stopped box carried on: what comes of it is what the run would have given, had it not stopped; the counts of both parts are its counts.
+pub record CarriedOn (whole : Outcome) (before : Counts) (out : List ℕ) (r : Resumed) : Type 0 where
+  pub answer : r .answer ≡ whole .answer
+  pub main : r .main ≡ whole .buffers .main
+  pub local : r .local ≡ whole .buffers .local
+  pub counts : plus before (r .counts) ≡ whole .counts
+  pub record-out : r .out ≡ over out (recordOf (stopped (whole .state) (whole .buffers .cache) (r .counts)))
+
+-- For every state and every setting: that the first run was spent says all that is needed of them but that the state has 32 registers and
+-- 8 predicates and its numbers are words, as those of the type have.
+pub never-stopped : (x : Setup) (m n : ℕ) (s : State) (b : Buffers) (out : List ℕ) → Shaped s → InWords (boxOf (run x m s b)) → longest (length (b .cache)) ≤ length out
+    → run x m s b .answer ≡ spent
+    → CarriedOn (run x (m + n) s b) (run x m s b .counts) out (resumed x n (length (b .cache)) (recordOf (boxOf (run x m s b))) (run x m s b .buffers .main) (run x m s b .buffers .local) out)
+never-stopped x m n s b out shaped words room e =
+    let o = run x m s b in
+    let ready = spent-ready x m s b e in
+    let next = resume-goes-on x m n s b out shaped words room (ready-admits (lent x b) x s ready) (ready-well-formed (lent x b) x s ready) in
+    let rest = run x n (o .state) (o .buffers) in
+    let split : run x (m + n) s b ≡ counted (o .counts) rest = run-split x m n s b ∙ ap (λ (a : Returned). ifSpent a (counted (o .counts) rest) o) e in
+    let whole = run x (m + n) s b in
+    record {
+      answer = ap (λ (r : Resumed). r .answer) next ∙ sym (ap (λ (y : Outcome). y .answer) split);
+      main = ap (λ (r : Resumed). r .main) next ∙ sym (ap (λ (y : Outcome). y .buffers .main) split);
+      local = ap (λ (r : Resumed). r .local) next ∙ sym (ap (λ (y : Outcome). y .buffers .local) split);
+      counts = ap (λ (r : Resumed). plus (o .counts) (r .counts)) next ∙ sym (ap (λ (y : Outcome). y .counts) split);
+      record-out =
+          ap (λ (r : Resumed). r .out) next
+          ∙ (λ i. over out (recordOf (stopped (sym (ap (λ (y : Outcome). y .state) split) i) (sym (ap (λ (y : Outcome). y .buffers .cache) split) i) (sym (ap (λ (r : Resumed). r .counts) next) i))));
+    }
