@@ -154,14 +154,18 @@ freeCounts l =
 unfoldable pub isRecord : ℕ → List ℕ → Bool
 isRecord w l = isCut 10 l && ((fixedCounts w l && ltb (getD (sectionAt 2 l) 0 0) 256) && freeCounts l)
 
+-- Bytes of that form: whole words.
+unfoldable pub hasForm : ℕ → List ℕ → Bool
+hasForm w bytes = eqb (length bytes % 4) 0 && isRecord w (wordsIn bytes)
+
 -- The box of a record.
 abbrev pub readRecord : List ℕ → Stopped
 readRecord bytes = stoppedIn (wordsIn bytes)
 
--- Bytes that are taken for a record of W cache words, over this code and these settings: whole words of that form, and a state that 11 does
+-- Bytes that are taken for a record of W cache words, over this code and these settings: they have the form, and hold a state that 11 does
 -- not describe. Other bytes are refused with 14.
 unfoldable pub accepts : Setup → ℕ → List ℕ → Bool
-accepts x w bytes = (eqb (length bytes % 4) 0 && isRecord w (wordsIn bytes)) && wellFormed x (readRecord bytes .state)
+accepts x w bytes = hasForm w bytes && wellFormed x (readRecord bytes .state)
 
 -- The lengths of the longest and the shortest record with W cache words, in bytes.
 abbrev pub longest : ℕ → ℕ

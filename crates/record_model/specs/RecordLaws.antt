@@ -19,7 +19,7 @@ use Rattle.settings.specs.Setup.{Setup}
 use Rattle.products.specs.Products.{productsOk}
 use Rattle.core_state.specs.State.{State, Shaped, partsOk, loadOk, waitOk}
 use Rattle.bundle_model.specs.Bundle.{wellFormed}
-use Rattle.record_model.specs.Record.{Stopped, recordWords, recordOf, stoppedIn, isRecord, readRecord, accepts, longest, shortest, InWords}
+use Rattle.record_model.specs.Record.{Stopped, recordWords, recordOf, stoppedIn, isRecord, hasForm, readRecord, accepts, longest, shortest, InWords}
 use Rattle.record_model.specs.PartLaws.{transfer-few, load-few, products-few}
 use Rattle.record_model.specs.FormLaws.{Form, Formed, form-is, is-form, read-again, written-form, written-again, words-many}
 
@@ -68,7 +68,7 @@ module _ (x : Setup) (p : Stopped) (words : InWords p) (shaped : Shaped (p .stat
   record-read = ap stoppedIn (words-again (recordWords p) words) ∙ read-again p formed
 
   pub record-accepted : accepts x (length (p .cache)) (recordOf p) ≡ true
-  unfolding accepts recordOf
+  unfolding accepts hasForm recordOf
   record-accepted =
       let n : length (bytesOf (recordWords p)) % 4 ≡ 0 = omega (arith, bytes-length (recordWords p)) in
       let form = ap (isRecord (length (p .cache))) (words-again (recordWords p) words) ∙ form-is (length (p .cache)) (recordWords p) (written-form p formed) in
@@ -76,23 +76,16 @@ module _ (x : Setup) (p : Stopped) (words : InWords p) (shaped : Shaped (p .stat
 
 -- What an accepted record is read as is written as its bytes.
 module _ (x : Setup) (w : ℕ) (bytes : List ℕ) (are : (i : ℕ) → getD bytes i 0 < 256) (accepted : accepts x w bytes ≡ true) where
-  accepted-form : Form w (wordsIn bytes)
+  formed-bytes : hasForm w bytes ≡ true
   unfolding accepts
-  accepted-form =
-      let form = and-left (eqb (length bytes % 4) 0 && isRecord w (wordsIn bytes)) (wellFormed x (readRecord bytes .state)) accepted in
-      is-form w (wordsIn bytes) (and-right (eqb (length bytes % 4) 0) (isRecord w (wordsIn bytes)) form)
+  formed-bytes = and-left (hasForm w bytes) (wellFormed x (readRecord bytes .state)) accepted
 
   pub record-written : recordOf (readRecord bytes) ≡ bytes
-  unfolding recordOf accepts
+  unfolding recordOf hasForm
   record-written =
-      let form = and-left (eqb (length bytes % 4) 0 && isRecord w (wordsIn bytes)) (wellFormed x (readRecord bytes .state)) accepted in
-      let n = eqb-true (length bytes % 4) 0 (and-left (eqb (length bytes % 4) 0) (isRecord w (wordsIn bytes)) form) in
-      ap bytesOf (written-again w (wordsIn bytes) (are-words bytes are) accepted-form) ∙ bytes-again bytes are n
-
-  -- Its state is well formed, has the form of its type, and W cache words.
-  pub accepted-well : wellFormed x (readRecord bytes .state) ≡ true
-  unfolding accepts
-  accepted-well = and-right (eqb (length bytes % 4) 0 && isRecord w (wordsIn bytes)) (wellFormed x (readRecord bytes .state)) accepted
+      let form = is-form w (wordsIn bytes) (and-right (eqb (length bytes % 4) 0) (isRecord w (wordsIn bytes)) formed-bytes) in
+      let n = eqb-true (length bytes % 4) 0 (and-left (eqb (length bytes % 4) 0) (isRecord w (wordsIn bytes)) formed-bytes) in
+      ap bytesOf (written-again w (wordsIn bytes) (are-words bytes are) form) ∙ bytes-again bytes are n
 
 -- Two accepted records that are read as the same box are the same.
 pub records-same : (x : Setup) (w : ℕ) (l m : List ℕ) → ((i : ℕ) → getD l i 0 < 256) → ((i : ℕ) → getD m i 0 < 256) → accepts x w l ≡ true → accepts x w m ≡ true

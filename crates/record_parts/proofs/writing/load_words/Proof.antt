@@ -1,0 +1,32 @@
+use Rattle.core_state.specs.declared.WaitingLoad.{WaitingLoad}
+use Rattle.record_model.specs.Record.{loadWords}
+use Rattle.record_parts.specs.Few.{Holds}
+use native.Mathlib.Omega.{arith}
+use mathlib.Core.Path.{_≡_, refl, sym, ap, subst, _∙_}
+use denote.Ref.{now}
+use borrow.Author.Needs.{needs}
+use Rattle.record_parts.proofs.writing.load_words.Statement.{statement}
+use Rattle.record_parts.proofs.writing.load_words.Tie as tie
+use Rattle.record_parts.proofs.writing.load_words.Reads as reads
+use Rattle.record_parts.proofs.writing.load_words.Lts as lts
+
+-- src/writing.rt:52:20
+enum-told : tie.Need-enum-told
+enum-told c = search needs
+
+-- src/writing.rt:55:30
+enum-known-l : tie.Need-enum-known-l
+enum-known-l c = search needs
+
+-- src/writing.rt:47:1
+returns : tie.Need-returns
+unfolding loadWords
+returns c = subst (λ (l : WaitingLoad). Holds _ (loadWords l)) (sym (c .enum-told .given .1)) (record { words = refl; room = omega arith })
+
+-- src/writing.rt:47:1
+returns-2 : tie.Need-returns-2
+unfolding loadWords
+returns-2 c = rw (c .before .l .given .1) (record { words = refl; room = omega arith })
+
+pub load-words-spec : {M : Type 1} → statement M
+load-words-spec = tie.close (tie.spec enum-told enum-known-l returns returns-2)

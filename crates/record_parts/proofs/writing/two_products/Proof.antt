@@ -1,0 +1,25 @@
+use mathlib.Core.List.{List, [], _∷_}
+use Prim.Native.Nat.{ℕ}
+use Rattle.record_model.specs.Record.{productWords}
+use Rattle.record_parts.specs.Few.{Holds}
+use native.Mathlib.Omega.{arith}
+use mathlib.Core.Path.{_≡_, refl, sym, ap, subst, _∙_}
+use denote.Ref.{now}
+use borrow.Author.Needs.{needs}
+use Rattle.record_parts.proofs.writing.two_products.Statement.{statement}
+use Rattle.record_parts.proofs.writing.two_products.Tie as tie
+use Rattle.record_parts.proofs.writing.two_products.Reads as reads
+use Rattle.record_parts.proofs.writing.two_products.Lts as lts
+use Rattle.word.proofs.arithmetic.add.Reads as add-reads
+
+-- src/writing.rt:66:9
+add-requires : tie.Need-add-requires
+add-requires c κs = search needs
+
+-- src/writing.rt:63:1
+returns : tie.Need-returns
+unfolding productWords
+returns c = let p = c .before .args .p in let q = c .before .args .q in record { words = ap (λ (w : ℕ). p .wait ∷ p .low ∷ p .high ∷ w ∷ q .low ∷ q .high ∷ []) (c .add .ensures); room = omega arith }
+
+pub two-products-spec : {M : Type 1} → statement M
+two-products-spec = tie.close (tie.spec add-requires returns)

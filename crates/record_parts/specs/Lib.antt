@@ -1,0 +1,2 @@
+-- Open first: Few.antt.
+pub mod Few
