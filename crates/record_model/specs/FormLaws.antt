@@ -10,12 +10,12 @@ use lib.Dec.{eqb, leb, ltb}
 use lib.ListN.{length, getD, drop, length-append}
 use Rattle.word.specs.BoolLaws.{and-left, and-right}
 use Rattle.sections.specs.Words.{AreWords}
-use Rattle.sections.specs.Sections.{joined, isCut, sectionAt, sectionsFrom}
-use Rattle.sections.specs.SectionLaws.{joined-again, joined-cut, joined-at, section-words}
+use Rattle.sections.specs.Sections.{joined, isCut, sectionAt}
+use Rattle.sections.specs.SectionLaws.{sectionsFrom, joined-again, joined-cut, joined-at, section-words}
 use Rattle.alu_effects.specs.AluEffects.{predicatesWord}
 use Rattle.products.specs.Products.{productsOk}
 use Rattle.core_state.specs.State.{Shaped, state, further, predicatesOf}
-use Rattle.record_model.specs.Record.{Stopped, stopped, specialsIn, transferWords, transferIn, loadWords, loadIn, productWords, productsIn, countWords, countsIn, isTransfer, isLoad, areProducts, recordSections, recordWords, stoppedIn, fixedCounts, freeCounts, isRecord}
+use Rattle.record_model.specs.Record.{Box, box, specialsIn, transferSection, transferIn, loadSection, loadIn, productSection, productsIn, countSection, countsOfWords, isTransfer, isLoad, areProducts, recordSections, recordWords, boxIn, fixedSections, freeSections, isRecord}
 use Rattle.record_model.specs.PartLaws.{by-places, predicates-forth, predicates-small, predicates-back, transfer-forth, transfer-is, transfer-back, load-forth, load-is, load-back, products-forth, products-are, products-back, counts-forth, counts-twelve, counts-back}
 
 -- The form of a record, part by part.
@@ -48,10 +48,10 @@ module _ (w : ℕ) (l : List ℕ) where
   pub is-form : isRecord w l ≡ true → Form w l
   unfolding isRecord
   is-form e =
-      let rest = and-right (isCut 10 l) ((fixedCounts w l && wordOk) && freeCounts l) e in
-      let first = and-left (fixedCounts w l && wordOk) (freeCounts l) rest in
-      let free = and-right (fixedCounts w l && wordOk) (freeCounts l) rest in
-      let fixed = and-left (fixedCounts w l) wordOk first in
+      let rest = and-right (isCut 10 l) ((fixedSections w l && wordOk) && freeSections l) e in
+      let first = and-left (fixedSections w l && wordOk) (freeSections l) rest in
+      let free = and-right (fixedSections w l && wordOk) (freeSections l) rest in
+      let fixed = and-left (fixedSections w l) wordOk first in
       let four = and-left ((has 0 2 && has 1 32) && (has 2 1 && has 3 8)) (has 4 w && has 8 12) fixed in
       let two = and-right ((has 0 2 && has 1 32) && (has 2 1 && has 3 8)) (has 4 w && has 8 12) fixed in
       let a = and-left (has 0 2 && has 1 32) (has 2 1 && has 3 8) four in
@@ -59,14 +59,14 @@ module _ (w : ℕ) (l : List ℕ) where
       let c = and-left (isTransfer (sectionAt 5 l) && isLoad (sectionAt 6 l)) (areProducts (sectionAt 7 l) && leb (length (sectionAt 9 l)) 16) free in
       let d = and-right (isTransfer (sectionAt 5 l) && isLoad (sectionAt 6 l)) (areProducts (sectionAt 7 l) && leb (length (sectionAt 9 l)) 16) free in
       record {
-        cut = and-left (isCut 10 l) ((fixedCounts w l && wordOk) && freeCounts l) e;
+        cut = and-left (isCut 10 l) ((fixedSections w l && wordOk) && freeSections l) e;
         flow = eqb-true (length (sectionAt 0 l)) 2 (and-left (has 0 2) (has 1 32) a);
         registers = eqb-true (length (sectionAt 1 l)) 32 (and-right (has 0 2) (has 1 32) a);
         predicates = eqb-true (length (sectionAt 2 l)) 1 (and-left (has 2 1) (has 3 8) b);
         specials = eqb-true (length (sectionAt 3 l)) 8 (and-right (has 2 1) (has 3 8) b);
         cache = eqb-true (length (sectionAt 4 l)) w (and-left (has 4 w) (has 8 12) two);
         counts = eqb-true (length (sectionAt 8 l)) 12 (and-right (has 4 w) (has 8 12) two);
-        word = ltb-true (getD (sectionAt 2 l) 0 0) 256 (and-right (fixedCounts w l) wordOk first);
+        word = ltb-true (getD (sectionAt 2 l) 0 0) 256 (and-right (fixedSections w l) wordOk first);
         transfer = and-left (isTransfer (sectionAt 5 l)) (isLoad (sectionAt 6 l)) c;
         load = and-right (isTransfer (sectionAt 5 l)) (isLoad (sectionAt 6 l)) c;
         products = and-left (areProducts (sectionAt 7 l)) (leb (length (sectionAt 9 l)) 16) d;
@@ -74,26 +74,26 @@ module _ (w : ℕ) (l : List ℕ) where
       }
 
 -- A box that has the form of its type, and whose products are such as 11 lets pass.
-pub record Formed (p : Stopped) : Type 0 where
+pub record Formed (p : Box) : Type 0 where
   pub shaped : Shaped (p .state)
   pub products : productsOk (p .state .further .products) ≡ true
   pub held : length (p .state .further .held) ≤ 16
 
 -- What is written of it has the form of a record, and is read as it.
-module _ (p : Stopped) (f : Formed p) where
+module _ (p : Box) (f : Formed p) where
   at : (k : ℕ) → sectionAt k (recordWords p) ≡ getD (recordSections p) k []
   at k = joined-at (recordSections p) k
 
-  pub read-again : stoppedIn (recordWords p) ≡ p
-  unfolding stoppedIn recordSections
+  pub read-again : boxIn (recordWords p) ≡ p
+  unfolding boxIn recordSections
   read-again =
       let s = p .state in
       let predicates = ap (λ (l : List ℕ). predicatesOf 8 (getD l 0 0)) (at 2) ∙ ap (λ (n : ℕ). predicatesOf n (predicatesWord (s .predicates))) (sym (f .shaped .predicates)) ∙ predicates-forth (s .predicates) in
       let transfer = ap transferIn (at 5) ∙ transfer-forth (s .transfer) in
       let load = ap loadIn (at 6) ∙ load-forth (s .load) in
       let products = ap productsIn (at 7) ∙ products-forth (s .further .products) (f .products) in
-      let counts = ap countsIn (at 8) ∙ counts-forth (p .counts) in
-      λ i. stopped
+      let counts = ap countsOfWords (at 8) ∙ counts-forth (p .counts) in
+      λ i. box
       (state (at 1 i) (predicates i) (specialsIn (at 3 i)) (getD (at 0 i) 0 0) (getD (at 0 i) 1 0) (transfer i) (load i) (further (products i) (at 9 i)))
       (at 4 i)
       (counts i)
@@ -119,8 +119,8 @@ module _ (p : Stopped) (f : Formed p) where
       }
 
 -- What has the form of a record is written again as it was.
-pub written-again : (w : ℕ) (l : List ℕ) → AreWords l → Form w l → recordWords (stoppedIn l) ≡ l
-unfolding stoppedIn recordSections sectionsFrom
+pub written-again : (w : ℕ) (l : List ℕ) → AreWords l → Form w l → recordWords (boxIn l) ≡ l
+unfolding boxIn recordSections sectionsFrom
 written-again w l words f =
     let part : (k : ℕ) → AreWords (sectionAt k l) = λ k. section-words k l words in
     let flow = sym (by-places 2 (sectionAt 0 l) (f .flow)) in
@@ -134,8 +134,8 @@ written-again w l words f =
     ∙ joined-again 10 l (f .cut)
 
 -- How many words there are.
-pub words-many : (p : Stopped) → length (p .state .registers) ≡ 32
-    → length (recordWords p) ≡ 65 + length (p .cache) + length (transferWords (p .state .transfer)) + length (loadWords (p .state .load)) + length (productWords (p .state .further .products)) + length (p .state .further .held)
+pub words-many : (p : Box) → length (p .state .registers) ≡ 32
+    → length (recordWords p) ≡ 65 + length (p .cache) + length (transferSection (p .state .transfer)) + length (loadSection (p .state .load)) + length (productSection (p .state .further .products)) + length (p .state .further .held)
 unfolding recordSections joined
 words-many p registers =
     let s = p .state in
@@ -146,9 +146,9 @@ words-many p registers =
       counts-twelve (p .counts),
       length-append (s .registers) (behind 2),
       length-append (p .cache) (behind 5),
-      length-append (transferWords (s .transfer)) (behind 6),
-      length-append (loadWords (s .load)) (behind 7),
-      length-append (productWords (s .further .products)) (behind 8),
-      length-append (countWords (p .counts)) (behind 9),
+      length-append (transferSection (s .transfer)) (behind 6),
+      length-append (loadSection (s .load)) (behind 7),
+      length-append (productSection (s .further .products)) (behind 8),
+      length-append (countSection (p .counts)) (behind 9),
       length-append (s .further .held) [],
     )

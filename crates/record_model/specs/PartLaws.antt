@@ -23,7 +23,7 @@ use Rattle.core_state.specs.declared.WaitingLoad.{WaitingLoad}
 use Rattle.core_state.specs.declared.WaitingLoad.the-variants as load
 use Rattle.core_state.specs.State.{predicatesOf}
 use Rattle.bundle_model.specs.declared.Counts.{Counts}
-use Rattle.record_model.specs.Record.{transferWords, transferOf, transferIn, isTransfer, loadWords, loadIn, isLoad, productWords, productsIn, areProducts, upper, lower, countWords, countAt, countsIn}
+use Rattle.record_model.specs.Record.{transferSection, transferOf, transferIn, isTransfer, loadSection, loadIn, isLoad, productSection, productsIn, areProducts, upper, lower, countSection, countAt, countsOfWords}
 
 -- A list of a known length, place by place.
 abbrev places : ℕ → ℕ → List ℕ → List ℕ
@@ -74,15 +74,15 @@ predicates-back (suc k) v p = go (eqb (v % 2) 1) refl (predicates-back k (v / 2)
     go false e rest = let h : v % 2 ≡ 0 = omega (arith, eqb-false (v % 2) 1 e) in omega (arith, rest, h)
 
 -- A waiting transfer.
-pub transfer-forth : (t : WaitingTransfer) → transferIn (transferWords t) ≡ t
-unfolding transferIn transferOf transferWords
+pub transfer-forth : (t : WaitingTransfer) → transferIn (transferSection t) ≡ t
+unfolding transferIn transferOf transferSection
 transfer-forth transfer.Nothing = refl
 transfer-forth (transfer.Waits (Br target) wait) = refl
 transfer-forth (transfer.Waits (Call target) wait) = refl
 transfer-forth (transfer.Waits (Block target base) wait) = refl
 
-pub transfer-is : (t : WaitingTransfer) → isTransfer (transferWords t) ≡ true
-unfolding isTransfer transferWords
+pub transfer-is : (t : WaitingTransfer) → isTransfer (transferSection t) ≡ true
+unfolding isTransfer transferSection
 transfer-is transfer.Nothing = refl
 transfer-is (transfer.Waits (Br target) wait) = refl
 transfer-is (transfer.Waits (Call target) wait) = refl
@@ -92,22 +92,22 @@ transfer-is (transfer.Waits (Block target base) wait) = refl
 abbrev waits : Bool → Bool → List ℕ → WaitingTransfer
 waits zero? one? l = transfer.Waits (cond zero? (Br (getD l 2 0)) (cond one? (Call (getD l 2 0)) (Block (getD l 2 0) (getD l 3 0)))) (getD l 1 0)
 
-pub transfer-back : (l : List ℕ) → isTransfer l ≡ true → transferWords (transferIn l) ≡ l
-unfolding isTransfer transferIn transferOf transferWords
+pub transfer-back : (l : List ℕ) → isTransfer l ≡ true → transferSection (transferIn l) ≡ l
+unfolding isTransfer transferIn transferOf transferSection
 transfer-back l h = none (eqb (length l) 0) refl h
   where
-    three : (z o : Bool) → eqb (getD l 0 0) 0 ≡ z → eqb (getD l 0 0) 1 ≡ o → leb (getD l 0 0) 1 ≡ true → length l ≡ 3 → transferWords (waits z o l) ≡ l
+    three : (z o : Bool) → eqb (getD l 0 0) 0 ≡ z → eqb (getD l 0 0) 1 ≡ o → leb (getD l 0 0) 1 ≡ true → length l ≡ 3 → transferSection (waits z o l) ≡ l
     three true o is0 is1 k n = (λ i. sym (eqb-true (getD l 0 0) 0 is0) i ∷ getD l 1 0 ∷ getD l 2 0 ∷ []) ∙ sym (by-places 3 l n)
     three false true is0 is1 k n = (λ i. sym (eqb-true (getD l 0 0) 1 is1) i ∷ getD l 1 0 ∷ getD l 2 0 ∷ []) ∙ sym (by-places 3 l n)
     three false false is0 is1 k n = absurd (omega (arith, eqb-false (getD l 0 0) 0 is0, eqb-false (getD l 0 0) 1 is1, leb-true (getD l 0 0) 1 k))
 
-    four : (z o : Bool) → eqb (getD l 0 0) 0 ≡ z → eqb (getD l 0 0) 1 ≡ o → getD l 0 0 ≡ 2 → length l ≡ 4 → transferWords (waits z o l) ≡ l
+    four : (z o : Bool) → eqb (getD l 0 0) 0 ≡ z → eqb (getD l 0 0) 1 ≡ o → getD l 0 0 ≡ 2 → length l ≡ 4 → transferSection (waits z o l) ≡ l
     four true o is0 is1 k n = absurd (omega (arith, eqb-true (getD l 0 0) 0 is0, k))
     four false true is0 is1 k n = absurd (omega (arith, eqb-true (getD l 0 0) 1 is1, k))
     four false false is0 is1 k n = (λ i. sym k i ∷ getD l 1 0 ∷ getD l 2 0 ∷ getD l 3 0 ∷ []) ∙ sym (by-places 4 l n)
 
     some : (t : Bool) → leb (getD l 0 0) 1 ≡ t → cond t (eqb (length l) 3) (eqb (getD l 0 0) 2 && eqb (length l) 4) ≡ true
-        → transferWords (waits (eqb (getD l 0 0) 0) (eqb (getD l 0 0) 1) l) ≡ l
+        → transferSection (waits (eqb (getD l 0 0) 0) (eqb (getD l 0 0) 1) l) ≡ l
     some true e f = three (eqb (getD l 0 0) 0) (eqb (getD l 0 0) 1) refl refl e (eqb-true (length l) 3 f)
     some false e f =
         let k = eqb-true (getD l 0 0) 2 (and-left (eqb (getD l 0 0) 2) (eqb (length l) 4) f) in
@@ -115,44 +115,44 @@ transfer-back l h = none (eqb (length l) 0) refl h
         four (eqb (getD l 0 0) 0) (eqb (getD l 0 0) 1) refl refl k n
 
     none : (t : Bool) → eqb (length l) 0 ≡ t → t || (cond (leb (getD l 0 0) 1) (eqb (length l) 3) (eqb (getD l 0 0) 2 && eqb (length l) 4)) ≡ true
-        → transferWords (cond t transfer.Nothing (waits (eqb (getD l 0 0) 0) (eqb (getD l 0 0) 1) l)) ≡ l
+        → transferSection (cond t transfer.Nothing (waits (eqb (getD l 0 0) 0) (eqb (getD l 0 0) 1) l)) ≡ l
     none true e f = sym (no-words l e)
     none false e f = some (leb (getD l 0 0) 1) refl f
 
-pub transfer-few : (t : WaitingTransfer) → length (transferWords t) ≤ 4
-unfolding transferWords
+pub transfer-few : (t : WaitingTransfer) → length (transferSection t) ≤ 4
+unfolding transferSection
 transfer-few transfer.Nothing = omega arith
 transfer-few (transfer.Waits (Br target) wait) = omega arith
 transfer-few (transfer.Waits (Call target) wait) = omega arith
 transfer-few (transfer.Waits (Block target base) wait) = omega arith
 
 -- A waiting load.
-pub load-forth : (l : WaitingLoad) → loadIn (loadWords l) ≡ l
-unfolding loadIn loadWords
+pub load-forth : (l : WaitingLoad) → loadIn (loadSection l) ≡ l
+unfolding loadIn loadSection
 load-forth load.Nothing = refl
 load-forth (load.Waits r v) = refl
 
-pub load-is : (l : WaitingLoad) → isLoad (loadWords l) ≡ true
-unfolding isLoad loadWords
+pub load-is : (l : WaitingLoad) → isLoad (loadSection l) ≡ true
+unfolding isLoad loadSection
 load-is load.Nothing = refl
 load-is (load.Waits r v) = refl
 
-pub load-back : (l : List ℕ) → isLoad l ≡ true → loadWords (loadIn l) ≡ l
-unfolding isLoad loadIn loadWords
+pub load-back : (l : List ℕ) → isLoad l ≡ true → loadSection (loadIn l) ≡ l
+unfolding isLoad loadIn loadSection
 load-back l h = go (eqb (length l) 0) refl h
   where
-    go : (t : Bool) → eqb (length l) 0 ≡ t → t || eqb (length l) 2 ≡ true → loadWords (cond t load.Nothing (load.Waits (getD l 0 0) (getD l 1 0))) ≡ l
+    go : (t : Bool) → eqb (length l) 0 ≡ t → t || eqb (length l) 2 ≡ true → loadSection (cond t load.Nothing (load.Waits (getD l 0 0) (getD l 1 0))) ≡ l
     go true e f = sym (no-words l e)
     go false e f = sym (by-places 2 l (eqb-true (length l) 2 f))
 
-pub load-few : (l : WaitingLoad) → length (loadWords l) ≤ 2
-unfolding loadWords
+pub load-few : (l : WaitingLoad) → length (loadSection l) ≤ 2
+unfolding loadSection
 load-few load.Nothing = omega arith
 load-few (load.Waits r v) = omega arith
 
 -- Products under way, of which the second of two waits longer than the first, and not so long that the sum of its waits would wrap.
-pub products-forth : (p : Products) → productsOk p ≡ true → productsIn (productWords p) ≡ p
-unfolding productsOk productsIn productWords
+pub products-forth : (p : Products) → productsOk p ≡ true → productsIn (productSection p) ≡ p
+unfolding productsOk productsIn productSection
 products-forth products.Nothing e = refl
 products-forth (products.One p) e = refl
 products-forth (products.Two p q) e =
@@ -160,34 +160,34 @@ products-forth (products.Two p q) e =
     let w : add (p .wait) (q .wait) - p .wait ≡ q .wait = omega (arith, sum) in
     λ i. products.Two p (product (w i) (q .low) (q .high))
 
-pub products-are : (p : Products) → productsOk p ≡ true → areProducts (productWords p) ≡ true
-unfolding productsOk areProducts productWords
+pub products-are : (p : Products) → productsOk p ≡ true → areProducts (productSection p) ≡ true
+unfolding productsOk areProducts productSection
 products-are products.Nothing e = refl
 products-are (products.One p) e = refl
 products-are (products.Two p q) e =
     let sum = leb-true (p .wait + q .wait) 2 (and-right (leb 1 (p .wait) && leb 1 (q .wait)) (leb (p .wait + q .wait) 2) e) in
     le-leb (p .wait) (add (p .wait) (q .wait)) (omega (arith, sum))
 
-pub products-back : (l : List ℕ) → AreWords l → areProducts l ≡ true → productWords (productsIn l) ≡ l
-unfolding areProducts productsIn productWords
+pub products-back : (l : List ℕ) → AreWords l → areProducts l ≡ true → productSection (productsIn l) ≡ l
+unfolding areProducts productsIn productSection
 products-back l words h = none (eqb (length l) 0) (eqb (length l) 3) refl refl h
   where
     six : length l ≡ 6 → getD l 0 0 ≤ getD l 3 0
-        → productWords (products.Two (product (getD l 0 0) (getD l 1 0) (getD l 2 0)) (product (getD l 3 0 - getD l 0 0) (getD l 4 0) (getD l 5 0))) ≡ l
+        → productSection (products.Two (product (getD l 0 0) (getD l 1 0) (getD l 2 0)) (product (getD l 3 0 - getD l 0 0) (getD l 4 0) (getD l 5 0))) ≡ l
     six n order =
         let w : add (getD l 0 0) (getD l 3 0 - getD l 0 0) ≡ getD l 3 0 = omega (arith, words 3, order) in
         (λ i. getD l 0 0 ∷ getD l 1 0 ∷ getD l 2 0 ∷ w i ∷ getD l 4 0 ∷ getD l 5 0 ∷ []) ∙ sym (by-places 6 l n)
 
     none : (t u : Bool) → eqb (length l) 0 ≡ t → eqb (length l) 3 ≡ u → (t || u) || (eqb (length l) 6 && leb (getD l 0 0) (getD l 3 0)) ≡ true
-        → productWords (cond t products.Nothing (cond u (products.One (product (getD l 0 0) (getD l 1 0) (getD l 2 0))) (products.Two (product (getD l 0 0) (getD l 1 0) (getD l 2 0)) (product (getD l 3 0 - getD l 0 0) (getD l 4 0) (getD l 5 0))))) ≡ l
+        → productSection (cond t products.Nothing (cond u (products.One (product (getD l 0 0) (getD l 1 0) (getD l 2 0))) (products.Two (product (getD l 0 0) (getD l 1 0) (getD l 2 0)) (product (getD l 3 0 - getD l 0 0) (getD l 4 0) (getD l 5 0))))) ≡ l
     none true u e f g = sym (no-words l e)
     none false true e f g = sym (by-places 3 l (eqb-true (length l) 3 f))
     none false false e f g =
         six (eqb-true (length l) 6 (and-left (eqb (length l) 6) (leb (getD l 0 0) (getD l 3 0)) g))
         (leb-true (getD l 0 0) (getD l 3 0) (and-right (eqb (length l) 6) (leb (getD l 0 0) (getD l 3 0)) g))
 
-pub products-few : (p : Products) → length (productWords p) ≤ 6
-unfolding productWords
+pub products-few : (p : Products) → length (productSection p) ≤ 6
+unfolding productSection
 products-few products.Nothing = omega arith
 products-few (products.One p) = omega arith
 products-few (products.Two p q) = omega arith
@@ -196,8 +196,8 @@ products-few (products.Two p q) = omega arith
 two-words : (n : ℕ) → upper n * 2 ^ 32 + lower n ≡ n
 two-words n = omega arith
 
-pub counts-forth : (c : Counts) → countsIn (countWords c) ≡ c
-unfolding countAt countWords
+pub counts-forth : (c : Counts) → countsOfWords (countSection c) ≡ c
+unfolding countAt countSection
 counts-forth c =
     λ i. record {
       bundles = two-words (c .bundles) i;
@@ -208,8 +208,8 @@ counts-forth c =
       fetched = two-words (c .fetched) i;
     }
 
-pub counts-twelve : (c : Counts) → length (countWords c) ≡ 12
-unfolding countWords
+pub counts-twelve : (c : Counts) → length (countSection c) ≡ 12
+unfolding countSection
 counts-twelve c = refl
 
 module _ (l : List ℕ) (words : AreWords l) (i : ℕ) where
@@ -221,8 +221,8 @@ module _ (l : List ℕ) (words : AreWords l) (i : ℕ) where
   unfolding countAt
   lower-back = digits-mod (getD l i 0) (words (i + 1))
 
-pub counts-back : (l : List ℕ) → AreWords l → length l ≡ 12 → countWords (countsIn l) ≡ l
-unfolding countWords
+pub counts-back : (l : List ℕ) → AreWords l → length l ≡ 12 → countSection (countsOfWords l) ≡ l
+unfolding countSection
 counts-back l words n =
     let u : (i : ℕ) → upper (countAt l i) ≡ getD l i 0 = upper-back l words in
     let d : (i : ℕ) → lower (countAt l i) ≡ getD l (i + 1) 0 = lower-back l words in

@@ -26,27 +26,27 @@ use Rattle.bundle_model.specs.declared.Counts.{Counts}
 use Rattle.bundle_model.specs.Bundle.{wellFormed}
 
 -- A stopped box: its state, the words of its stack cache, and the counts of the run that stopped.
-pub record Stopped : Type 0 where
+pub record Box : Type 0 where
   pub state : State
   pub cache : List ℕ
   pub counts : Counts
 
-abbrev pub stopped : State → List ℕ → Counts → Stopped
-stopped s cache counts = record { state = s; cache = cache; counts = counts }
+abbrev pub box : State → List ℕ → Counts → Box
+box s cache counts = record { state = s; cache = cache; counts = counts }
 
 -- The words of the special registers beside s0.
-abbrev pub specialsWords : Specials → List ℕ
-specialsWords x = x .sl ∷ x .sh ∷ x .ss ∷ x .st ∷ x .srb ∷ x .sro ∷ x .sxb ∷ x .sxo ∷ []
+abbrev pub specialsSection : Specials → List ℕ
+specialsSection x = x .sl ∷ x .sh ∷ x .ss ∷ x .st ∷ x .srb ∷ x .sro ∷ x .sxb ∷ x .sxo ∷ []
 
 abbrev pub specialsIn : List ℕ → Specials
 specialsIn l = specials (getD l 0 0) (getD l 1 0) (getD l 2 0) (getD l 3 0) (getD l 4 0) (getD l 5 0) (getD l 6 0) (getD l 7 0)
 
 -- A waiting transfer: its kind, its wait, its target, and of a block transfer the base.
-unfoldable pub transferWords : WaitingTransfer → List ℕ
-transferWords transfer.Nothing = []
-transferWords (transfer.Waits (Br target) wait) = 0 ∷ wait ∷ target ∷ []
-transferWords (transfer.Waits (Call target) wait) = 1 ∷ wait ∷ target ∷ []
-transferWords (transfer.Waits (Block target base) wait) = 2 ∷ wait ∷ target ∷ base ∷ []
+unfoldable pub transferSection : WaitingTransfer → List ℕ
+transferSection transfer.Nothing = []
+transferSection (transfer.Waits (Br target) wait) = 0 ∷ wait ∷ target ∷ []
+transferSection (transfer.Waits (Call target) wait) = 1 ∷ wait ∷ target ∷ []
+transferSection (transfer.Waits (Block target base) wait) = 2 ∷ wait ∷ target ∷ base ∷ []
 
 unfoldable pub transferOf : ℕ → ℕ → ℕ → Transfer
 transferOf kind target base = cond (eqb kind 0) (Br target) (cond (eqb kind 1) (Call target) (Block target base))
@@ -59,9 +59,9 @@ unfoldable pub isTransfer : List ℕ → Bool
 isTransfer l = eqb (length l) 0 || (cond (leb (getD l 0 0) 1) (eqb (length l) 3) (eqb (getD l 0 0) 2 && eqb (length l) 4))
 
 -- A waiting load: its register and its value.
-unfoldable pub loadWords : WaitingLoad → List ℕ
-loadWords load.Nothing = []
-loadWords (load.Waits r v) = r ∷ v ∷ []
+unfoldable pub loadSection : WaitingLoad → List ℕ
+loadSection load.Nothing = []
+loadSection (load.Waits r v) = r ∷ v ∷ []
 
 unfoldable pub loadIn : List ℕ → WaitingLoad
 loadIn l = cond (eqb (length l) 0) load.Nothing (load.Waits (getD l 0 0) (getD l 1 0))
@@ -69,12 +69,12 @@ loadIn l = cond (eqb (length l) 0) load.Nothing (load.Waits (getD l 0 0) (getD l
 unfoldable pub isLoad : List ℕ → Bool
 isLoad l = eqb (length l) 0 || eqb (length l) 2
 
--- Products under way: wait, low and high word of each, by rising wait. Here both waits count from now, in the state the second one counts
--- from the landing of the first.
-unfoldable pub productWords : Products → List ℕ
-productWords products.Nothing = []
-productWords (products.One p) = p .wait ∷ p .low ∷ p .high ∷ []
-productWords (products.Two p q) = p .wait ∷ p .low ∷ p .high ∷ add (p .wait) (q .wait) ∷ q .low ∷ q .high ∷ []
+-- Products under way: wait, low and high word of each, by rising wait (of equal ones 11 judges). Here both waits count from now, in the state
+-- the second one counts from the landing of the first.
+unfoldable pub productSection : Products → List ℕ
+productSection products.Nothing = []
+productSection (products.One p) = p .wait ∷ p .low ∷ p .high ∷ []
+productSection (products.Two p q) = p .wait ∷ p .low ∷ p .high ∷ add (p .wait) (q .wait) ∷ q .low ∷ q .high ∷ []
 
 unfoldable pub productsIn : List ℕ → Products
 productsIn l =
@@ -93,8 +93,8 @@ upper n = n / 2 ^ 32
 abbrev pub lower : ℕ → ℕ
 lower n = n % 2 ^ 32
 
-unfoldable pub countWords : Counts → List ℕ
-countWords c =
+unfoldable pub countSection : Counts → List ℕ
+countSection c =
     upper (c .bundles) ∷ lower (c .bundles) ∷ upper (c .cycles) ∷ lower (c .cycles)
     ∷ upper (c .spilled) ∷ lower (c .spilled) ∷ upper (c .filled) ∷ lower (c .filled)
     ∷ upper (c .misses) ∷ lower (c .misses) ∷ upper (c .fetched) ∷ lower (c .fetched) ∷ []
@@ -103,77 +103,78 @@ countWords c =
 unfoldable pub countAt : List ℕ → ℕ → ℕ
 countAt l i = getD l i 0 * 2 ^ 32 + getD l (i + 1) 0
 
-abbrev pub countsIn : List ℕ → Counts
-countsIn l =
+abbrev pub countsOfWords : List ℕ → Counts
+countsOfWords l =
     record { bundles = countAt l 0; cycles = countAt l 2; spilled = countAt l 4; filled = countAt l 6; misses = countAt l 8; fetched = countAt l 10 }
 
 -- The ten sections, in the order of the request.
-unfoldable pub recordSections : Stopped → List (List ℕ)
+unfoldable pub recordSections : Box → List (List ℕ)
 recordSections x =
     let s = x .state in
     (s .fetch ∷ s .base ∷ [])
     ∷ s .registers
     ∷ (predicatesWord (s .predicates) ∷ [])
-    ∷ specialsWords (s .specials)
+    ∷ specialsSection (s .specials)
     ∷ x .cache
-    ∷ transferWords (s .transfer)
-    ∷ loadWords (s .load)
-    ∷ productWords (s .further .products)
-    ∷ countWords (x .counts)
+    ∷ transferSection (s .transfer)
+    ∷ loadSection (s .load)
+    ∷ productSection (s .further .products)
+    ∷ countSection (x .counts)
     ∷ s .further .held
     ∷ []
 
-abbrev pub recordWords : Stopped → List ℕ
+abbrev pub recordWords : Box → List ℕ
 recordWords x = joined (recordSections x)
 
--- The record, in bytes. Every stopped box has one.
-unfoldable pub recordOf : Stopped → List ℕ
+-- The record, in bytes. Every stopped box has one; boxes that 11 describes may share it.
+unfoldable pub recordOf : Box → List ℕ
 recordOf x = bytesOf (recordWords x)
 
 -- What is read of words, whatever they are.
-unfoldable pub stoppedIn : List ℕ → Stopped
-stoppedIn l =
+unfoldable pub boxIn : List ℕ → Box
+boxIn l =
     let flow = sectionAt 0 l in
-    stopped
+    box
     (state (sectionAt 1 l) (predicatesOf 8 (getD (sectionAt 2 l) 0 0)) (specialsIn (sectionAt 3 l)) (getD flow 0 0) (getD flow 1 0)
     (transferIn (sectionAt 5 l)) (loadIn (sectionAt 6 l)) (further (productsIn (sectionAt 7 l)) (sectionAt 9 l)))
     (sectionAt 4 l)
-    (countsIn (sectionAt 8 l))
+    (countsOfWords (sectionAt 8 l))
 
 -- The form of a record with W cache words: ten sections with nothing behind them, each with a count that it can have and values and an order
 -- that some state's record has.
-abbrev pub fixedCounts : ℕ → List ℕ → Bool
-fixedCounts w l =
+abbrev pub fixedSections : ℕ → List ℕ → Bool
+fixedSections w l =
     ((eqb (length (sectionAt 0 l)) 2 && eqb (length (sectionAt 1 l)) 32) && (eqb (length (sectionAt 2 l)) 1 && eqb (length (sectionAt 3 l)) 8))
     && (eqb (length (sectionAt 4 l)) w && eqb (length (sectionAt 8 l)) 12)
 
-abbrev pub freeCounts : List ℕ → Bool
-freeCounts l =
+abbrev pub freeSections : List ℕ → Bool
+freeSections l =
     (isTransfer (sectionAt 5 l) && isLoad (sectionAt 6 l)) && (areProducts (sectionAt 7 l) && leb (length (sectionAt 9 l)) greatestBlocks)
 
 unfoldable pub isRecord : ℕ → List ℕ → Bool
-isRecord w l = isCut 10 l && ((fixedCounts w l && ltb (getD (sectionAt 2 l) 0 0) 256) && freeCounts l)
+isRecord w l = isCut 10 l && ((fixedSections w l && ltb (getD (sectionAt 2 l) 0 0) 256) && freeSections l)
 
 -- Bytes of that form: whole words.
 unfoldable pub hasForm : ℕ → List ℕ → Bool
 hasForm w bytes = eqb (length bytes % 4) 0 && isRecord w (wordsIn bytes)
 
 -- The box of a record.
-abbrev pub readRecord : List ℕ → Stopped
-readRecord bytes = stoppedIn (wordsIn bytes)
+abbrev pub readRecord : List ℕ → Box
+readRecord bytes = boxIn (wordsIn bytes)
 
 -- Bytes that are taken for a record of W cache words, over this code and these settings: they have the form, and hold a state that 11 does
 -- not describe. Other bytes are refused with 14.
 unfoldable pub accepts : Setup → ℕ → List ℕ → Bool
 accepts x w bytes = hasForm w bytes && wellFormed x (readRecord bytes .state)
 
--- The lengths of the longest and the shortest record with W cache words, in bytes.
-abbrev pub longest : ℕ → ℕ
-longest w = 4 * (93 + w)
-
+-- The lengths of the shortest and the longest record with W cache words, in bytes: ten counts and the sections that have one count; and, beside
+-- these, a waiting transfer with a base, a load, two products, and as many blocks as any capacity has.
 abbrev pub shortest : ℕ → ℕ
-shortest w = 4 * (65 + w)
+shortest w = 4 * (10 + (2 + 32 + 1 + 8 + w + 12))
 
--- A box whose numbers are such as its types have: every word of its record is below 2 ^ 32.
-abbrev pub InWords : Stopped → Type 0
+abbrev pub longest : ℕ → ℕ
+longest w = shortest w + 4 * (4 + 2 + 6 + greatestBlocks)
+
+-- Every number that goes into the record is a word below 2 ^ 32, as those of the types are.
+abbrev pub InWords : Box → Type 0
 InWords x = AreWords (recordWords x)

@@ -10,7 +10,7 @@ use borrow.Author.Tests.{eqb-true, leb-true, eq-eqb}
 use lib.Dec.{eqb, leb}
 use lib.ListN.{length, getD}
 use Rattle.word.specs.BoolLaws.{and-left, and-right}
-use Rattle.sections.specs.Words.{bytesOf, wordsIn}
+use Rattle.sections.specs.Words.{AreBytes, bytesOf, wordsIn}
 use Rattle.sections.specs.WordLaws.{bytes-length, words-again, bytes-again, are-words}
 use Rattle.method_cache.specs.declared.Method.{Method}
 use Rattle.method_cache.specs.MethodCache.{capacityOk, bytesHeld, heldGood, heldOk}
@@ -19,12 +19,12 @@ use Rattle.settings.specs.Setup.{Setup}
 use Rattle.products.specs.Products.{productsOk}
 use Rattle.core_state.specs.State.{State, Shaped, partsOk, loadOk, waitOk}
 use Rattle.bundle_model.specs.Bundle.{wellFormed}
-use Rattle.record_model.specs.Record.{Stopped, recordWords, recordOf, stoppedIn, isRecord, hasForm, readRecord, accepts, longest, shortest, InWords}
+use Rattle.record_model.specs.Record.{Box, recordWords, recordOf, boxIn, isRecord, hasForm, readRecord, accepts, longest, shortest, InWords}
 use Rattle.record_model.specs.PartLaws.{transfer-few, load-few, products-few}
 use Rattle.record_model.specs.FormLaws.{Form, Formed, form-is, is-form, read-again, written-form, written-again, words-many}
 
 -- The lengths of the shortest and the longest record.
-module _ (p : Stopped) (registers : length (p .state .registers) ≡ 32) where
+module _ (p : Box) (registers : length (p .state .registers) ≡ 32) where
   pub record-short : shortest (length (p .cache)) ≤ length (recordOf p)
   unfolding recordOf
   record-short = omega (arith, words-many p registers, bytes-length (recordWords p))
@@ -59,23 +59,28 @@ module _ (x : Setup) (s : State) (capacity : capacityOk (x .method) ≡ true) (w
       and-right (loadOk (s .load) && waitOk (s .transfer)) (productsOk (s .further .products)) rest
 
 -- A well-formed box, whose numbers are words, is what its record is read as; and the record is accepted.
-module _ (x : Setup) (p : Stopped) (words : InWords p) (shaped : Shaped (p .state)) (capacity : capacityOk (x .method) ≡ true) (well : wellFormed x (p .state) ≡ true) where
+module _ (x : Setup) (p : Box) (words : InWords p) (shaped : Shaped (p .state)) (capacity : capacityOk (x .method) ≡ true) (well : wellFormed x (p .state) ≡ true) where
   formed : Formed p
   formed = record { shaped = shaped; products = well-products x (p .state) capacity well; held = well-few x (p .state) capacity well }
 
   pub record-read : readRecord (recordOf p) ≡ p
   unfolding recordOf
-  record-read = ap stoppedIn (words-again (recordWords p) words) ∙ read-again p formed
+  record-read = ap boxIn (words-again (recordWords p) words) ∙ read-again p formed
 
   pub record-accepted : accepts x (length (p .cache)) (recordOf p) ≡ true
   unfolding accepts hasForm recordOf
   record-accepted =
       let n : length (bytesOf (recordWords p)) % 4 ≡ 0 = omega (arith, bytes-length (recordWords p)) in
       let form = ap (isRecord (length (p .cache))) (words-again (recordWords p) words) ∙ form-is (length (p .cache)) (recordWords p) (written-form p formed) in
-      rw (n, form) (ap (λ (q : Stopped). wellFormed x (q .state)) record-read ∙ well)
+      rw (n, form) (ap (λ (q : Box). wellFormed x (q .state)) record-read ∙ well)
+
+-- The form of bytes that have one.
+pub form-of : (w : ℕ) (bytes : List ℕ) → hasForm w bytes ≡ true → Form w (wordsIn bytes)
+unfolding hasForm
+form-of w bytes e = is-form w (wordsIn bytes) (and-right (eqb (length bytes % 4) 0) (isRecord w (wordsIn bytes)) e)
 
 -- What an accepted record is read as is written as its bytes.
-module _ (x : Setup) (w : ℕ) (bytes : List ℕ) (are : (i : ℕ) → getD bytes i 0 < 256) (accepted : accepts x w bytes ≡ true) where
+module _ (x : Setup) (w : ℕ) (bytes : List ℕ) (are : AreBytes bytes) (accepted : accepts x w bytes ≡ true) where
   formed-bytes : hasForm w bytes ≡ true
   unfolding accepts
   formed-bytes = and-left (hasForm w bytes) (wellFormed x (readRecord bytes .state)) accepted
@@ -83,11 +88,11 @@ module _ (x : Setup) (w : ℕ) (bytes : List ℕ) (are : (i : ℕ) → getD byte
   pub record-written : recordOf (readRecord bytes) ≡ bytes
   unfolding recordOf hasForm
   record-written =
-      let form = is-form w (wordsIn bytes) (and-right (eqb (length bytes % 4) 0) (isRecord w (wordsIn bytes)) formed-bytes) in
+      let form = form-of w bytes formed-bytes in
       let n = eqb-true (length bytes % 4) 0 (and-left (eqb (length bytes % 4) 0) (isRecord w (wordsIn bytes)) formed-bytes) in
       ap bytesOf (written-again w (wordsIn bytes) (are-words bytes are) form) ∙ bytes-again bytes are n
 
 -- Two accepted records that are read as the same box are the same.
-pub records-same : (x : Setup) (w : ℕ) (l m : List ℕ) → ((i : ℕ) → getD l i 0 < 256) → ((i : ℕ) → getD m i 0 < 256) → accepts x w l ≡ true → accepts x w m ≡ true
+pub records-same : (x : Setup) (w : ℕ) (l m : List ℕ) → AreBytes l → AreBytes m → accepts x w l ≡ true → accepts x w m ≡ true
     → readRecord l ≡ readRecord m → l ≡ m
 records-same x w l m a b f g e = sym (record-written x w l a f) ∙ ap recordOf e ∙ record-written x w m b g

@@ -4,7 +4,7 @@ ghost use lib.Dec.{eqb};
 ghost use lib.ListN.{length};
 ghost use Rattle.sections.specs.Words.{wordsIn};
 ghost use Rattle.sections.specs.Sections.{sectionAt};
-ghost use Rattle.record_model.specs.Record.{isTransfer, isLoad, areProducts, fixedCounts, freeCounts, hasForm};
+ghost use Rattle.record_model.specs.Record.{isTransfer, isLoad, areProducts, fixedSections, freeSections, hasForm};
 use sections::is_cut;
 use sections::section_at;
 use sections::word_at;
@@ -45,7 +45,7 @@ fn are_products(part: &[u8]) -> bool
 
 // The sections whose count is known.
 fn fixed_counts(bytes: &[u8], words: usize) -> bool
-    ensures { λ r. ⌜ r ≡ fixedCounts words (wordsIn (now (bytes .entry))) ⌝ }
+    ensures { λ r. ⌜ r ≡ fixedSections words (wordsIn (now (bytes .entry))) ⌝ }
 {
     let first = has_count(bytes, 0, 2) & has_count(bytes, 1, 32);
     let next = has_count(bytes, 2, 1) & has_count(bytes, 3, 8);
@@ -54,7 +54,7 @@ fn fixed_counts(bytes: &[u8], words: usize) -> bool
 
 // Those that may be empty.
 fn free_counts(bytes: &[u8]) -> bool
-    ensures { λ r. ⌜ r ≡ freeCounts (wordsIn (now (bytes .entry))) ⌝ }
+    ensures { λ r. ⌜ r ≡ freeSections (wordsIn (now (bytes .entry))) ⌝ }
 {
     let transfer = is_transfer(section_at(bytes, 5));
     let load = is_load(section_at(bytes, 6));

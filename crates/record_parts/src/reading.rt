@@ -5,7 +5,7 @@ ghost use lib.ListN.{getD};
 ghost use Rattle.sections.specs.Words.{wordsIn};
 ghost use Rattle.core_state.specs.State.{predicatesOf};
 ghost use Rattle.products.specs.Products.{product};
-ghost use Rattle.record_model.specs.Record.{specialsIn, transferOf, transferIn, loadIn, productsIn, countAt, countsIn};
+ghost use Rattle.record_model.specs.Record.{specialsIn, transferOf, transferIn, loadIn, productsIn, countAt, countsOfWords};
 use alu_effects::Specials;
 use bundle_model::Counts;
 use core_state::WaitingLoad;
@@ -133,7 +133,7 @@ fn count_at(part: &[u8], i: u32) -> u64
 }
 
 pub fn counts_in(part: &[u8]) -> Counts
-    ensures { λ r. ⌜ r ≡ countsIn (wordsIn (now (part .entry))) ⌝ }
+    ensures { λ r. ⌜ r ≡ countsOfWords (wordsIn (now (part .entry))) ⌝ }
 {
     Counts {
         bundles: count_at(part, 0),

@@ -13,27 +13,27 @@ use Rattle.bundle_model.specs.declared.Counts.{Counts}
 use Rattle.bundle_model.specs.Counts.{noCounts}
 use Rattle.bundle_model.specs.Bundle.{Outcome, step}
 use Rattle.run_model.specs.Run.{run}
-use Rattle.record_model.specs.Record.{Stopped, stopped, recordOf, readRecord, accepts, longest}
+use Rattle.record_model.specs.Record.{Box, box, recordOf, readRecord, accepts, longest}
 
--- What is given back: the answer, the counts of this call, the length of the record written, the memories and the output buffer.
+-- What is given back: the answer, the counts of this call, how many bytes of a record were written, the memories and the output buffer.
 pub record Resumed : Type 0 where
   pub answer : Returned
   pub counts : Counts
-  pub length : ℕ
+  pub written : ℕ
   pub main : List ℕ
   pub local : List ℕ
   pub out : List ℕ
 
 abbrev pub resumedOf : Returned → Counts → ℕ → List ℕ → List ℕ → List ℕ → Resumed
-resumedOf answer counts length main local out = record { answer = answer; counts = counts; length = length; main = main; local = local; out = out }
+resumedOf answer counts written main local out = record { answer = answer; counts = counts; written = written; main = main; local = local; out = out }
 
 -- Turned away: every buffer as found, no record written.
 abbrev pub asFound : ℕ → List ℕ → List ℕ → List ℕ → Resumed
 asFound n main local out = resumedOf (refused n) noCounts 0 main local out
 
 -- The box that an outcome leaves, and what is given back of the outcome: its record over the output buffer, which past it keeps its rest.
-abbrev pub boxOf : Outcome → Stopped
-boxOf o = stopped (o .state) (o .buffers .cache) (o .counts)
+abbrev pub boxOf : Outcome → Box
+boxOf o = box (o .state) (o .buffers .cache) (o .counts)
 
 abbrev pub handedOut : Outcome → List ℕ → Resumed
 handedOut o out = resumedOf (o .answer) (o .counts) (length (recordOf (boxOf o))) (o .buffers .main) (o .buffers .local) (over out (recordOf (boxOf o)))

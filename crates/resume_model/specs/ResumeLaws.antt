@@ -24,12 +24,12 @@ use Rattle.run_model.specs.RunLaws.{run-shaped, run-well-formed}
 use Rattle.run_model.specs.SplitLaws.{ifSpent, continued, run-split, run-lengths}
 use Rattle.run_model.specs.Loop.{goesOn, ending}
 use Rattle.run_model.specs.LoopLaws.{run-advanced}
-use Rattle.record_model.specs.Record.{Stopped, stopped, recordOf, readRecord, accepts, longest, InWords}
+use Rattle.record_model.specs.Record.{Box, box, recordOf, readRecord, accepts, longest, InWords}
 use Rattle.record_model.specs.RecordLaws.{record-read, record-accepted}
 use Rattle.resume_model.specs.Resume.{Resumed, boxOf, handedOut, fromRecord, resumed}
 
 -- What goes on from the record of a box goes on from the box.
-pub from-box : (go : State → Buffers → Outcome) (x : Setup) (p : Stopped) (main local out : List ℕ) → InWords p → Shaped (p .state) → wellFormed x (p .state) ≡ true
+pub from-box : (go : State → Buffers → Outcome) (x : Setup) (p : Box) (main local out : List ℕ) → InWords p → Shaped (p .state) → wellFormed x (p .state) ≡ true
     → admits (settings x (length main) (length local) (length (p .cache))) ≡ true → longest (length (p .cache)) ≤ length out
     → fromRecord go x (length (p .cache)) (recordOf p) main local out ≡ handedOut (go (p .state) (buffers main local (p .cache))) out
 unfolding fromRecord
@@ -37,7 +37,7 @@ from-box go x p main local out words shaped well admitted room =
     let g = settings x (length main) (length local) (length (p .cache)) in
     let capacity = capacity-ok g admitted in
     rw (admitted, le-ltb (length out) (longest (length (p .cache))) room, record-accepted x p words shaped capacity well)
-    (ap (λ (q : Stopped). handedOut (go (q .state) (buffers main local (q .cache))) out) (record-read x p words shaped capacity well))
+    (ap (λ (q : Box). handedOut (go (q .state) (buffers main local (q .cache))) out) (record-read x p words shaped capacity well))
 
 -- From the record of a run, whatever it answered, a run with a budget does what it does from the state and buffers that the first one left.
 module _ (x : Setup) (m n : ℕ) (s : State) (b : Buffers) (out : List ℕ) (shaped : Shaped s) (words : InWords (boxOf (run x m s b))) (room : longest (length (b .cache)) ≤ length out) where
@@ -71,7 +71,7 @@ pub record CarriedOn (whole : Outcome) (before : Counts) (out : List ℕ) (r : R
   pub main : r .main ≡ whole .buffers .main
   pub local : r .local ≡ whole .buffers .local
   pub counts : plus before (r .counts) ≡ whole .counts
-  pub record-out : r .out ≡ over out (recordOf (stopped (whole .state) (whole .buffers .cache) (r .counts)))
+  pub record-out : r .out ≡ over out (recordOf (box (whole .state) (whole .buffers .cache) (r .counts)))
 
 -- For every state and every setting: that the first run was spent says all that is needed of them but that the state has 32 registers and
 -- 8 predicates and its numbers are words, as those of the type have.
@@ -92,5 +92,5 @@ never-stopped x m n s b out shaped words room e =
       counts = ap (λ (r : Resumed). plus (o .counts) (r .counts)) next ∙ sym (ap (λ (y : Outcome). y .counts) split);
       record-out =
           ap (λ (r : Resumed). r .out) next
-          ∙ (λ i. over out (recordOf (stopped (sym (ap (λ (y : Outcome). y .state) split) i) (sym (ap (λ (y : Outcome). y .buffers .cache) split) i) (sym (ap (λ (r : Resumed). r .counts) next) i))));
+          ∙ (λ i. over out (recordOf (box (sym (ap (λ (y : Outcome). y .state) split) i) (sym (ap (λ (y : Outcome). y .buffers .cache) split) i) (sym (ap (λ (r : Resumed). r .counts) next) i))));
     }

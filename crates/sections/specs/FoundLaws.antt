@@ -110,10 +110,9 @@ behind-next (suc k) [] p = sym (behind-none (suc k - 1))
 behind-next (suc k) (n ∷ l) p = ap (λ (j : ℕ). behind j (drop n l)) (sym (less k))
 
 pub cut-next : (k : ℕ) (l : List ℕ) → 0 < k → isCut k l ≡ hasFirst l && isCut (k - 1) (behind 1 l)
-unfolding isCut behind
+unfolding isCut
 cut-next zero l p = absurd (omega arith)
-cut-next (suc k) [] p = refl
-cut-next (suc k) (n ∷ l) p = ap (λ (j : ℕ). leb n (length l) && isCut j (drop n l)) (sym (less k))
+cut-next (suc k) l p = ap (λ (j : ℕ). hasFirst l && isCut j (behind 1 l)) (sym (less k))
 
 pub cut-end : (k : ℕ) (l : List ℕ) → k ≤ 0 → isCut k (wordsIn l) ≡ ltb (length l) 4
 unfolding isCut

@@ -2,7 +2,7 @@
 -- sections, whatever they hold.
 use Prim.Native.Nat.{ℕ, zero, suc, _+_, _^_, _<_, min}
 use mathlib.Core.Bool.{Bool, true, false, false≢true, _&&_}
-use mathlib.Core.List.{List, [], _∷_, _++_}
+use mathlib.Core.List.{List, [], _∷_, _++_, append-assoc}
 use mathlib.Core.Path.{_≡_, refl, sym, ap, _∙_}
 use native.Mathlib.Omega.{arith}
 use borrow.Author.Tests.{leb-true, le-leb, ltb-true, ltb-false}
@@ -11,7 +11,7 @@ use lib.ListN.{length, getD, take, drop, length-append, length-take, take-append
 use lib.Seq.{length-take-le, take-append-seam, drop-append-seam, getD-take, getD-drop}
 use Rattle.word.specs.BoolLaws.{and-left, and-right}
 use Rattle.sections.specs.Words.{AreWords}
-use Rattle.sections.specs.Sections.{section, joined, isCut, behind, wordsOfFirst, sectionAt, sectionsFrom}
+use Rattle.sections.specs.Sections.{section, joined, isCut, behind, wordsOfFirst, sectionAt}
 
 -- Behind a section more.
 pub behind-none : (k : ℕ) → behind k [] ≡ []
@@ -26,7 +26,11 @@ behind-suc zero (n ∷ l) = refl
 behind-suc (suc k) [] = refl
 behind-suc (suc k) (n ∷ l) = behind-suc k (drop n l)
 
--- What is cut into sections is these, joined.
+-- The k sections from a place on. What is cut into sections is these, joined.
+unfoldable pub sectionsFrom : ℕ → ℕ → List ℕ → List (List ℕ)
+sectionsFrom at zero l = []
+sectionsFrom at (suc k) l = sectionAt at l ∷ sectionsFrom (suc at) k l
+
 cut-joined : (at k : ℕ) (l m : List ℕ) → behind at l ≡ m → isCut k m ≡ true → joined (sectionsFrom at k l) ≡ m
 unfolding joined isCut sectionsFrom sectionAt behind
 cut-joined at zero l [] e c = refl
@@ -45,7 +49,7 @@ joined-again k l c = cut-joined 0 k l l refl c
 
 -- What is joined can be cut, and has its sections at their places.
 pub joined-cut : (ws : List (List ℕ)) → isCut (length ws) (joined ws) ≡ true
-unfolding joined isCut
+unfolding joined isCut behind
 joined-cut [] = refl
 joined-cut (w ∷ ws) =
     rw (le-leb (length w) (length (w ++ joined ws)) (omega (arith, length-append w (joined ws))), drop-append-seam w (joined ws)) (joined-cut ws)
@@ -78,3 +82,9 @@ section-words zero [] h = h
 section-words zero (n ∷ l) h = words-taken n l (λ i. h (suc i))
 section-words (suc k) [] h = h
 section-words (suc k) (n ∷ l) h = section-words k (drop n l) (words-dropped n l (λ i. h (suc i)))
+
+-- Sections joined in two goes.
+pub joined-append : (xs ys : List (List ℕ)) → joined (xs ++ ys) ≡ joined xs ++ joined ys
+unfolding joined
+joined-append [] ys = refl
+joined-append (x ∷ xs) ys = ap (λ (l : List ℕ). section x ++ l) (joined-append xs ys) ∙ sym (append-assoc (section x) (joined xs) (joined ys))

@@ -12,17 +12,6 @@ unfoldable pub joined : List (List ℕ) → List ℕ
 joined [] = []
 joined (ws ∷ others) = section ws ++ joined others
 
--- Whether words are k sections with nothing behind them: no count reaches past the end.
-unfoldable pub isCut : ℕ → List ℕ → Bool
-isCut zero [] = true
-isCut zero (n ∷ l) = false
-isCut (suc k) [] = false
-isCut (suc k) (n ∷ l) = leb n (length l) && isCut k (drop n l)
-
-abbrev pub hasFirst : List ℕ → Bool
-hasFirst [] = false
-hasFirst (n ∷ l) = leb n (length l)
-
 -- What stands behind the first k sections, the words of the section at the beginning, and those of the section at a place, the first at 0.
 -- Where there is none it has no words.
 unfoldable pub behind : ℕ → List ℕ → List ℕ
@@ -37,7 +26,12 @@ wordsOfFirst (n ∷ l) = take n l
 unfoldable pub sectionAt : ℕ → List ℕ → List ℕ
 sectionAt k l = wordsOfFirst (behind k l)
 
--- The k sections from a place on.
-unfoldable pub sectionsFrom : ℕ → ℕ → List ℕ → List (List ℕ)
-sectionsFrom at zero l = []
-sectionsFrom at (suc k) l = sectionAt at l ∷ sectionsFrom (suc at) k l
+-- Whether words are k sections with nothing behind them: no count reaches past the end.
+abbrev pub hasFirst : List ℕ → Bool
+hasFirst [] = false
+hasFirst (n ∷ l) = leb n (length l)
+
+unfoldable pub isCut : ℕ → List ℕ → Bool
+isCut zero [] = true
+isCut zero (n ∷ l) = false
+isCut (suc k) l = hasFirst l && isCut k (behind 1 l)

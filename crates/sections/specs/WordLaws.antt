@@ -12,7 +12,7 @@ use lib.ListN.{length, getD, take, drop, set, replicate, length-drop, length-app
 use lib.Seq.{length-take-le, getD-take, getD-drop, drop-drop, drop-at}
 use Rattle.big_endian.specs.Bytes.{wordAt, putNumber, putWord}
 use Rattle.big_endian.specs.BytesLaws.{number-4, put-4, number-same, number-put, number-bound, length-putNumber}
-use Rattle.sections.specs.Words.{bytesOf, wordsFrom, wordsIn, AreWords, putWords, over}
+use Rattle.sections.specs.Words.{bytesOf, wordsFrom, wordsIn, AreBytes, AreWords, putWords, over}
 
 -- The four bytes of a word, and the word in any four.
 put-four : (w : ℕ) → putWord (replicate 4 0) 0 w ≡ w / 16777216 % 256 ∷ w / 65536 % 256 ∷ w / 256 % 256 ∷ w % 256 ∷ []
@@ -60,7 +60,7 @@ words-again ws h =
     let n : length (bytesOf ws) / 4 ≡ length ws = omega (arith, bytes-length ws) in
     ap (λ (k : ℕ). wordsFrom k (bytesOf ws)) n ∙ words-of-bytes ws h
 
-pub bytes-of-words : (k : ℕ) (l : List ℕ) → ((i : ℕ) → getD l i 0 < 256) → length l ≡ 4 * k → bytesOf (wordsFrom k l) ≡ l
+pub bytes-of-words : (k : ℕ) (l : List ℕ) → AreBytes l → length l ≡ 4 * k → bytesOf (wordsFrom k l) ≡ l
 unfolding bytesOf wordsFrom
 bytes-of-words zero [] h e = refl
 bytes-of-words zero (a ∷ l) h e = absurd (omega (arith, e))
@@ -73,7 +73,7 @@ bytes-of-words (suc k) (a ∷ b ∷ c ∷ d ∷ l) h e =
     ∙ ap (λ (f : List ℕ). f ++ bytesOf (wordsFrom k l)) (put-digits a b c d (h 0) (h 1) (h 2) (h 3))
     ∙ ap (λ (m : List ℕ). a ∷ b ∷ c ∷ d ∷ m) (bytes-of-words k l (λ i. h (suc (suc (suc (suc i))))) (omega (arith, e)))
 
-pub bytes-again : (l : List ℕ) → ((i : ℕ) → getD l i 0 < 256) → length l % 4 ≡ 0 → bytesOf (wordsIn l) ≡ l
+pub bytes-again : (l : List ℕ) → AreBytes l → length l % 4 ≡ 0 → bytesOf (wordsIn l) ≡ l
 unfolding wordsIn
 bytes-again l h e = bytes-of-words (length l / 4) l h (omega (arith, e))
 
@@ -104,7 +104,7 @@ pub word-at : (l : List ℕ) (i : ℕ) → i < length (wordsIn l) → getD (word
 unfolding wordsIn
 word-at l i p = from-at (length l / 4) l i (omega (arith, from-length (length l / 4) l, p))
 
-pub are-words : (l : List ℕ) → ((i : ℕ) → getD l i 0 < 256) → AreWords (wordsIn l)
+pub are-words : (l : List ℕ) → AreBytes l → AreWords (wordsIn l)
 are-words l h i = go (ltb i (length (wordsIn l))) refl
   where
     go : (t : Bool) → ltb i (length (wordsIn l)) ≡ t → getD (wordsIn l) i 0 < 2 ^ 32

@@ -17,7 +17,10 @@ wordsFrom (suc k) bytes = wordAt bytes 0 ∷ wordsFrom k (drop 4 bytes)
 unfoldable pub wordsIn : List ℕ → List ℕ
 wordsIn bytes = wordsFrom (length bytes / 4) bytes
 
--- Words are numbers below 2 ^ 32.
+-- Bytes are numbers below 256, and words below 2 ^ 32.
+abbrev pub AreBytes : List ℕ → Type 0
+AreBytes l = (i : ℕ) → getD l i 0 < 256
+
 abbrev pub AreWords : List ℕ → Type 0
 AreWords l = (i : ℕ) → getD l i 0 < 2 ^ 32
 

@@ -1,4 +1,4 @@
-use Rattle.record_model.specs.Record.{countWords}
+use Rattle.record_model.specs.Record.{countSection}
 use native.Mathlib.Omega.{arith}
 use mathlib.Core.Path.{_≡_, refl, sym, ap, subst, _∙_}
 use denote.Ref.{now}
@@ -60,7 +60,7 @@ lower-requires-6 c κs = search needs
 
 -- src/writing.rt:101:1
 returns : tie.Need-returns
-unfolding countWords
+unfolding countSection
 returns c = rw (c .before .before .before .before .before .before .before .before .before .before .before .upper .ensures, c .before .before .before .before .before .before .before .before .before .before .lower .ensures, c .before .before .before .before .before .before .before .before .before .upper2 .ensures, c .before .before .before .before .before .before .before .before .lower2 .ensures, c .before .before .before .before .before .before .before .upper3 .ensures, c .before .before .before .before .before .before .lower3 .ensures, c .before .before .before .before .before .upper4 .ensures, c .before .before .before .before .lower4 .ensures, c .before .before .before .upper5 .ensures, c .before .before .lower5 .ensures, c .before .upper6 .ensures, c .lower6 .ensures)
 
 pub count-words-spec : {M : Type 1} → statement M

@@ -1,5 +1,5 @@
 use Rattle.core_state.specs.declared.WaitingLoad.{WaitingLoad}
-use Rattle.record_model.specs.Record.{loadWords}
+use Rattle.record_model.specs.Record.{loadSection}
 use Rattle.record_parts.specs.Few.{Holds}
 use native.Mathlib.Omega.{arith}
 use mathlib.Core.Path.{_≡_, refl, sym, ap, subst, _∙_}
@@ -20,12 +20,12 @@ enum-known-l c = search needs
 
 -- src/writing.rt:47:1
 returns : tie.Need-returns
-unfolding loadWords
-returns c = subst (λ (l : WaitingLoad). Holds _ (loadWords l)) (sym (c .enum-told .given .1)) (record { words = refl; room = omega arith })
+unfolding loadSection
+returns c = subst (λ (l : WaitingLoad). Holds _ (loadSection l)) (sym (c .enum-told .given .1)) (record { words = refl; room = omega arith })
 
 -- src/writing.rt:47:1
 returns-2 : tie.Need-returns-2
-unfolding loadWords
+unfolding loadSection
 returns-2 c = rw (c .before .l .given .1) (record { words = refl; room = omega arith })
 
 pub load-words-spec : {M : Type 1} → statement M

@@ -1,4 +1,4 @@
-use Rattle.record_model.specs.Record.{productWords}
+use Rattle.record_model.specs.Record.{productSection}
 use Rattle.products.specs.declared.Products.{Products}
 use Rattle.record_parts.specs.Few.{Holds}
 use native.Mathlib.Omega.{arith}
@@ -29,12 +29,12 @@ two-products-requires c κs = search needs
 
 -- src/writing.rt:73:1
 returns : tie.Need-returns
-unfolding productWords
-returns c = subst (λ (p : Products). Holds _ (productWords p)) (sym (c .enum-told .given .1)) (record { words = refl; room = omega arith })
+unfolding productSection
+returns c = subst (λ (p : Products). Holds _ (productSection p)) (sym (c .enum-told .given .1)) (record { words = refl; room = omega arith })
 
 -- src/writing.rt:73:1
 returns-2 : tie.Need-returns-2
-unfolding productWords
+unfolding productSection
 returns-2 c = rw (c .before .p .given .1) (record { words = refl; room = omega arith })
 
 -- src/writing.rt:73:1

@@ -1,4 +1,4 @@
-use Rattle.record_model.specs.Record.{transferWords}
+use Rattle.record_model.specs.Record.{transferSection}
 use Rattle.effects.specs.declared.Transfer.{Transfer}
 use Rattle.core_state.specs.declared.WaitingTransfer.the-variants as transfer
 use Rattle.core_state.specs.declared.WaitingTransfer.{WaitingTransfer}
@@ -27,8 +27,8 @@ waiting-words-requires c κs = search needs
 
 -- src/writing.rt:35:1
 returns : tie.Need-returns
-unfolding transferWords
-returns c = subst (λ (w : WaitingTransfer). Holds _ (transferWords w)) (sym (c .enum-told .given .1)) (record { words = refl; room = omega arith })
+unfolding transferSection
+returns c = subst (λ (w : WaitingTransfer). Holds _ (transferSection w)) (sym (c .enum-told .given .1)) (record { words = refl; room = omega arith })
 
 -- src/writing.rt:35:1
 returns-2 : tie.Need-returns-2

@@ -1,6 +1,6 @@
 use mathlib.Core.List.{List, [], _∷_}
 use Prim.Native.Nat.{ℕ}
-use Rattle.record_model.specs.Record.{productWords}
+use Rattle.record_model.specs.Record.{productSection}
 use Rattle.record_parts.specs.Few.{Holds}
 use native.Mathlib.Omega.{arith}
 use mathlib.Core.Path.{_≡_, refl, sym, ap, subst, _∙_}
@@ -18,7 +18,7 @@ add-requires c κs = search needs
 
 -- src/writing.rt:63:1
 returns : tie.Need-returns
-unfolding productWords
+unfolding productSection
 returns c = let p = c .before .args .p in let q = c .before .args .q in record { words = ap (λ (w : ℕ). p .wait ∷ p .low ∷ p .high ∷ w ∷ q .low ∷ q .high ∷ []) (c .add .ensures); room = omega arith }
 
 pub two-products-spec : {M : Type 1} → statement M

@@ -1,4 +1,4 @@
-use Rattle.record_model.specs.Record.{transferWords}
+use Rattle.record_model.specs.Record.{transferSection}
 use Rattle.effects.specs.declared.Transfer.{Transfer}
 use Rattle.core_state.specs.declared.WaitingTransfer.the-variants as transfer
 use Rattle.core_state.specs.declared.WaitingTransfer.{WaitingTransfer}
@@ -26,17 +26,17 @@ enum-known-t-3 c = search needs
 
 -- src/writing.rt:16:1
 returns : tie.Need-returns
-unfolding transferWords
+unfolding transferSection
 returns c = rw (c .before .t .given .1) (record { words = refl; room = omega arith })
 
 -- src/writing.rt:16:1
 returns-2 : tie.Need-returns-2
-unfolding transferWords
+unfolding transferSection
 returns-2 c = rw (c .before .t2 .given .1) (record { words = refl; room = omega arith })
 
 -- src/writing.rt:16:1
 returns-3 : tie.Need-returns-3
-unfolding transferWords
+unfolding transferSection
 returns-3 c = rw (c .before .t3 .given .1) (record { words = refl; room = omega arith })
 
 pub waiting-words-spec : {M : Type 1} → statement M
