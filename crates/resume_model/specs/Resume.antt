@@ -2,9 +2,9 @@
 use Prim.Native.Nat.{ℕ}
 use mathlib.Core.Bool.{not, cond, _||_}
 use mathlib.Core.List.{List}
-use lib.Dec.{ltb}
+use lib.Dec.{eqb, ltb}
 use lib.ListN.{length}
-use Rattle.answers.specs.Answer.{Returned, refused}
+use Rattle.answers.specs.Answer.{Returned, done, refused}
 use Rattle.settings.specs.Setup.{Setup, Buffers, buffers, settings}
 use Rattle.settings.specs.Settings.{admits}
 use Rattle.sections.specs.Words.{over}
@@ -52,3 +52,7 @@ restepped x = fromRecord (step x) x
 
 abbrev pub resumed : Setup → ℕ → ℕ → List ℕ → List ℕ → List ℕ → List ℕ → Resumed
 resumed x budget = fromRecord (run x budget) x
+
+-- What a step answers where a run with a budget of 1 answers so: done if it has done its bundle.
+unfoldable pub asStep : Returned → ℕ → Returned
+asStep a bundles = cond (eqb bundles 1) done a

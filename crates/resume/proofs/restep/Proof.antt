@@ -1,0 +1,56 @@
+use Rattle.resume_model.specs.StepLaws.{asStepped, restep-resume}
+use Rattle.resume_model.specs.Resume.{Resumed, resumedOf, asStep}
+use Rattle.answers.specs.Answer.{Returned}
+use Rattle.resume_model.specs.Resume.{resumed, restepped}
+use Rattle.settings.specs.Settings.{admits}
+use Rattle.settings.specs.Setup.{setup, settings}
+use mathlib.Core.Bool.{Bool, true, false}
+use borrow.Author.Tests.{eq-eqb, ne-eqb, not-true, not-false}
+use Prim.Native.Nat.{ℕ, _≤_}
+use lib.ListN.{length}
+use native.Mathlib.Omega.{arith}
+use mathlib.Core.Path.{_≡_, refl, sym, ap, subst, _∙_}
+use mathlib.Core.List.{List}
+use denote.Ref.{now}
+use borrow.Author.Needs.{needs}
+use Rattle.resume.proofs.restep.Statement.{statement}
+use Rattle.resume.proofs.restep.Tie as tie
+use Rattle.resume.proofs.restep.Reads as reads
+use Rattle.resume.proofs.restep.Lts as lts
+use Rattle.resume.proofs.as_step.Reads as as-step-reads
+use Rattle.resume.proofs.resume.Reads as resume-reads
+
+-- src/lib.rt:171:9
+resume-requires : tie.Need-resume-requires
+resume-requires c κs = search needs
+
+-- src/lib.rt:184:17
+as-step-requires : tie.Need-as-step-requires
+as-step-requires c κs = search needs
+
+-- src/lib.rt:160:1
+same-length : tie.Need-same-length
+same-length c = search needs
+
+-- src/lib.rt:160:1
+same-length-2 : tie.Need-same-length-2
+same-length-2 c = search needs
+
+-- src/lib.rt:160:1
+same-length-3 : tie.Need-same-length-3
+same-length-3 c = search needs
+
+-- src/lib.rt:160:1
+returns : tie.Need-returns
+returns c =
+    let a = c .before .before .before .before .before .before .before .before .before .before .before .before .before .before .before .before .before .args in
+    let x = setup (now (a .code)) (a .config) in
+    let r = c .before .before .before .before .before .before .before .before .resume in
+    ap (λ (y : Returned). resumedOf y (r .result .counts) (r .result .written) (r .last .1 .1 .0) (r .last .1 .1 .1 .0) (r .last .1 .1 .1 .1 .0)) (c .as-step .ensures)
+    ∙ ap asStepped (r .ensures)
+    ∙ sym (restep-resume x (a .words) (now (a .bytes)) (now (a .main)) (now (a .local)) (now (a .out)))
+
+pub restep-spec : {M : Type 1} → statement M
+restep-spec =
+    tie.close
+    (tie.spec resume-requires as-step-requires same-length same-length-2 same-length-3 returns)

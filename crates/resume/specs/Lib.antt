@@ -1,0 +1,3 @@
+-- Open first: Resumed.antt.
+pub mod Resumed
+pub mod GoingLaws
