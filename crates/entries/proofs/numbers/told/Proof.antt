@@ -1,0 +1,58 @@
+use Rattle.entries.specs.Entries.{checkNumber, checkAddress, letterTold, brokenBy, letterOf, Told, letter-broken, no-letter}
+use Rattle.single_path.specs.Check.{returned as checkReturned, letterBroken}
+use Rattle.single_path.specs.declared.Checked.{Checked}
+use Rattle.marking.specs.declared.Marking.{Marking}
+use Rattle.fetch.specs.Fetch.{bundleAt}
+use lib.Dec.{eqb}
+use borrow.Author.Tests.{ne-eqb, not-true}
+use Prim.Native.Nat.{ℕ, _-_, _≤_}
+use native.Mathlib.Omega.{arith}
+use mathlib.Core.Bool.{Bool, true, false}
+use mathlib.Core.Path.{_≡_, refl, sym, ap, subst, _∙_}
+use mathlib.Core.List.{List, [], _++_}
+use denote.Ref.{now}
+use borrow.Author.Needs.{needs}
+use Rattle.entries.proofs.numbers.told.Statement.{statement}
+use Rattle.entries.proofs.numbers.told.Tie as tie
+use Rattle.entries.proofs.numbers.told.Reads as reads
+use Rattle.entries.proofs.numbers.told.Lts as lts
+use Rattle.entries.proofs.numbers.letter_of.Reads as letter-of-reads
+
+-- src/numbers.rt:90:30
+enum-told : tie.Need-enum-told
+enum-told c = search needs
+
+-- src/numbers.rt:95:28
+enum-known-c : tie.Need-enum-known-c
+enum-known-c c = search needs
+
+-- src/numbers.rt:100:27
+enum-known-c-2 : tie.Need-enum-known-c-2
+enum-known-c-2 c = search needs
+
+-- src/numbers.rt:103:19
+letter-of-requires : tie.Need-letter-of-requires
+letter-of-requires c κs = search needs
+
+-- src/numbers.rt:86:1
+returns : tie.Need-returns
+unfolding checkNumber checkAddress letterTold
+returns c = λ m code h. rw (c .enum-told .given .1) (record { answer = refl; address = refl; letter = refl })
+
+-- src/numbers.rt:86:1
+returns-2 : tie.Need-returns-2
+unfolding checkNumber checkAddress letterTold
+returns-2 c = λ m code h. let h2 = ap (letterBroken m code) (sym (c .before .c .given .1)) ∙ h in rw (c .before .c .given .1) (record { answer = refl; address = refl; letter = no-letter m code (c .before .c .given .0 .0) (c .before .c .given .0 .1 .0) h2 })
+
+-- src/numbers.rt:86:1
+returns-3 : tie.Need-returns-3
+unfolding checkNumber checkAddress letterTold
+returns-3 c = λ m code h.
+    let h2 = ap (letterBroken m code) (sym (c .before .before .c2 .given .1)) ∙ h in
+    rw (c .before .before .c2 .given .1)
+    (record { answer = refl; address = refl; letter = ap (brokenBy m (bundleAt code _)) (c .letter-of .ensures) ∙ letter-broken m (bundleAt code _) _ h2 })
+
+pub told-spec : {M : Type 1} → statement M
+told-spec =
+    tie.close
+    (tie.spec enum-told enum-known-c enum-known-c-2 letter-of-requires returns returns-2 returns-3)

@@ -1,0 +1,3 @@
+-- Open first: Entries.antt.
+pub mod Entries
+pub mod BitLaws
