@@ -1,6 +1,7 @@
 //! A plain interpreter of the Patmos core of document 01, with the late products and the method cache of document 02 (ii) and (iii),
 //! to compare speed with.
 //! Build: rustc -O plain.rs        Use: plain WORKLOAD BUDGET MAINLEN W
+//! compare.rs has it as a module: what is pub is what that program sets and reads.
 //! WORKLOAD is loop, calls, memory, products, methods or all.
 //!
 //! Settings of a workload: the code words below, main memory of MAINLEN bytes, local
@@ -59,73 +60,74 @@ enum Kind {
 }
 
 #[derive(Clone, Copy, PartialEq, Debug)]
-enum Due {
+pub enum Due {
     Br,
     Call,
     Block(u32),
 }
 
 #[derive(Clone, Copy, PartialEq, Debug)]
-struct Waiting {
-    due: Due,
-    target: u32,
-    wait: u32,
+pub struct Waiting {
+    pub due: Due,
+    pub target: u32,
+    pub wait: u32,
 }
 
 #[derive(Clone, Copy, PartialEq, Debug)]
-enum Answer {
+pub enum Answer {
     Done,
     Ended,
     Spent,
     Refused(u32),
 }
 
-#[derive(Clone, Copy, Default)]
-struct Counts {
-    bundles: u64,
-    cycles: u64,
-    spilled: u64,
-    filled: u64,
-    misses: u64,
-    fetched: u64,
+#[derive(Clone, Copy, Default, PartialEq, Debug)]
+pub struct Counts {
+    pub bundles: u64,
+    pub cycles: u64,
+    pub spilled: u64,
+    pub filled: u64,
+    pub misses: u64,
+    pub fetched: u64,
 }
 
 /// The method cache's switch and capacity.
-#[derive(Clone, Copy, Default)]
-struct Method {
-    on: bool,
-    blocks: u32,
-    bytes: u32,
+#[derive(Clone, Copy, Default, Debug)]
+pub struct Method {
+    pub on: bool,
+    pub blocks: u32,
+    pub bytes: u32,
 }
 
-struct Machine {
-    code: Vec<u8>,
-    main: Vec<u8>,
-    local: Vec<u8>,
-    cache: Vec<u32>,
-    lo: u32,
-    hi: u32,
-    method: Method,
-    regs: [u32; 32],
-    preds: [bool; 8],
-    sl: u32,
-    sh: u32,
-    ss: u32,
-    st: u32,
-    srb: u32,
-    sro: u32,
-    sxb: u32,
-    sxo: u32,
-    fetch: u32,
-    base: u32,
-    transfer: Option<Waiting>,
-    load: Option<(u32, u32)>,
+#[derive(Clone)]
+pub struct Machine {
+    pub code: Vec<u8>,
+    pub main: Vec<u8>,
+    pub local: Vec<u8>,
+    pub cache: Vec<u32>,
+    pub lo: u32,
+    pub hi: u32,
+    pub method: Method,
+    pub regs: [u32; 32],
+    pub preds: [bool; 8],
+    pub sl: u32,
+    pub sh: u32,
+    pub ss: u32,
+    pub st: u32,
+    pub srb: u32,
+    pub sro: u32,
+    pub sxb: u32,
+    pub sxo: u32,
+    pub fetch: u32,
+    pub base: u32,
+    pub transfer: Option<Waiting>,
+    pub load: Option<(u32, u32)>,
     /// The products under way, sl and sh of each: one lands in the next bundle, one in the bundle after it.
-    soon: Option<(u32, u32)>,
-    later: Option<(u32, u32)>,
+    pub soon: Option<(u32, u32)>,
+    pub later: Option<(u32, u32)>,
     /// The bases of the blocks in the method cache, oldest first.
-    held: Vec<u32>,
-    counts: Counts,
+    pub held: Vec<u32>,
+    pub counts: Counts,
 }
 
 /// What slot two will write.
@@ -211,7 +213,7 @@ fn rs2(w: u32) -> usize {
 
 impl Machine {
     /// The fresh state at an entry, or the number of the refusal.
-    fn open(
+    pub fn open(
         code: Vec<u8>,
         main: Vec<u8>,
         local: Vec<u8>,
@@ -819,7 +821,7 @@ impl Machine {
         Ok(())
     }
 
-    fn step(&mut self) -> Answer {
+    pub fn step(&mut self) -> Answer {
         self.counts = Counts::default();
         if !self.well_formed() {
             return Answer::Refused(11);
@@ -833,7 +835,7 @@ impl Machine {
         }
     }
 
-    fn run(&mut self, budget: u32) -> Answer {
+    pub fn run(&mut self, budget: u32) -> Answer {
         self.counts = Counts::default();
         if !self.well_formed() {
             return Answer::Refused(11);
@@ -866,7 +868,7 @@ fn answer_text(a: Answer) -> String {
     }
 }
 
-fn bytes_of(words: &[u32]) -> Vec<u8> {
+pub fn bytes_of(words: &[u32]) -> Vec<u8> {
     words.iter().flat_map(|w| w.to_be_bytes()).collect()
 }
 

@@ -17,6 +17,9 @@ use Rattle.case_words.specs.declared.TransferKind.{TransferKind}
 use Rattle.case_words.specs.declared.TransferKind.the-variants as TransferKind
 use Rattle.case_file.specs.declared.Line.{Line}
 use Rattle.case_file.specs.declared.Line.the-variants as Line
+use Rattle.case_file.specs.declared.Resumption.{Resumption}
+use Rattle.case_file.specs.declared.Resumption.the-variants as Resumption
+use Rattle.case_file.specs.declared.Room.the-variants as Room
 use Rattle.case_file.specs.declared.Reason.the-variants as Reason
 use Rattle.case_file.specs.declared.TwoNumbers.{TwoNumbers}
 use Rattle.case_file.specs.declared.TwoNumbers.the-variants as TwoNumbers
@@ -66,6 +69,20 @@ pred n bit =
     (cond (ltb 1 bit) (Line.Mistake Reason.NotABit)
     (Line.Pred n (eqb bit 1)))
 
+-- What is handed in of a record, and what one is written into, has at most 8,192 bytes.
+abbrev pub recordRoom : ℕ → Line → Line
+recordRoom n said = cond (leb n 8192) said (Line.Mistake Reason.TooMuchRecord)
+
+unfoldable pub recordBytes : ℕ → Line
+recordBytes n = recordRoom n (Line.RecordBytes n)
+
+unfoldable pub withRoom : Resumption → ℕ → Line
+withRoom asked n = recordRoom n (Line.Resume asked (Room.Bytes n))
+
+-- What goes on from a record, with the room for the one that it leaves, which may be left out.
+abbrev pub roomAfter : List ℕ → ℕ → Resumption → Line
+roomAfter line at asked = cond (isEnd line at) (Line.Resume asked Room.Longest) (number line at (λ n at. end line at (withRoom asked n)))
+
 -- The lines of one number.
 abbrev pub ofNumber : OneNumber → ℕ → Line
 ofNumber OneNumber.Main bytes = Line.Main bytes
@@ -74,6 +91,7 @@ ofNumber OneNumber.Entry address = Line.Entry address
 ofNumber OneNumber.Fetch address = Line.Fetch address
 ofNumber OneNumber.Base address = Line.Base address
 ofNumber OneNumber.Run budget = Line.Run budget
+ofNumber OneNumber.RecordBytes n = recordBytes n
 
 -- The lines of a number and a word. Whether a place is inside its memory is judged at the case's first operation.
 abbrev pub ofWord : NumberAndWord → ℕ → ℕ → Line
@@ -120,6 +138,10 @@ lineAfter line at Keyword.Product =
     number line at (λ wait at. word line at (λ low at. word line at (λ high at. end line at (Line.Product wait low high))))
 lineAfter line at Keyword.Method = twoNumbers line at (ofTwo TwoNumbers.Method)
 lineAfter line at Keyword.Held = list line at (Line.Held at)
+lineAfter line at Keyword.Record = list line at (Line.Record at)
+lineAfter line at Keyword.Save = end line at Line.Save
+lineAfter line at Keyword.Resume = number line at (λ budget at. roomAfter line at (Resumption.Run budget))
+lineAfter line at Keyword.Restep = roomAfter line at Resumption.Step
 lineAfter line at Keyword.Unknown = Line.Mistake Reason.UnknownWord
 
 -- What a line says: nothing, or by its first field.

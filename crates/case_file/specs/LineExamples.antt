@@ -4,14 +4,16 @@ use mathlib.Core.List.{List, [], _∷_}
 use mathlib.Core.Path.{_≡_, refl}
 use Prim.Native.String as Text
 use Rattle.case_file.specs.declared.Line.{Line}
-use Rattle.case_file.specs.declared.Line.the-variants.{Empty, Mistake, Case, Code, Private, Main, Local, Stack, Entry, Fetch, Base, Reg, Pred, Special, Br, Call, Block, Load, MainWord, LocalWord, CacheWord, Run, Step, Check, Write, Listing, Product, Method, Held}
+use Rattle.case_file.specs.declared.Line.the-variants.{Empty, Mistake, Case, Code, Private, Main, Local, Stack, Entry, Fetch, Base, Reg, Pred, Special, Br, Call, Block, Load, MainWord, LocalWord, CacheWord, Run, Step, Check, Write, Listing, Product, Method, Held, Record, RecordBytes, Save, Resume}
 use Rattle.case_words.specs.declared.SpecialName.the-variants.{Sro}
+use Rattle.case_file.specs.declared.Resumption.the-variants as Resumption
+use Rattle.case_file.specs.declared.Room.the-variants as Room
 use Rattle.case_file.specs.declared.Reason.the-variants as Reason
 use Rattle.text.specs.Field.{spaces, fieldLength, fieldFrom, sameBytes, isNameByte, areNameBytes, isName}
 use Rattle.text.specs.Number.{digit, numberFrom, decimalOf, wordOf}
 use Rattle.case_words.specs.Names.{bytes, lookUp, keywords, transferKinds, specialNames}
 use Rattle.case_file.specs.Arguments.{isEnd, argumentAt}
-use Rattle.case_file.specs.Line.{reg, pred, transfer, lineAfter, lineOf}
+use Rattle.case_file.specs.Line.{reg, pred, recordBytes, withRoom, transfer, lineAfter, lineOf}
 
 -- What each line is read as.
 abbrev pub saysOf : List (Text.String × Line) → List Line
@@ -22,7 +24,7 @@ abbrev pub expected : List (Text.String × Line) → List Line
 expected [] = []
 expected ((w, l) ∷ rows) = l ∷ expected rows
 
--- The rows in the order of the format. The numbers of a case, code, private or held line are positions in the line.
+-- The rows in the order of the format. The numbers of a case, code, private, held or record line are positions in the line.
 unfoldable pub rows : List (Text.String × Line)
 rows =
     ("case bunch-split.2", Case 5)
@@ -54,6 +56,13 @@ rows =
     ∷ ("product 2 0000002A FFFFFFFF", Product 2 42 4294967295)
     ∷ ("method 16 4294967295", Method 16 4294967295)
     ∷ ("held 8 64", Held 4)
+    ∷ ("record 00000002 00000000", Record 6)
+    ∷ ("recordbytes 8192", RecordBytes 8192)
+    ∷ ("save", Save)
+    ∷ ("resume 5", Resume (Resumption.Run 5) Room.Longest)
+    ∷ ("resume 4294967295 388", Resume (Resumption.Run 4294967295) (Room.Bytes 388))
+    ∷ ("restep", Resume Resumption.Step Room.Longest)
+    ∷ ("restep 0", Resume Resumption.Step (Room.Bytes 0))
     ∷ []
 
 -- Spaces, comments, and what has no meaning.
@@ -82,12 +91,17 @@ others =
     ∷ ("list 0", Mistake Reason.FieldTooMany)
     ∷ ("method 16", Mistake Reason.FieldMissing)
     ∷ ("held", Mistake Reason.FieldMissing)
+    ∷ ("record", Mistake Reason.FieldMissing)
+    ∷ ("recordbytes 8193", Mistake Reason.TooMuchRecord)
+    ∷ ("resume", Mistake Reason.FieldMissing)
+    ∷ ("resume 5 8193", Mistake Reason.TooMuchRecord)
+    ∷ ("restep 388 5", Mistake Reason.FieldTooMany)
     ∷ []
 
 pub rows-read : saysOf rows ≡ expected rows
-unfolding rows spaces fieldLength fieldFrom sameBytes isNameByte areNameBytes isName digit numberFrom decimalOf wordOf lookUp keywords transferKinds specialNames isEnd argumentAt reg pred transfer lineAfter lineOf
+unfolding rows spaces fieldLength fieldFrom sameBytes isNameByte areNameBytes isName digit numberFrom decimalOf wordOf lookUp keywords transferKinds specialNames isEnd argumentAt reg pred recordBytes withRoom transfer lineAfter lineOf
 rows-read = refl
 
 pub others-read : saysOf others ≡ expected others
-unfolding others spaces fieldLength fieldFrom sameBytes isNameByte areNameBytes isName digit numberFrom decimalOf wordOf lookUp keywords transferKinds specialNames isEnd argumentAt reg pred transfer lineAfter lineOf
+unfolding others spaces fieldLength fieldFrom sameBytes isNameByte areNameBytes isName digit numberFrom decimalOf wordOf lookUp keywords transferKinds specialNames isEnd argumentAt reg pred recordBytes withRoom transfer lineAfter lineOf
 others-read = refl

@@ -1,6 +1,7 @@
 // Case files: what a line says. Nothing here does what a line asks.
 pub mod arguments;
 pub mod lines;
+mod record_lines;
 
 use case_words::Item;
 use case_words::SpecialName;
@@ -11,7 +12,7 @@ pub enum Argument {
     Mistake(Reason),
 }
 
-// The next entry of a code line, or of a held line.
+// The next entry of a code or record line, or of a held line.
 pub enum CodeEntry {
     Word { word: u32, next: usize },
     Mistake(Reason),
@@ -25,7 +26,7 @@ pub enum PrivateEntry {
     End,
 }
 
-// A line by its keyword. Case holds the position of the name, Code, Private and Held that of their lists,
+// A line by its keyword. Case holds the position of the name, Code, Private, Held and Record that of their lists,
 // Write that of the text of a bundle.
 pub enum Line {
     Empty,
@@ -57,6 +58,22 @@ pub enum Line {
     Product { wait: u32, low: u32, high: u32 },
     Method { blocks: u32, bytes: u32 },
     Held { list: usize },
+    Record { list: usize },
+    RecordBytes(u32),
+    Save,
+    Resume { asked: Resumption, room: Room },
+}
+
+// What goes on from a record: a run with a budget, or one step.
+pub enum Resumption {
+    Run(u32),
+    Step,
+}
+
+// The bytes that a record is written into: as many as the longest has, or so many.
+pub enum Room {
+    Longest,
+    Bytes(u32),
 }
 
 // The lines of two numbers.
@@ -96,4 +113,5 @@ pub enum Reason {
     NotAnOffset,
     TooManyProducts,
     TooManyHeld,
+    TooMuchRecord,
 }

@@ -5,10 +5,14 @@ ghost use Rattle.case_file.specs.Line.{end, list, twoNumbers, threeNumbe
 use crate::Argument;
 use crate::Line;
 use crate::Reason;
+use crate::Resumption;
 use crate::TwoNumbers;
 use crate::arguments::ended;
 use crate::arguments::number_field;
 use crate::arguments::word_field;
+use crate::record_lines::record_bytes;
+use crate::record_lines::resume_line;
+use crate::record_lines::room_line;
 use case_words::Keyword;
 use case_words::NumberAndWord;
 use case_words::OneNumber;
@@ -21,7 +25,7 @@ use text::fields::is_name;
 use text::fields::next_field;
 
 // A line with nothing after what it said.
-fn whole(line: &[u8], at: usize, said: Line) -> Line
+pub(crate) fn whole(line: &[u8], at: usize, said: Line) -> Line
     ensures { λ r. ⌜ r ≡ end (now (line .entry)) at said ⌝ }
 {
     if ended(line, at) {
@@ -65,6 +69,7 @@ fn of_number(k: OneNumber, n: u32) -> Line
         OneNumber::Fetch => Line::Fetch(n),
         OneNumber::Base => Line::Base(n),
         OneNumber::Run => Line::Run(n),
+        OneNumber::RecordBytes => record_bytes(n),
     }
 }
 
@@ -263,6 +268,10 @@ fn after_keyword(line: &[u8], at: usize, k: Keyword) -> Line
         Keyword::Product => product_line(line, at),
         Keyword::Method => two_numbers(line, at, TwoNumbers::Method),
         Keyword::Held => list_line(line, at, Line::Held { list: at }),
+        Keyword::Record => list_line(line, at, Line::Record { list: at }),
+        Keyword::Save => whole(line, at, Line::Save),
+        Keyword::Resume => resume_line(line, at),
+        Keyword::Restep => room_line(line, at, Resumption::Step),
         Keyword::Unknown => Line::Mistake(Reason::UnknownWord),
     }
 }

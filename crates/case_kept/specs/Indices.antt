@@ -1,12 +1,12 @@
 -- Where each of the kept numbers stands, under the names of the code, with `-` for `_`.
 use Prim.Native.Nat.{ℕ}
 
--- How many numbers are kept, and where the case's own end.
+-- How many numbers are kept, and where those end that are cleared for a new case.
 abbrev pub ALL : ℕ
-ALL = 150300
+ALL = 152400
 
 abbrev pub CASE-END : ℕ
-CASE-END = 210
+CASE-END = 281
 
 -- The lengths of code and memories, the stack cache's words, the stack area, and the entry.
 abbrev pub CODE : ℕ
@@ -119,6 +119,13 @@ HOLDS = 190
 abbrev pub HELD : ℕ
 HELD = 191
 
+-- The record to go on from: how many bytes of it are handed in, how many words it has, and behind that the words.
+abbrev pub RECORD-BYTES : ℕ
+RECORD-BYTES = 208
+
+abbrev pub RECORD : ℕ
+RECORD = 280
+
 -- How far the places of each store reach, how many are noted, the number of the line, the phase, and the notes.
 abbrev pub REACH : ℕ
 REACH = 176
@@ -127,14 +134,14 @@ abbrev pub NOTED : ℕ
 NOTED = 179
 
 abbrev pub LINE : ℕ
-LINE = 210
+LINE = 2330
 
 abbrev pub PHASE : ℕ
-PHASE = 211
+PHASE = 2331
 
 -- The phase of a report that has ended.
 abbrev pub STOPPED : ℕ
 STOPPED = 4
 
 abbrev pub NOTES : ℕ
-NOTES = 300
+NOTES = 2400

@@ -19,6 +19,11 @@ pub type Cache = [u32; 1026];
 
 pub const CACHE_COPY: usize = 513;
 
+// A record to go on from, or the room for one that is written.
+pub type Record = [u8; 8192];
+
+pub const RECORD_ROOM: usize = 8192;
+
 // What a line of the file has to report, before it is written out. The longest report is that of an operation which changes every
 // word of both memories and of the stack cache: some 683,000 bytes.
 pub type Report = [u8; 1048576];

@@ -4,9 +4,9 @@ ghost use mathlib.Core.Path.{_≡_};
 ghost use Prim.Native.Nat.{_+_};
 ghost use Rattle.case_kept.specs.Kept.{keptNumber, keptWord, isSet, put, flag as flagOf, keptFlags, forgotten};
 
-pub const ALL: usize = 150300;
+pub const ALL: usize = 152400;
 
-pub type Kept = [u64; 150300];
+pub type Kept = [u64; 152400];
 
 // Lengths are in bytes, WORDS is the number of stack cache words.
 pub const CODE: usize = 0;
@@ -92,15 +92,24 @@ pub const HOLDS: usize = 190;
 
 pub const HELD: usize = 191;
 
-// The case's numbers end here. The line and the phase outlast a case.
-pub const CASE_END: usize = 210;
+// How many bytes of the record are handed in, if a line gives that: GIVEN + RECORD_BYTES, which tells, stands behind the counts.
+pub const RECORD_BYTES: usize = 208;
 
-pub const LINE: usize = 210;
+// The six counts of the last run or step, in the order of the report.
+pub const COUNTS: usize = 209;
 
-pub const PHASE: usize = 211;
+// How many words the record has, and behind that up to 2,048 words. Those that it has not need not be cleared.
+pub const RECORD: usize = 280;
+
+// The case's numbers that are cleared end here. The line and the phase outlast a case.
+pub const CASE_END: usize = 281;
+
+pub const LINE: usize = 2330;
+
+pub const PHASE: usize = 2331;
 
 // The notes, three numbers each. There is room in front of them for numbers to come.
-pub const NOTES: usize = 300;
+pub const NOTES: usize = 2400;
 
 // No case has started; a case is described; its state is open; its opening was refused; the report has ended; its places are judged,
 // and its state is not yet open.

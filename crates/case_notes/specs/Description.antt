@@ -8,7 +8,7 @@ use Rattle.case_file.specs.declared.Line.the-variants as Line
 use Rattle.case_file.specs.declared.Reason.the-variants as Reason
 use Rattle.case_words.specs.declared.SpecialName.{SpecialName}
 use Rattle.case_words.specs.declared.SpecialName.the-variants as SpecialName
-use Rattle.case_kept.specs.Indices.{MAIN, LOCAL, WORDS, LO, HI, ENTRY, FETCH, BASE, SPECIALS, TRANSFER, BR, CALL, BLOCK, LOAD, REGISTERS, PREDICATES, GIVEN, PRODUCTS, PRODUCT, METHOD, BLOCKS, BYTES}
+use Rattle.case_kept.specs.Indices.{MAIN, LOCAL, WORDS, LO, HI, ENTRY, FETCH, BASE, SPECIALS, TRANSFER, BR, CALL, BLOCK, LOAD, REGISTERS, PREDICATES, GIVEN, PRODUCTS, PRODUCT, METHOD, BLOCKS, BYTES, RECORD-BYTES}
 use Rattle.case_kept.specs.Kept.{keptNumber, isSet, put, flag}
 use Rattle.case_notes.specs.Waiting.{withTransfer, withLoad, withProduct}
 use Rattle.case_notes.specs.declared.Judged.{Judged}
@@ -124,3 +124,7 @@ given Line.Listing kept = fine kept
 given (Line.Product wait low high) kept = productMore kept wait low high
 given (Line.Method blocks bytes) kept = methodOnce kept blocks bytes
 given (Line.Held list) kept = fine kept
+given (Line.Record list) kept = fine kept
+given (Line.RecordBytes n) kept = numberOnce kept RECORD-BYTES n
+given Line.Save kept = fine kept
+given (Line.Resume asked room) kept = fine kept

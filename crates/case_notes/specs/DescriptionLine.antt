@@ -19,6 +19,8 @@ use Rattle.case_notes.specs.declared.Judged.{Judged}
 use Rattle.case_notes.specs.declared.Judged.the-variants as Judged
 use Rattle.case_notes.specs.Description.{Noted, GREATEST, given}
 use Rattle.case_notes.specs.Marking.{markItems}
+use Rattle.case_notes.specs.declared.Listed.the-variants as Listed
+use Rattle.case_notes.specs.Lists.{taken}
 use Rattle.case_notes.specs.Held.{holdBases}
 use Rattle.case_kept.specs.Places.{lastByte, notePlace}
 use Rattle.case_kept.specs.Clearing.{COPY, putInCopy}
@@ -106,6 +108,7 @@ module _ (line code main local cache kept : List ℕ) where
   describedBy (Line.Code list) = inCode (codeLine line list kept code)
   describedBy (Line.Private list) = inKept (markItems line list kept)
   describedBy (Line.Held list) = inKept (holdBases line list kept)
+  describedBy (Line.Record list) = inKept (taken Listed.Record line list kept)
   describedBy (Line.MainWord address w) = inMain (memoryWord kept Store.Main address w main)
   describedBy (Line.LocalWord address w) = inLocal (memoryWord kept Store.Local address w local)
   describedBy (Line.CacheWord place w) = inCache (cacheWord kept place w cache)
@@ -132,3 +135,6 @@ module _ (line code main local cache kept : List ℕ) where
   describedBy Line.Listing = inKept (given Line.Listing kept)
   describedBy (Line.Product wait low high) = inKept (given (Line.Product wait low high) kept)
   describedBy (Line.Method blocks bytes) = inKept (given (Line.Method blocks bytes) kept)
+  describedBy (Line.RecordBytes n) = inKept (given (Line.RecordBytes n) kept)
+  describedBy Line.Save = inKept (given Line.Save kept)
+  describedBy (Line.Resume asked room) = inKept (given (Line.Resume asked room) kept)

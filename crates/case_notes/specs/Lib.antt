@@ -3,7 +3,10 @@ pub mod Waiting
 pub mod Description
 pub mod Marking
 pub mod MarkingLaws
+pub mod Lists
+pub mod ListsLaws
 pub mod Held
-pub mod HeldLaws
+pub mod Record
+pub mod RecordLaws
 pub mod DescriptionLine
 pub mod DescriptionLineLaws

@@ -26,6 +26,7 @@ use case_kept::kept::METHOD;
 use case_kept::kept::PREDICATES;
 use case_kept::kept::PRODUCT;
 use case_kept::kept::PRODUCTS;
+use case_kept::kept::RECORD_BYTES;
 use case_kept::kept::REGISTERS;
 use case_kept::kept::SPECIALS;
 use case_kept::kept::TRANSFER;
@@ -235,6 +236,7 @@ pub fn give(kept: &mut Kept, said: Line) -> Judged
         Line::Load { number, word } => give_load(&mut *kept, number, word),
         Line::Product { wait, low, high } => give_product(&mut *kept, wait, low, high),
         Line::Method { blocks, bytes } => give_method(&mut *kept, blocks, bytes),
+        Line::RecordBytes(n) => give_once(&mut *kept, RECORD_BYTES, n),
         _ => Judged::Fine,
     }
 }

@@ -2,8 +2,10 @@
 ghost use mathlib.Core.Path.{_≡_};
 ghost use Rattle.case_notes.specs.DescriptionLine.{filled, appended, codeLine, putBelowCopy, memoryWord, cacheWord, described, describedBy};
 use crate::Judged;
+use crate::Listed;
 use crate::description::give;
 use crate::held::hold_bases;
+use crate::lists::take_list;
 use crate::marked::mark_items;
 use big_endian::write_word;
 use case_file::CodeEntry;
@@ -108,6 +110,7 @@ pub fn describe(
         Line::Code { list } => code_line(&mut *kept, line, list, &mut *code),
         Line::Private { list } => mark_items(&mut *kept, line, list),
         Line::Held { list } => hold_bases(&mut *kept, line, list),
+        Line::Record { list } => take_list(&mut *kept, Listed::Record, line, list),
         Line::MainWord { address, word } => {
             memory_word(&mut *kept, Store::Main, address, word, &mut *main)
         }

@@ -2,7 +2,9 @@
 pub mod description;
 pub mod description_line;
 pub mod held;
+mod lists;
 pub mod marked;
+pub mod record;
 pub mod waiting;
 
 use case_file::Reason;
@@ -11,4 +13,10 @@ use case_file::Reason;
 pub enum Judged {
     Fine,
     Mistake(Reason),
+}
+
+// A list that lines of a case give: the bases of the blocks held, or the words of the record.
+pub enum Listed {
+    Held,
+    Record,
 }

@@ -4,6 +4,8 @@ pub mod StateLines
 pub mod Changes
 pub mod ChangesLaws
 pub mod ChangesFit
+pub mod RecordLines
+pub mod RecordLinesLaws
 pub mod Mistake
 pub mod Reasons
 pub mod ReasonLaws

@@ -37,6 +37,7 @@ inWords Reason.NotASpecial = "a special register is expected: s0, sl, sh, ss, st
 inWords Reason.NotAnOffset = "a decimal number from -2147483648 to 2147483647 is expected"
 inWords Reason.TooManyProducts = "a case has at most two product lines"
 inWords Reason.TooManyHeld = "a case has at most 16 held blocks"
+inWords Reason.TooMuchRecord = "a record and the room for one are at most 8192 bytes long"
 
 unfoldable pub reasonText : Reason → List ℕ
 reasonText r = bytes (inWords r)

@@ -36,3 +36,4 @@ reason-row Reason.NotASpecial = refl
 reason-row Reason.NotAnOffset = refl
 reason-row Reason.TooManyProducts = refl
 reason-row Reason.TooManyHeld = refl
+reason-row Reason.TooMuchRecord = refl

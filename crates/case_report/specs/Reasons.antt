@@ -34,6 +34,7 @@ numberOf Reason.NotASpecial = 23
 numberOf Reason.NotAnOffset = 24
 numberOf Reason.TooManyProducts = 25
 numberOf Reason.TooManyHeld = 26
+numberOf Reason.TooMuchRecord = 27
 
 -- All reasons, in the order of their rows.
 unfoldable pub reasons : List Reason
@@ -65,6 +66,7 @@ reasons =
     ∷ Reason.NotAnOffset
     ∷ Reason.TooManyProducts
     ∷ Reason.TooManyHeld
+    ∷ Reason.TooMuchRecord
     ∷ []
 
 unfoldable pub texts : List Reason → List (List ℕ)

@@ -18,7 +18,7 @@ use text::page::put_byte;
 use text::page::put_decimal;
 use text::page::put_two_digits;
 
-fn put_bytes(out: &mut [u8], used: usize, s: &[u8]) -> usize
+pub(crate) fn put_bytes(out: &mut [u8], used: usize, s: &[u8]) -> usize
     ensures { λ r. ⌜ page r (now (out .exit)) ≡ withText (page used (now (out .entry))) (byteTexts (now (s .entry))) ⌝ }
 {
     let mut at = used;

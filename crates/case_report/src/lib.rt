@@ -4,4 +4,5 @@ pub mod form;
 pub mod mistake;
 pub mod output;
 mod reasons;
+pub mod record_lines;
 pub mod state_lines;

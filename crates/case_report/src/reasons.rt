@@ -38,6 +38,7 @@ fn number_of(r: Reason) -> usize
         Reason::NotAnOffset => 24,
         Reason::TooManyProducts => 25,
         Reason::TooManyHeld => 26,
+        Reason::TooMuchRecord => 27,
     }
 }
 
@@ -73,7 +74,8 @@ a predicate is expected, as p3, or !p3 where its negation may stand\n\
 a special register is expected: s0, sl, sh, ss, st, srb, sro, sxb or sxo\n\
 a decimal number from -2147483648 to 2147483647 is expected\n\
 a case has at most two product lines\n\
-a case has at most 16 held blocks\n",
+a case has at most 16 held blocks\n\
+a record and the room for one are at most 8192 bytes long\n",
         number_of(r),
     )
 }

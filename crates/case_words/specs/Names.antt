@@ -75,6 +75,11 @@ keywords =
     ∷ ("product", Keyword.Product)
     ∷ ("method", Keyword.Method)
     ∷ ("held", Keyword.Held)
+    ∷ ("record", Keyword.Record)
+    ∷ ("recordbytes", Keyword.OneNumber OneNumber.RecordBytes)
+    ∷ ("save", Keyword.Save)
+    ∷ ("resume", Keyword.Resume)
+    ∷ ("restep", Keyword.Restep)
     ∷ []
 
 abbrev pub keywordOf : List ℕ → Keyword

@@ -24,6 +24,10 @@ pub enum Keyword {
     Product,
     Method,
     Held,
+    Record,
+    Save,
+    Resume,
+    Restep,
     Unknown,
 }
 
@@ -35,6 +39,7 @@ pub enum OneNumber {
     Fetch,
     Base,
     Run,
+    RecordBytes,
 }
 
 // The keywords that a number and a word follow.
@@ -109,6 +114,11 @@ fn keyword_at(row: usize) -> Keyword
         22 => Keyword::Product,
         23 => Keyword::Method,
         24 => Keyword::Held,
+        25 => Keyword::Record,
+        26 => Keyword::OneNumber(OneNumber::RecordBytes),
+        27 => Keyword::Save,
+        28 => Keyword::Resume,
+        29 => Keyword::Restep,
         _ => Keyword::Unknown,
     }
 }
@@ -120,7 +130,7 @@ pub fn first_word(s: &[u8]) -> Keyword
         b"case\ncode\nmain\nlocal\nstack\nprivate\n\
 entry\nfetch\nbase\nreg\npred\nspecial\ntransfer\nload\n\
 mainword\nlocalword\ncacheword\nrun\nstep\ncheck\nwrite\nlist\nproduct\n\
-method\nheld\n",
+method\nheld\nrecord\nrecordbytes\nsave\nresume\nrestep\n",
         s,
     ))
 }

@@ -1,8 +1,10 @@
 // The state of a case among the kept numbers, and what a run is given beside it.
+use bundle_model::Counts;
 use case_kept::extent::Extents;
 use case_kept::kept::BASE;
 use case_kept::kept::BLOCKS;
 use case_kept::kept::BYTES;
+use case_kept::kept::COUNTS;
 use case_kept::kept::FETCH;
 use case_kept::kept::Kept;
 use case_kept::kept::METHOD;
@@ -11,6 +13,7 @@ use case_kept::kept::REGISTERS;
 use case_kept::kept::SPECIALS;
 use case_kept::kept::flags_of;
 use case_kept::kept::is_set;
+use case_kept::kept::number;
 use case_kept::kept::word;
 use case_state::held_of;
 use case_state::keep_held;
@@ -81,4 +84,25 @@ pub(crate) fn keep_state(kept: &mut Kept, s: State) {
     keep_waiting_load(&mut *kept, load);
     keep_products(&mut *kept, products);
     keep_held(&mut *kept, held);
+}
+
+// The counts of the last run or step: a record of the state has them.
+pub(crate) fn keep_counts(kept: &mut Kept, c: Counts) {
+    kept[COUNTS] = c.bundles;
+    kept[COUNTS + 1] = c.cycles;
+    kept[COUNTS + 2] = c.spilled;
+    kept[COUNTS + 3] = c.filled;
+    kept[COUNTS + 4] = c.misses;
+    kept[COUNTS + 5] = c.fetched;
+}
+
+pub(crate) fn counts_of(kept: &Kept) -> Counts {
+    Counts {
+        bundles: number(kept, COUNTS),
+        cycles: number(kept, COUNTS + 1),
+        spilled: number(kept, COUNTS + 2),
+        filled: number(kept, COUNTS + 3),
+        misses: number(kept, COUNTS + 4),
+        fetched: number(kept, COUNTS + 5),
+    }
 }

@@ -26,6 +26,8 @@ pub(crate) fn kind_of(said: Line, line: &[u8]) -> Kind {
         Line::Run(n) => Kind::Operation(Asked::Run(n)),
         Line::Step => Kind::Operation(Asked::Step),
         Line::Check => Kind::Operation(Asked::Check),
+        Line::Save => Kind::Operation(Asked::Save),
+        Line::Resume { asked, room } => Kind::Operation(Asked::Resume { asked, room }),
         Line::Write { text } => written_kind(line, text),
         Line::Listing => Kind::Show(Shown::Listing),
         _ => Kind::Description,

@@ -11,6 +11,8 @@ use crate::opening::judge_places;
 use crate::opening::open_case;
 use crate::opening::start_case;
 use crate::operation::do_operation;
+use crate::resuming::do_resume;
+use crate::resuming::do_save;
 use crate::writing::do_list;
 use crate::writing::do_write;
 use case_file::Line;
@@ -66,6 +68,17 @@ fn operation_line(
     }
     match asked {
         Asked::Check => do_check(code, &*kept, &mut *out),
+        Asked::Save => do_save(&*cache, &*kept, &mut *out),
+        Asked::Resume { asked, room } => do_resume(
+            asked,
+            room,
+            code,
+            &mut *main,
+            &mut *local,
+            &*cache,
+            &*kept,
+            &mut *out,
+        ),
         _ => do_operation(
             asked,
             code,

@@ -1,23 +1,30 @@
 // Runs the cases of a case file and writes their report to standard output. Where there is nothing to read, it says so on
 // standard error.
+mod answer_lines;
 mod check_code;
 mod kept_state;
 mod kinds;
 mod lines;
 mod opening;
 mod operation;
+mod resuming;
 mod writing;
 
 use case_file::Reason;
+use case_file::Resumption;
+use case_file::Room;
 use encoder::Written;
 use libc::STDERR_FILENO;
 use lines::read_all;
 
-// What is asked for of an opened case: the check of its code, a step, or a run with a budget.
+// What is asked for of an opened case: the check of its code, a step, a run with a budget, the record of its state, or to go on from
+// the record that it gives.
 enum Asked {
     Check,
     Step,
     Run(u32),
+    Save,
+    Resume { asked: Resumption, room: Room },
 }
 
 // What is asked for that needs no state: words to be shown, or a listing.
@@ -44,7 +51,7 @@ fn read_cases(fd: i32, path: &[u8]) {
     let mut main = [0u8; 131072];
     let mut local = [0u8; 131072];
     let mut cache = [0u32; 1026];
-    let mut kept = [0u64; 150300];
+    let mut kept = [0u64; 152400];
     let mut out = [0u8; 1048576];
     read_all(
         fd,

@@ -2,11 +2,15 @@
 ghost use Prim.Native.Nat.{_≤_};
 ghost use lib.ListN.{length};
 use crate::Asked;
+use crate::answer_lines::RUN;
+use crate::answer_lines::STEP;
+use crate::answer_lines::put_counts;
+use crate::answer_lines::put_reply;
 use crate::kept_state::config_of;
+use crate::kept_state::keep_counts;
 use crate::kept_state::keep_state;
 use crate::kept_state::state_of;
 use bundle_model::Answer;
-use bundle_model::Counts;
 use case_kept::buffers::Bytes;
 use case_kept::buffers::Cache;
 use case_kept::buffers::Memory;
@@ -14,72 +18,51 @@ use case_kept::buffers::Report;
 use case_kept::clearing::copy_cache;
 use case_kept::clearing::copy_memory;
 use case_kept::extent::extents_of;
+use case_kept::kept::COUNTS;
 use case_kept::kept::Kept;
 use case_kept::kept::METHOD;
 use case_kept::kept::is_set;
 use case_report::changes::put_changes;
-use case_report::form::say;
 use case_report::state_lines::put_state;
+use resume::Reply;
 use run::Ran;
 use run::RunAnswer;
 use settings::Config;
 use state::Stepped;
-use text::page::put_decimal;
-use text::table::put_row;
 
-// How a step or a run ended.
-enum Ending {
-    StepDone,
-    StepEnded,
-    StepRefused(u32),
-    RunEnded,
-    RunSpent,
-    RunRefused(u32),
-}
-
-// What is reported of an operation, whichever it was.
-struct Outcome {
-    ending: Ending,
-    counts: Counts,
-}
-
-fn step_ending(a: Answer) -> Ending {
+fn step_reply(a: Answer) -> Reply {
     match a {
-        Answer::Done => Ending::StepDone,
-        Answer::Ended => Ending::StepEnded,
-        Answer::Refused(n) => Ending::StepRefused(n),
+        Answer::Done => Reply::Done,
+        Answer::Ended => Reply::Ended,
+        Answer::Refused(n) => Reply::Refused(n),
     }
 }
 
-fn run_ending(a: RunAnswer) -> Ending {
+fn run_reply(a: RunAnswer) -> Reply {
     match a {
-        RunAnswer::Ended => Ending::RunEnded,
-        RunAnswer::Spent => Ending::RunSpent,
-        RunAnswer::Refused(n) => Ending::RunRefused(n),
+        RunAnswer::Ended => Reply::Ended,
+        RunAnswer::Spent => Reply::Spent,
+        RunAnswer::Refused(n) => Reply::Refused(n),
     }
 }
 
-// The state that is left is kept.
-fn step_outcome(r: Stepped, kept: &mut Kept) -> Outcome {
+// The state that is left is kept, and the counts.
+fn keep_step(r: Stepped, kept: &mut Kept) -> Reply {
     let answer = r.answer;
     let counts = r.counts;
     let state = r.state;
     keep_state(&mut *kept, state);
-    Outcome {
-        ending: step_ending(answer),
-        counts,
-    }
+    keep_counts(&mut *kept, counts);
+    step_reply(answer)
 }
 
-fn run_outcome(r: Ran, kept: &mut Kept) -> Outcome {
+fn keep_run(r: Ran, kept: &mut Kept) -> Reply {
     let answer = r.answer;
     let counts = r.counts;
     let state = r.state;
     keep_state(&mut *kept, state);
-    Outcome {
-        ending: run_ending(answer),
-        counts,
-    }
+    keep_counts(&mut *kept, counts);
+    run_reply(answer)
 }
 
 fn operate(
@@ -90,14 +73,14 @@ fn operate(
     cache: &mut [u32],
     config: Config,
     kept: &mut Kept,
-) -> Outcome {
+) -> Reply {
     let s = state_of(&*kept);
     match asked {
-        Asked::Run(budget) => run_outcome(
+        Asked::Run(budget) => keep_run(
             run::run(s, code, main, local, cache, config, budget),
             &mut *kept,
         ),
-        _ => step_outcome(s.step(code, main, local, cache, config), &mut *kept),
+        _ => keep_step(s.step(code, main, local, cache, config), &mut *kept),
     }
 }
 
@@ -109,7 +92,7 @@ fn operate_on(
     local: &mut [u8],
     cache: &mut [u32],
     kept: &mut Kept,
-) -> Outcome
+) -> Reply
     requires { ⌜ (65536 ≤ length (now code)) × (65536 ≤ length (now main)) × (65536 ≤ length (now local)) × (513 ≤ length (now cache)) ⌝ }
 {
     let e = extents_of(&*kept);
@@ -129,59 +112,37 @@ fn operate_on(
     )
 }
 
-fn row_of(e: Ending) -> usize {
-    match e {
-        Ending::StepDone => 0,
-        Ending::StepEnded => 1,
-        Ending::StepRefused(_) => 2,
-        Ending::RunEnded => 3,
-        Ending::RunSpent => 4,
-        Ending::RunRefused(_) => 5,
+fn row_of(asked: Asked) -> usize {
+    match asked {
+        Asked::Run(_) => RUN,
+        _ => STEP,
     }
 }
 
-fn put_ending(out: &mut Report, e: Ending) -> usize {
-    let used = put_row(
-        &mut *out,
-        0,
-        b"step done\nstep ended\nstep refused \nrun ended\nrun spent\nrun refused \n",
-        row_of(e),
-    );
-    match e {
-        Ending::StepRefused(n) | Ending::RunRefused(n) => put_decimal(&mut *out, used, n as u64),
-        _ => used,
-    }
+// The answer, and the counts, which are kept.
+fn put_outcome(out: &mut Report, asked: Asked, r: Reply, kept: &Kept) -> usize {
+    let used = put_reply(&mut *out, row_of(asked), r);
+    let numbers = &kept[..];
+    put_counts(&mut *out, used, &numbers[COUNTS..], is_set(kept, METHOD))
 }
 
-// The counts of the method cache stand in the report of a case that has one.
-fn put_outcome(out: &mut Report, r: Outcome, method: bool) -> usize {
-    let ending = r.ending;
-    let c = r.counts;
-    let used = put_ending(&mut *out, ending);
-    if method {
-        return say(
-            &mut *out,
-            used,
-            b" bundles % cycles % spilled % filled % misses % fetched %\n",
-            &[
-                c.bundles,
-                c.cycles,
-                c.spilled,
-                c.filled,
-                c.misses,
-                c.fetched,
-            ],
-        );
-    }
-    say(
-        &mut *out,
-        used,
-        b" bundles % cycles % spilled % filled %\n",
-        &[c.bundles, c.cycles, c.spilled, c.filled],
-    )
+// The change lines. What is reported is changed no longer: the copies of the memories are brought up to date.
+pub(crate) fn report_changes(
+    out: &mut Report,
+    used: usize,
+    main: &mut Memory,
+    local: &mut Memory,
+    cache: &Cache,
+    kept: &Kept,
+) -> usize {
+    let e = extents_of(kept);
+    let a = put_changes(&mut *out, used, &*main, &*local, cache, e);
+    copy_memory(&mut *main, e.main);
+    copy_memory(&mut *local, e.local);
+    a
 }
 
-// The state lines and the change lines. What is reported is changed no longer: the copies are brought up to date.
+// The state lines and the change lines.
 fn report(
     out: &mut Report,
     used: usize,
@@ -192,9 +153,7 @@ fn report(
 ) -> usize {
     let e = extents_of(kept);
     let a = put_state(&mut *out, used, kept);
-    let b = put_changes(&mut *out, a, &*main, &*local, &*cache, e);
-    copy_memory(&mut *main, e.main);
-    copy_memory(&mut *local, e.local);
+    let b = report_changes(&mut *out, a, &mut *main, &mut *local, &*cache, kept);
     copy_cache(&mut *cache, e.words);
     b
 }
@@ -216,7 +175,7 @@ pub(crate) fn do_operation(
         &mut *cache,
         &mut *kept,
     );
-    let used = put_outcome(&mut *out, r, is_set(&*kept, METHOD));
+    let used = put_outcome(&mut *out, asked, r, &*kept);
     report(
         &mut *out,
         used,

@@ -102,6 +102,30 @@ list-line-requires-4 c κs = tt
 enum-told-15 : tie.Need-enum-told-15
 enum-told-15 c = search needs
 
+list-line-requires-5 : tie.Need-list-line-requires-5
+list-line-requires-5 c κs = tt
+
+enum-told-16 : tie.Need-enum-told-16
+enum-told-16 c = search needs
+
+whole-requires-4 : tie.Need-whole-requires-4
+whole-requires-4 c κs = tt
+
+enum-told-17 : tie.Need-enum-told-17
+enum-told-17 c = search needs
+
+resume-line-requires : tie.Need-resume-line-requires
+resume-line-requires c κs = tt
+
+enum-told-18 : tie.Need-enum-told-18
+enum-told-18 c = search needs
+
+room-line-requires : tie.Need-room-line-requires
+room-line-requires c κs = tt
+
+enum-told-19 : tie.Need-enum-told-19
+enum-told-19 c = search needs
+
 returns : tie.Need-returns
 unfolding lineAfter
 returns c = rw (c .before .enum-told .given .1) (c .case-line .ensures)
@@ -168,7 +192,23 @@ returns-16 c = rw (c .before .enum-told14 .given .1) (c .list-line4 .ensures)
 
 returns-17 : tie.Need-returns-17
 unfolding lineAfter
-returns-17 c = rw (c .enum-told15 .given .1)
+returns-17 c = rw (c .before .enum-told15 .given .1) (c .list-line5 .ensures)
+
+returns-18 : tie.Need-returns-18
+unfolding lineAfter
+returns-18 c = rw (c .before .enum-told16 .given .1) (c .whole4 .ensures)
+
+returns-19 : tie.Need-returns-19
+unfolding lineAfter
+returns-19 c = rw (c .before .enum-told17 .given .1) (c .resume-line .ensures)
+
+returns-20 : tie.Need-returns-20
+unfolding lineAfter
+returns-20 c = rw (c .before .enum-told18 .given .1) (c .room-line .ensures)
+
+returns-21 : tie.Need-returns-21
+unfolding lineAfter
+returns-21 c = rw (c .enum-told19 .given .1)
 
 pub after-keyword-spec : {M : Type 1} → statement M
 after-keyword-spec =
@@ -207,6 +247,14 @@ after-keyword-spec =
     enum-told-14
     list-line-requires-4
     enum-told-15
+    list-line-requires-5
+    enum-told-16
+    whole-requires-4
+    enum-told-17
+    resume-line-requires
+    enum-told-18
+    room-line-requires
+    enum-told-19
     returns
     returns-2
     returns-3
@@ -223,4 +271,8 @@ after-keyword-spec =
     returns-14
     returns-15
     returns-16
-    returns-17)
+    returns-17
+    returns-18
+    returns-19
+    returns-20
+    returns-21)

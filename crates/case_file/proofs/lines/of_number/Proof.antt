@@ -19,6 +19,12 @@ enum-told-5 c = c .match .keys5
 enum-told-6 : tie.Need-enum-told-6
 enum-told-6 c = c .match .keys6
 
+enum-told-7 : tie.Need-enum-told-7
+enum-told-7 c = c .match .keys7
+
+record-bytes-requires : tie.Need-record-bytes-requires
+record-bytes-requires c κs = tt
+
 returns : tie.Need-returns
 returns c = rw (c .enum-told .given .1)
 
@@ -37,6 +43,9 @@ returns-5 c = rw (c .enum-told5 .given .1)
 returns-6 : tie.Need-returns-6
 returns-6 c = rw (c .enum-told6 .given .1)
 
+returns-7 : tie.Need-returns-7
+returns-7 c = rw (c .before .enum-told7 .given .1) (c .record-bytes .ensures)
+
 pub of-number-spec : {M : Type 1} → statement M
 of-number-spec =
     tie.close
@@ -47,9 +56,12 @@ of-number-spec =
     enum-told-4
     enum-told-5
     enum-told-6
+    enum-told-7
+    record-bytes-requires
     returns
     returns-2
     returns-3
     returns-4
     returns-5
-    returns-6)
+    returns-6
+    returns-7)

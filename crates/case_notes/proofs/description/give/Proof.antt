@@ -12,7 +12,7 @@ use Rattle.case_notes.proofs.description.give.Tie as tie
 
 -- The lines that say nothing of the numbers.
 abbrev others : List ℕ
-others = 0 ∷ 1 ∷ 2 ∷ 3 ∷ 4 ∷ 18 ∷ 19 ∷ 20 ∷ 21 ∷ 22 ∷ 23 ∷ 24 ∷ 25 ∷ 28 ∷ []
+others = 0 ∷ 1 ∷ 2 ∷ 3 ∷ 4 ∷ 18 ∷ 19 ∷ 20 ∷ 21 ∷ 22 ∷ 23 ∷ 24 ∷ 25 ∷ 28 ∷ 29 ∷ 31 ∷ 32 ∷ []
 
 other-line : (said : Line) (kept : List ℕ) → OneOf others (tagOf the-type said) → given said kept ≡ fine kept
 unfolding given
@@ -45,6 +45,10 @@ other-line Line.Listing kept h = refl
 other-line (Line.Product wait low high) kept h = absurd (miss others 26 tt h)
 other-line (Line.Method blocks bytes) kept h = absurd (miss others 27 tt h)
 other-line (Line.Held list) kept h = refl
+other-line (Line.Record list) kept h = refl
+other-line (Line.RecordBytes n) kept h = absurd (miss others 30 tt h)
+other-line Line.Save kept h = refl
+other-line (Line.Resume asked room) kept h = refl
 
 enum-known-said : tie.Need-enum-known-said
 enum-known-said c = c .match .keys1
@@ -136,6 +140,12 @@ enum-known-said-15 c = c .match .keys15
 give-method-requires : tie.Need-give-method-requires
 give-method-requires c κs = tt
 
+enum-known-said-16 : tie.Need-enum-known-said-16
+enum-known-said-16 c = c .match .keys16
+
+give-once-requires-4 : tie.Need-give-once-requires-4
+give-once-requires-4 c κs = tt
+
 returns : tie.Need-returns
 unfolding given
 returns c = rw (c .before .before .before .said .given .1) (c .give-length .ensures)
@@ -195,7 +205,11 @@ unfolding given
 returns-15 c = rw (c .before .before .before .said15 .given .1) (c .give-method .ensures)
 
 returns-16 : tie.Need-returns-16
-returns-16 c = rw (other-line _ (c .before .args .kept .now) (c .match .keys16))
+unfolding given
+returns-16 c = rw (c .before .before .before .said16 .given .1) (c .give-once4 .ensures)
+
+returns-17 : tie.Need-returns-17
+returns-17 c = rw (other-line _ (c .before .args .kept .now) (c .match .keys17))
 
 pub give-spec : {M : Type 1} → statement M
 give-spec =
@@ -231,6 +245,8 @@ give-spec =
     give-product-requires
     enum-known-said-15
     give-method-requires
+    enum-known-said-16
+    give-once-requires-4
     returns
     returns-2
     returns-3
@@ -246,4 +262,5 @@ give-spec =
     returns-13
     returns-14
     returns-15
-    returns-16)
+    returns-16
+    returns-17)

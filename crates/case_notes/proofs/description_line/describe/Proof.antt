@@ -13,7 +13,7 @@ use Rattle.case_notes.proofs.description_line.describe.Tie as tie
 
 -- The lines that fill no buffer but the kept numbers.
 abbrev others : List ℕ
-others = 0 ∷ 1 ∷ 2 ∷ 5 ∷ 6 ∷ 7 ∷ 8 ∷ 9 ∷ 10 ∷ 11 ∷ 12 ∷ 13 ∷ 14 ∷ 15 ∷ 16 ∷ 17 ∷ 21 ∷ 22 ∷ 23 ∷ 24 ∷ 25 ∷ 26 ∷ 27 ∷ []
+others = 0 ∷ 1 ∷ 2 ∷ 5 ∷ 6 ∷ 7 ∷ 8 ∷ 9 ∷ 10 ∷ 11 ∷ 12 ∷ 13 ∷ 14 ∷ 15 ∷ 16 ∷ 17 ∷ 21 ∷ 22 ∷ 23 ∷ 24 ∷ 25 ∷ 26 ∷ 27 ∷ 30 ∷ 31 ∷ 32 ∷ []
 
 module _ (line code main local cache kept : List ℕ) where
   other-line : (said : Line) → OneOf others (tagOf the-type said) → describedBy line code main local cache kept said ≡ inKept line code main local cache kept (given said kept)
@@ -47,6 +47,10 @@ module _ (line code main local cache kept : List ℕ) where
   other-line (Line.Product wait low high) h = refl
   other-line (Line.Method blocks bytes) h = refl
   other-line (Line.Held list) h = absurd (miss others 28 tt h)
+  other-line (Line.Record list) h = absurd (miss others 29 tt h)
+  other-line (Line.RecordBytes n) h = refl
+  other-line Line.Save h = refl
+  other-line (Line.Resume asked room) h = refl
 
 enum-known-said : tie.Need-enum-known-said
 enum-known-said c = c .match .keys1
@@ -69,17 +73,23 @@ hold-bases-requires c κs = tt
 enum-known-said-4 : tie.Need-enum-known-said-4
 enum-known-said-4 c = c .match .keys4
 
-memory-word-requires : tie.Need-memory-word-requires
-memory-word-requires c κs = tt
+take-list-requires : tie.Need-take-list-requires
+take-list-requires c κs = tt
 
 enum-known-said-5 : tie.Need-enum-known-said-5
 enum-known-said-5 c = c .match .keys5
 
-memory-word-requires-2 : tie.Need-memory-word-requires-2
-memory-word-requires-2 c κs = tt
+memory-word-requires : tie.Need-memory-word-requires
+memory-word-requires c κs = tt
 
 enum-known-said-6 : tie.Need-enum-known-said-6
 enum-known-said-6 c = c .match .keys6
+
+memory-word-requires-2 : tie.Need-memory-word-requires-2
+memory-word-requires-2 c κs = tt
+
+enum-known-said-7 : tie.Need-enum-known-said-7
+enum-known-said-7 c = c .match .keys7
 
 cache-word-requires : tie.Need-cache-word-requires
 cache-word-requires c κs = tt
@@ -101,18 +111,22 @@ returns-3 c = rw (c .before .before .before .said3 .given .1, ← c .hold-bases 
 
 returns-4 : tie.Need-returns-4
 unfolding describedBy
-returns-4 c = rw (c .before .before .before .before .said4 .given .1, ← c .memory-word .ensures)
+returns-4 c = rw (c .before .before .before .said4 .given .1, ← c .take-list .ensures)
 
 returns-5 : tie.Need-returns-5
 unfolding describedBy
-returns-5 c = rw (c .before .before .before .before .said5 .given .1, ← c .memory-word2 .ensures)
+returns-5 c = rw (c .before .before .before .before .said5 .given .1, ← c .memory-word .ensures)
 
 returns-6 : tie.Need-returns-6
 unfolding describedBy
-returns-6 c = rw (c .before .before .before .before .said6 .given .1, ← c .cache-word .ensures)
+returns-6 c = rw (c .before .before .before .before .said6 .given .1, ← c .memory-word2 .ensures)
 
 returns-7 : tie.Need-returns-7
-returns-7 c = rw (other-line _ _ _ _ _ _ _ (c .before .before .match .keys7), ← c .give .ensures)
+unfolding describedBy
+returns-7 c = rw (c .before .before .before .before .said7 .given .1, ← c .cache-word .ensures)
+
+returns-8 : tie.Need-returns-8
+returns-8 c = rw (other-line _ _ _ _ _ _ _ (c .before .before .match .keys8), ← c .give .ensures)
 
 pub describe-spec : {M : Type 1} → statement M
 describe-spec =
@@ -125,10 +139,12 @@ describe-spec =
     enum-known-said-3
     hold-bases-requires
     enum-known-said-4
-    memory-word-requires
+    take-list-requires
     enum-known-said-5
-    memory-word-requires-2
+    memory-word-requires
     enum-known-said-6
+    memory-word-requires-2
+    enum-known-said-7
     cache-word-requires
     give-requires
     returns
@@ -137,4 +153,5 @@ describe-spec =
     returns-4
     returns-5
     returns-6
-    returns-7)
+    returns-7
+    returns-8)

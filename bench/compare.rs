@@ -1,0 +1,723 @@
+//! Compares the C entries with a second opinion, on random boxes: the plain interpreter for what bundles do, record.rs for records, marks.rs
+//! for the check. Whole answers are compared: the number, both memories, and every byte of the output.
+//! Build: rustc --edition 2021 -O compare.rs -L DIRECTORY -l static=entries     Use: compare [PROGRAMS [SEED [FIRST]]]
+//! PROGRAMS random programs from number FIRST on, each with its boxes, damaged records and markings; the same arguments try the same ones.
+//! The last line is 'compare: N programs, M runs, no difference'. At the first difference it prints a case file that shows it, for the
+//! case program, and ends with status 1.
+
+#[path = "marks.rs"]
+mod marks;
+#[path = "plain.rs"]
+mod plain;
+#[path = "record.rs"]
+mod record;
+
+use marks::Marking;
+use plain::{Answer, Method};
+use record::{Stopped, Under};
+
+#[repr(C)]
+struct Checked {
+    answer: u32,
+    address: u32,
+    rule: u32,
+}
+
+#[rustfmt::skip]
+extern "C" {
+    fn laqemdit_longest(words: u32) -> u32;
+    fn laqemdit_step(record: *const u8, record_len: usize, code: *const u8, code_len: usize, main: *mut u8, main_len: usize,
+        local: *mut u8, local_len: usize, out: *mut u8, out_len: usize,
+        words: u32, lo: u32, hi: u32, on: u32, blocks: u32, bytes: u32) -> u32;
+    fn laqemdit_run(record: *const u8, record_len: usize, code: *const u8, code_len: usize, main: *mut u8, main_len: usize,
+        local: *mut u8, local_len: usize, out: *mut u8, out_len: usize, budget: u32,
+        words: u32, lo: u32, hi: u32, on: u32, blocks: u32, bytes: u32) -> u32;
+    fn laqemdit_check(code: *const u8, code_len: usize, registers: u32, predicates: u32, others: u32, main_len: usize, local_len: usize,
+        words: u32, lo: u32, hi: u32, on: u32, blocks: u32, bytes: u32) -> Checked;
+}
+
+// ---------------------------------------------------------------- calls
+
+#[derive(Clone, Debug)]
+struct Settings {
+    words: u32,
+    lo: u32,
+    hi: u32,
+    on: u32,
+    blocks: u32,
+    bytes: u32,
+}
+
+/// What is handed in beside the record: code, memories, settings.
+#[derive(Clone)]
+struct Given {
+    code: Vec<u8>,
+    main: Vec<u8>,
+    local: Vec<u8>,
+    set: Settings,
+}
+
+/// A run with a budget, or a step.
+#[derive(Clone, Copy, Debug)]
+enum Call {
+    Run(u32),
+    Step,
+}
+
+/// What a call leaves.
+#[derive(Clone, PartialEq)]
+struct Left {
+    answer: u32,
+    main: Vec<u8>,
+    local: Vec<u8>,
+    out: Vec<u8>,
+}
+
+const OLD: u8 = 0xA5;
+const GUARD: usize = 48;
+
+/// A copy of a buffer with a guard on both sides.
+fn guarded(bytes: &[u8]) -> Vec<u8> {
+    let mut g = vec![0x5A; bytes.len() + 2 * GUARD];
+    g[GUARD..GUARD + bytes.len()].copy_from_slice(bytes);
+    g
+}
+
+/// The buffer, if its guards are as they were.
+fn unguarded(g: &[u8]) -> Option<Vec<u8>> {
+    let n = g.len() - GUARD;
+    let whole = g[..GUARD].iter().chain(&g[n..]).all(|&b| b == 0x5A);
+    whole.then(|| g[GUARD..n].to_vec())
+}
+
+/// The call through C; an error where bytes outside the buffers, or the record or the code, were touched.
+fn through_c(g: &Given, record: &[u8], room: usize, call: Call) -> Result<Left, String> {
+    let s = &g.set;
+    let (r, c) = (guarded(record), guarded(&g.code));
+    let (mut m, mut l, mut o) = (guarded(&g.main), guarded(&g.local), guarded(&vec![OLD; room]));
+    let (rp, cp) = (r[GUARD..].as_ptr(), c[GUARD..].as_ptr());
+    let (mp, lp, op) = (m[GUARD..].as_mut_ptr(), l[GUARD..].as_mut_ptr(), o[GUARD..].as_mut_ptr());
+    let (rn, cn, mn, ln) = (record.len(), g.code.len(), g.main.len(), g.local.len());
+    // Every pointer is valid for its length, and the buffers are apart.
+    let answer = unsafe {
+        match call {
+            Call::Step => laqemdit_step(rp, rn, cp, cn, mp, mn, lp, ln, op, room, s.words, s.lo, s.hi, s.on, s.blocks, s.bytes),
+            Call::Run(k) => laqemdit_run(rp, rn, cp, cn, mp, mn, lp, ln, op, room, k, s.words, s.lo, s.hi, s.on, s.blocks, s.bytes),
+        }
+    };
+    if r != guarded(record) || c != guarded(&g.code) {
+        return Err("record or code was written to".into());
+    }
+    match (unguarded(&m), unguarded(&l), unguarded(&o)) {
+        (Some(main), Some(local), Some(out)) => Ok(Left { answer, main, local, out }),
+        _ => Err("bytes outside the buffers were written to".into()),
+    }
+}
+
+fn settings_ok(g: &Given) -> bool {
+    let s = &g.set;
+    g.code.len() >= 4
+        && g.code.len() <= 65536
+        && g.code.len() % 4 == 0
+        && g.main.len() <= 65536
+        && g.local.len() <= 65536
+        && [4, 8, 16, 32, 64, 128, 256, 512].contains(&s.words)
+        && s.lo % 4 == 0
+        && s.hi % 4 == 0
+        && s.lo <= s.hi
+        && s.hi as usize <= g.main.len()
+        && (s.on == 0 || (s.blocks >= 1 && s.blocks <= 16 && s.bytes >= 64 && s.bytes <= 16384))
+}
+
+fn under(g: &Given) -> Under<'_> {
+    Under { words: g.set.words as usize, code: &g.code, on: g.set.on != 0, blocks: g.set.blocks, bytes: g.set.bytes }
+}
+
+/// What the call has to leave, by the second opinion.
+fn due(g: &Given, record: &[u8], room: usize, call: Call) -> Left {
+    let as_found = |answer| Left { answer, main: g.main.clone(), local: g.local.clone(), out: vec![OLD; room] };
+    if !settings_ok(g) {
+        return as_found(1);
+    }
+    let s = &g.set;
+    if room < record::longest(s.words as usize) {
+        return as_found(14);
+    }
+    let Some(stopped) = record::read(record, &under(g)) else { return as_found(14) };
+    let method = Method { on: s.on != 0, blocks: s.blocks, bytes: s.bytes };
+    let mut m = record::machine_of(&stopped, &g.code, &g.main, &g.local, s.lo, s.hi, method);
+    let answer = match call {
+        Call::Run(budget) => m.run(budget),
+        Call::Step => m.step(),
+    };
+    let mut out = record::write(&record::stopped_of(&m));
+    out.resize(room, OLD);
+    let answer = match answer {
+        Answer::Done => 0,
+        Answer::Ended => 256,
+        Answer::Spent => 257,
+        Answer::Refused(k) => k,
+    };
+    Left { answer, main: m.main, local: m.local, out }
+}
+
+// ---------------------------------------------------------------- what is told of a difference
+
+fn hex(words: &[u32]) -> String {
+    words.iter().map(|w| format!(" {:08X}", w)).collect()
+}
+
+fn words_of(bytes: &[u8]) -> Vec<u32> {
+    bytes.chunks(4).map(|b| b.iter().chain(&[0; 3]).take(4).fold(0, |w, &b| w << 8 | b as u32)).collect()
+}
+
+/// The call as a case of the case program.
+fn case_of(g: &Given, record: &[u8], room: usize, call: Call) -> String {
+    let s = &g.set;
+    let mut t = String::from("case difference\n");
+    for words in words_of(&g.code).chunks(16) {
+        t += &format!("code{}\n", hex(words));
+    }
+    t += &format!("main {}\nlocal {}\nstack {} {} {}\n", g.main.len(), g.local.len(), s.words, s.lo, s.hi);
+    if s.on != 0 {
+        t += &format!("method {} {}\n", s.blocks, s.bytes);
+    }
+    for (name, memory) in [("main", &g.main), ("local", &g.local)] {
+        for (i, b) in memory.chunks(4).enumerate() {
+            if b.iter().any(|&b| b != 0) {
+                let mark = if b.len() < 4 { "# not a whole word: " } else { "" };
+                t += &format!("{}{}word {} {}\n", mark, name, 4 * i, b.iter().map(|b| format!("{:02X}", b)).collect::<String>());
+            }
+        }
+    }
+    for words in words_of(record).chunks(16) {
+        t += &format!("record{}\n", hex(words));
+    }
+    t += &format!("recordbytes {}\n", record.len());
+    t += &match call {
+        Call::Run(k) => format!("resume {} {}\n", k, room),
+        Call::Step => format!("restep {}\n", room),
+    };
+    t
+}
+
+fn first_difference(a: &[u8], b: &[u8]) -> Option<usize> {
+    (0..a.len().max(b.len())).find(|&i| a.get(i) != b.get(i))
+}
+
+fn tell(name: &str, due: &[u8], came: &[u8]) {
+    if let Some(i) = first_difference(due, came) {
+        println!("{} differs first at byte {}", name, i);
+        println!("  due {}", hex(&words_of(due)));
+        println!("  came{}", hex(&words_of(came)));
+    }
+}
+
+/// Counts of what was tried, and where a difference is told.
+struct Bench {
+    seed: u64,
+    program: u64,
+    runs: u64,
+    bundles: u64,
+    answers: std::collections::BTreeMap<u32, u64>,
+}
+
+impl Bench {
+    fn stop(&self, why: &str) -> ! {
+        println!("compare: DIFFERENCE: {} (again: compare 1 {} {})", why, self.seed, self.program);
+        std::process::exit(1);
+    }
+
+    fn call(&mut self, g: &Given, record: &[u8], room: usize, call: Call) -> Left {
+        let due = due(g, record, room, call);
+        let came = through_c(g, record, room, call).unwrap_or_else(|why| {
+            println!("{}", case_of(g, record, room, call));
+            self.stop(&why)
+        });
+        if due != came {
+            println!("{}", case_of(g, record, room, call));
+            println!("answer: due {}, came {}", due.answer, came.answer);
+            tell("main", &due.main, &came.main);
+            tell("local", &due.local, &came.local);
+            tell("out", &due.out, &came.out);
+            self.stop("the call of the case above leaves something else");
+        }
+        self.runs += 1;
+        *self.answers.entry(came.answer).or_default() += 1;
+        if let Some(s) = self.written(g, &came) {
+            self.bundles += s.counts[0];
+        }
+        came
+    }
+
+    /// The record at the beginning of an output, read again.
+    fn written(&self, g: &Given, l: &Left) -> Option<Stopped> {
+        if l.answer == 1 || l.answer == 14 {
+            return None;
+        }
+        let length = record_length(&l.out);
+        record::read(&l.out[..length], &under(g))
+    }
+}
+
+/// The length of the record that a buffer begins with.
+fn record_length(out: &[u8]) -> usize {
+    (0..10).fold(0, |at, _| at + 4 + 4 * words_of(&out[at..at + 4])[0] as usize)
+}
+
+// ---------------------------------------------------------------- random boxes
+
+/// Numbers, and whether they make tame programs, which go on longer: no access far off, no transfer in a delay slot, no broken window.
+struct Random {
+    state: u64,
+    tame: bool,
+}
+
+impl Random {
+    fn next(&mut self) -> u32 {
+        self.state ^= self.state << 13;
+        self.state ^= self.state >> 7;
+        self.state ^= self.state << 17;
+        (self.state.wrapping_mul(0x2545F4914F6CDD1D) >> 32) as u32
+    }
+
+    /// Below n.
+    fn below(&mut self, n: u32) -> u32 {
+        (self.next() as u64 * n as u64 >> 32) as u32
+    }
+
+    /// True so many times of a hundred.
+    fn chance(&mut self, percent: u32) -> bool {
+        self.below(100) < percent
+    }
+
+    fn pick(&mut self, from: &[u32]) -> u32 {
+        from[self.below(from.len() as u32) as usize]
+    }
+
+    /// A value as programs have them: an address, a small number, a limit, or anything.
+    fn value(&mut self, code: u32) -> u32 {
+        match self.below(10) {
+            0 => self.next(),
+            1 => self.pick(&[0, 1, 0x7FFFFFFF, 0x80000000, 0xFFFFFFFF, 0xFFFFFFFC]),
+            2 => self.below(300),
+            3..=5 => 4 * self.below(code / 4 + 1),
+            _ => 4 * self.below(80),
+        }
+    }
+
+    fn register(&mut self) -> u32 {
+        if self.chance(85) { self.below(8) } else { self.below(32) }
+    }
+
+    fn guard(&mut self) -> u32 {
+        if self.chance(75) { 0 } else { self.below(16) << 27 }
+    }
+
+    /// One of the six formats that both slots may hold.
+    fn alu(&mut self) -> u32 {
+        let fields = self.register() << 17 | self.register() << 12 | self.register() << 7;
+        let alu = [0, 1, 2, 3, 4, 5, 6, 7, 11, 12, 13];
+        self.guard()
+            | match self.below(10) {
+                0..=3 => self.below(8) << 22 | fields & 0x3FF000 | if self.chance(70) { self.below(64) } else { self.below(4096) },
+                4..=6 => 8 << 22 | fields | self.pick(&alu),
+                7 => 8 << 22 | fields | self.pick(&[3, 6]) << 4 | self.below(7),
+                8 => 8 << 22 | self.next() & 0x3FFF80 | 4 << 4 | self.pick(&[6, 7, 10]),
+                _ => 8 << 22 | fields | 5 << 4 | self.below(16),
+            }
+    }
+
+    /// Slot one of the bundle at a word's place in code of n words, whose blocks have these bases.
+    fn first(&mut self, at: u32, n: u32, bases: &[u32], words: u32) -> u32 {
+        let g = self.guard();
+        let base = if self.tame || self.chance(60) { 0 } else { self.register() << 12 };
+        let near = if self.tame { self.below(8) } else if self.chance(80) { self.below(20) } else { self.below(128) };
+        let kind = if self.tame && self.chance(70) { 1 + self.below(3) } else { self.below(4) };
+        match self.below(if self.tame { 98 } else { 100 }) {
+            0..=37 => self.alu(),
+            38..=44 => g | 8 << 22 | self.register() << 12 | self.register() << 7 | 2 << 4 | self.below(2),
+            45..=47 => {
+                let special = if !self.tame && self.chance(8) { self.pick(&[5, 6]) } else { self.pick(&[0, 2, 3, 7, 8, 9, 10]) };
+                g | 9 << 22 | self.register() << 12 | 2 << 4 | special
+            }
+            48..=53 => g | 9 << 22 | self.register() << 17 | 3 << 4 | self.pick(&[0, 2, 3, 5, 6, 7, 8, 9, 10]),
+            54..=65 => g | 10 << 22 | self.register() << 17 | base | self.below(5) << 9 | kind << 7 | near,
+            66..=76 => g | 11 << 22 | self.below(3) << 19 | kind << 17 | base | self.register() << 7 | near,
+            77..=87 => {
+                let few = if self.tame || self.chance(90) { self.below(7) } else { self.below(words + 3) };
+                if !self.tame && self.chance(15) {
+                    g | 12 << 22 | self.pick(&[1, 3]) << 20 | 1 << 18 | self.register() << 12
+                } else {
+                    g | 12 << 22 | self.below(4) << 20 | few
+                }
+            }
+            88..=97 => {
+                let target = if bases.is_empty() || self.chance(5) { self.below(n + 1) } else { self.pick(bases) / 4 };
+                let delayed = self.below(2) << 22;
+                g | match self.below(if self.tame { 13 } else { 16 }) {
+                    0..=4 => 18 << 22 | delayed | (self.below(n + 1).wrapping_sub(at) & 0x3FFFFF),
+                    5..=8 => 16 << 22 | delayed | target,
+                    9..=10 => 20 << 22 | delayed | target,
+                    11..=12 => 24 << 22 | delayed,
+                    13 => 24 << 22 | delayed | self.register() << 12 | self.pick(&[4, 5]),
+                    14 => 24 << 22 | delayed | self.register() << 12 | self.register() << 7 | 10,
+                    _ => self.pick(&[22 << 22, 24 << 22 | 1, 25 << 22 | 1]),
+                }
+            }
+            98 => self.next() & 0x7FFFFFFF,
+            _ => g | 1 << 22, // subi r0 r0 0 under a guard
+        }
+    }
+
+    /// Code words; with a method cache the code is divided into blocks, each behind its size, and their bases are told.
+    fn code(&mut self, on: bool, words: u32) -> (Vec<u32>, Vec<u32>) {
+        let n = if self.chance(10) { 1 + self.below(6) } else { 8 + self.below(90) };
+        let mut sizes = Vec::new();
+        let mut bases = Vec::new();
+        let mut at = 0;
+        while on && at + 2 <= n {
+            let size = (1 + self.below(14)).min(n - at - 1);
+            sizes.push((at, if self.chance(97) { 4 * size } else { self.value(4 * n) }));
+            bases.push(4 * at + 4);
+            at += 1 + size;
+        }
+        let mut code: Vec<u32> = Vec::new();
+        while (code.len() as u32) < n {
+            let at = code.len() as u32;
+            // In a tame program a transfer is followed by ALU words.
+            let flow = |w: &u32| w >> 25 & 3 == 2 || w >> 23 & 15 == 12;
+            let slot = self.tame && code.iter().rev().take(3).any(flow);
+            if let Some(&(_, size)) = sizes.iter().find(|s| s.0 == at) {
+                code.push(size);
+            } else if slot {
+                code.push(self.alu());
+            } else if self.chance(4) {
+                let func = self.pick(&[0, 1, 2, 3, 4, 5, 6, 7, 11, 12, 13]);
+                code.push(self.guard() | 0x80000000 | 31 << 22 | self.register() << 17 | self.register() << 12 | func);
+                code.push(self.value(4 * n));
+            } else if self.chance(15) {
+                code.push(self.first(at, n, &bases, words) | 0x80000000);
+                code.push(if self.chance(98) { self.alu() } else { self.next() });
+            } else {
+                code.push(self.first(at, n, &bases, words));
+            }
+        }
+        code.truncate(n as usize);
+        (code, bases)
+    }
+
+    fn memory(&mut self) -> Vec<u8> {
+        let n = match self.below(10) {
+            0 if !self.tame => self.below(9),
+            1 => 2048 + self.below(3000),
+            _ => 64 + self.below(400),
+        };
+        (0..n).map(|_| if self.chance(50) { 0 } else { self.next() as u8 }).collect()
+    }
+
+    /// Code, memories and settings that are accepted, and the bases of the blocks.
+    fn given(&mut self) -> (Given, Vec<u32>) {
+        let on = self.chance(50);
+        let words = if self.chance(85) { self.pick(&[4, 4, 8, 16]) } else { self.pick(&[32, 64, 128, 256, 512]) };
+        let (code, bases) = self.code(on, words);
+        let main = self.memory();
+        let local = self.memory();
+        let most = main.len() as u32 / 4;
+        let hi = if self.tame || self.chance(70) { most } else { self.below(most + 1) };
+        let lo = if self.tame || self.chance(70) { hi / 2 } else { self.below(hi + 1) };
+        let set = Settings {
+            words,
+            lo: 4 * lo,
+            hi: 4 * hi,
+            on: if !on { 0 } else if self.chance(80) { 1 } else { self.next() | 1 << 31 },
+            blocks: if on { 1 + if self.chance(80) { self.below(4) } else { self.below(16) } } else { self.next() },
+            bytes: if on { 64 + if self.chance(80) { self.below(100) } else { self.below(16321) } } else { self.next() },
+        };
+        (Given { code: plain::bytes_of(&code), main, local, set }, bases)
+    }
+
+    /// A box that is well formed, with any counts.
+    fn stopped(&mut self, g: &Given, bases: &[u32]) -> Stopped {
+        let code = g.code.len() as u32;
+        let s = &g.set;
+        let place = |r: &mut Random| if r.chance(92) { 4 * r.below(code / 4 + 1) } else { r.value(code) };
+        let fetch = place(self);
+        let base = if bases.is_empty() { place(self) } else { self.pick(bases) };
+        let mut regs = [0; 32];
+        for r in regs.iter_mut().skip(1) {
+            *r = self.value(code);
+        }
+        let mut specials = [0; 8];
+        for p in specials.iter_mut() {
+            *p = self.value(code);
+        }
+        if self.chance(85) {
+            // A window inside the stack area or near it.
+            let window = self.below(s.words + 1).min((s.hi - s.lo) / 4);
+            let ss = s.hi - 4 * self.below((s.hi - s.lo) / 4 - window + 1);
+            specials[2] = ss;
+            specials[3] = ss - 4 * window;
+        }
+        if self.chance(70) && !bases.is_empty() {
+            specials[4] = self.pick(bases);
+            specials[5] = 4 * self.below(12);
+        }
+        let mut stopped = Stopped {
+            fetch,
+            base,
+            regs,
+            preds: self.below(256) | 1,
+            specials,
+            cache: (0..s.words).map(|_| self.next()).collect(),
+            transfer: vec![],
+            load: None,
+            products: vec![],
+            counts: [0; 6],
+            held: vec![],
+        };
+        if self.chance(25) {
+            let kind = self.below(3);
+            let target = if bases.is_empty() { place(self) } else { self.pick(bases) };
+            stopped.transfer = vec![kind, 1 + self.below(3), target];
+            if kind == 2 {
+                stopped.transfer.push(self.value(code));
+            }
+        }
+        if self.chance(30) {
+            stopped.load = Some((self.below(32), self.value(code)));
+        }
+        for wait in 1..3 {
+            if self.chance(30) {
+                stopped.products.push([wait, self.next(), self.next()]);
+            }
+        }
+        for c in stopped.counts.iter_mut() {
+            *c = if self.chance(50) { self.below(100) as u64 } else { (self.next() as u64) << 32 | self.next() as u64 };
+        }
+        for _ in 0..self.below(4) {
+            if !bases.is_empty() {
+                stopped.held.push(self.pick(bases));
+            }
+        }
+        while !stopped.held.is_empty() && record::read(&record::write(&stopped), &under(g)).is_none() {
+            stopped.held.pop();
+        }
+        stopped
+    }
+
+    /// The record with some damage, which may leave it a record.
+    fn damaged(&mut self, record: &[u8], code: u32) -> Vec<u8> {
+        let mut r = record.to_vec();
+        if r.is_empty() {
+            return r;
+        }
+        for _ in 0..1 + self.below(2) {
+            let words = r.len() as u32 / 4;
+            if words == 0 {
+                break;
+            }
+            let word = 4 * self.below(words) as usize;
+            let value = if self.chance(50) { self.value(code) } else { self.pick(&[0, 1, 2, 3, 4, 5, 6, 12, 16, 31, 32, 255, 256, 257]) };
+            match self.below(12) {
+                0 => r[word] ^= 1 << self.below(8),
+                1 => r[word + 3] ^= 1 << self.below(8),
+                2 => r[word..word + 4].copy_from_slice(&value.to_be_bytes()),
+                3 => r.truncate(self.below(r.len() as u32) as usize),
+                4 => r.extend((0..1 + self.below(9)).map(|_| value as u8)),
+                5 => drop(r.drain(word..word + 4)),
+                6 => drop(r.splice(word..word, value.to_be_bytes())),
+                // The tail of the record, where things are absent or there: a word changed, put in or taken out, its section's count with it.
+                _ => {
+                    let Some(mut all) = record::sections(&r) else { continue };
+                    match self.below(8) {
+                        0 => {
+                            let (i, j) = (self.below(10) as usize, self.below(10) as usize);
+                            all.swap(i, j);
+                        }
+                        k @ 1..=2 => all[k as usize].iter_mut().take(1).for_each(|w| *w = value),
+                        3 => all[5] = (0..self.below(6)).map(|_| self.below(5)).collect(),
+                        4 => all[6] = (0..self.below(4)).map(|_| self.below(34)).collect(),
+                        5 => all[7] = (0..self.pick(&[0, 2, 3, 3, 4, 6, 6, 6, 9])).map(|_| self.below(4)).collect(),
+                        6 => {
+                            let n = all[9].len() as u32;
+                            let again = if n > 0 && self.chance(30) { all[9][self.below(n) as usize] } else { 4 * self.below(code / 4 + 2) };
+                            all[9].insert(self.below(n + 1) as usize, again);
+                        }
+                        _ => {
+                            let i = self.below(10) as usize;
+                            let n = all[i].len() as u32;
+                            let any = self.below(40);
+                            let length = self.pick(&[n + 1, n.saturating_sub(1), 2 * n, n / 2, any]);
+                            all[i].resize(length as usize, value);
+                        }
+                    }
+                    r = all.iter().flat_map(|s| std::iter::once(s.len() as u32).chain(s.iter().copied())).flat_map(u32::to_be_bytes).collect();
+                }
+            }
+        }
+        r
+    }
+
+    /// Settings that may be refused: one number changed.
+    fn unsettled(&mut self, g: &Given) -> Given {
+        let mut g = g.clone();
+        let s = &mut g.set;
+        match self.below(9) {
+            0 => s.words = self.pick(&[0, 1, 2, 3, 4, 5, 6, 8, 16, 511, 512, 513, 1024, 0x80000000]),
+            1 => s.lo = self.value(300),
+            2 => s.hi = self.value(300),
+            3 => s.on ^= 1,
+            4 => s.blocks = self.pick(&[0, 1, 2, 16, 17, 0xFFFFFFFF]),
+            5 => s.bytes = self.pick(&[0, 63, 64, 65, 16384, 16385, 0xFFFFFFFF]),
+            6 => g.code.truncate(self.below(g.code.len() as u32 + 1) as usize),
+            7 => g.main.resize(self.pick(&[0, 4, 100, 65535, 65536, 65537]) as usize, 0),
+            _ => g.local.resize(self.pick(&[0, 4, 65536, 65537]) as usize, 0),
+        }
+        g
+    }
+}
+
+// ---------------------------------------------------------------- what is tried on a program
+
+/// Runs of m and of n bundles through C are a run of m + n: answer, memories, state, and the sum of the counts.
+fn in_parts(b: &mut Bench, g: &Given, record: &[u8], m: u32, n: u32) {
+    let room = record::longest(g.set.words as usize);
+    let whole = b.call(g, record, room, Call::Run(m + n));
+    let first = b.call(g, record, room, Call::Run(m));
+    let between = b.written(g, &first);
+    let (last, mut counts) = match between {
+        Some(s) if first.answer == 257 => {
+            let mut rest = g.clone();
+            rest.main.clone_from(&first.main);
+            rest.local.clone_from(&first.local);
+            (b.call(&rest, &first.out[..record_length(&first.out)], room, Call::Run(n)), s.counts)
+        }
+        _ => (first, [0; 6]),
+    };
+    let (Some(w), Some(mut l)) = (b.written(g, &whole), b.written(g, &last)) else {
+        if whole != last {
+            b.stop("a run in two parts");
+        }
+        return;
+    };
+    for (c, d) in counts.iter_mut().zip(l.counts) {
+        *c += d;
+    }
+    l.counts = counts;
+    if w != l || whole.answer != last.answer || whole.main != last.main || whole.local != last.local {
+        println!("{}", case_of(g, record, room, Call::Run(m)));
+        b.stop(&format!("runs of {} and {} bundles are not one of {}", m, n, m + n));
+    }
+}
+
+fn check(b: &mut Bench, r: &mut Random, g: &Given) {
+    let mut mask = |most: u32| if r.chance(40) { 0 } else { r.next() & r.next() & r.next() & most };
+    let m = Marking { registers: mask(!1), predicates: mask(!1), others: mask(!0) };
+    let m = Marking { registers: m.registers | r.chance(2) as u32, predicates: m.predicates | r.chance(2) as u32, ..m };
+    let s = &g.set;
+    let due = match settings_ok(g) {
+        true => marks::check(&g.code, m),
+        false => marks::Found { answer: 1, address: 0, letters: 0 },
+    };
+    // The code is valid for its length.
+    let came = unsafe {
+        laqemdit_check(
+            g.code.as_ptr(),
+            g.code.len(),
+            m.registers,
+            m.predicates,
+            m.others,
+            g.main.len(),
+            g.local.len(),
+            s.words,
+            s.lo,
+            s.hi,
+            s.on,
+            s.blocks,
+            s.bytes,
+        )
+    };
+    let letter = if due.answer == 9 { (65..70).contains(&came.rule) && due.letters >> (came.rule - 65) & 1 == 1 } else { came.rule == 0 };
+    if came.answer != due.answer || came.address != due.address || !letter {
+        println!("code{}\n{:?}\n{:?}", hex(&words_of(&g.code)), s, m);
+        println!("due {:?}, came {} at {} rule {}", due, came.answer, came.address, came.rule);
+        b.stop("the check");
+    }
+    b.runs += 1;
+    *b.answers.entry(1000 + came.answer).or_default() += 1;
+}
+
+fn program(b: &mut Bench, r: &mut Random) {
+    let (mut g, bases) = r.given();
+    let code = g.code.len() as u32;
+    let longest = record::longest(g.set.words as usize);
+    // The library's figure, of this and of other sizes.
+    let words = if r.chance(50) { g.set.words } else { r.below(1200) };
+    let size = [4, 8, 16, 32, 64, 128, 256, 512].contains(&words);
+    if unsafe { laqemdit_longest(words) } as usize != if size { record::longest(words as usize) } else { 0 } {
+        b.stop(&format!("longest {}", words));
+    }
+    for _ in 0..3 {
+        let record = record::write(&r.stopped(&g, &bases));
+        let m = r.below(30);
+        let n = if r.chance(70) { r.below(30) } else { r.below(2000) };
+        in_parts(b, &g, &record, m, n);
+        let room = longest + r.below(40) as usize;
+        b.call(&g, &record, room, Call::Run(if r.chance(50) { n } else { r.below(3) }));
+        // Bundle by bundle, each from the record of the one before.
+        let mut now = record.clone();
+        let before = (g.main.clone(), g.local.clone());
+        for _ in 0..12 {
+            let l = b.call(&g, &now, longest, Call::Step);
+            if l.answer != 0 {
+                break;
+            }
+            now = l.out[..record_length(&l.out)].to_vec();
+            g.main = l.main;
+            g.local = l.local;
+        }
+        (g.main, g.local) = before;
+        // Damaged ones, of both ends of the way.
+        for _ in 0..8 {
+            let bad = if r.chance(50) { r.damaged(&record, code) } else { r.damaged(&now, code) };
+            let call = if r.chance(30) { Call::Step } else { Call::Run(r.below(4)) };
+            b.call(&g, &bad, longest, call);
+        }
+        // Outputs and settings at their limits.
+        let room = (longest + 1).saturating_sub(r.below(3) as usize);
+        b.call(&g, &record, room, Call::Run(n));
+        let room = r.below(longest as u32 + 4) as usize;
+        b.call(&g, &record, room, Call::Step);
+        let bad = r.unsettled(&g);
+        let given = if r.chance(70) { record.clone() } else { r.damaged(&record, code) };
+        b.call(&bad, &given, 8192, if r.chance(50) { Call::Step } else { Call::Run(m) });
+        check(b, r, &g);
+        check(b, r, &bad);
+    }
+}
+
+fn main() {
+    let args: Vec<String> = std::env::args().collect();
+    let number = |i: usize, absent: u64| args.get(i).map_or(Some(absent), |a| a.parse().ok());
+    let (Some(programs), Some(seed), Some(first)) = (number(1, 15000), number(2, 1), number(3, 0)) else {
+        eprintln!("usage: compare [PROGRAMS [SEED [FIRST]]]");
+        std::process::exit(2);
+    };
+    let mut b = Bench { seed, program: 0, runs: 0, bundles: 0, answers: Default::default() };
+    for k in first..first.saturating_add(programs) {
+        b.program = k;
+        // Each program has numbers of its own, so that one can be tried again alone.
+        let mut r = Random { state: (seed << 32 ^ k).wrapping_mul(0x9E3779B97F4A7C15) | 1, tame: k % 2 == 0 };
+        for _ in 0..4 {
+            r.next();
+        }
+        program(&mut b, &mut r);
+    }
+    let tally = |checks: bool| -> String {
+        let of_kind = b.answers.iter().filter(|(&a, _)| (a >= 1000) == checks);
+        of_kind.map(|(a, n)| format!(" {}: {}", a % 1000, n)).collect::<Vec<_>>().join(",")
+    };
+    println!("compare: {} bundles; answers of step and run{}; of check{}", b.bundles, tally(false), tally(true));
+    println!("compare: {} programs, {} runs, no difference", programs, b.runs);
+}

@@ -1,0 +1,116 @@
+/* Measures the run entry from C on a workload, whose code words it reads from standard input.
+ * Use: speed WORKLOAD BUDGET MAINLEN W TIMES < WORDS. The settings are those of bench/run: local memory of 1024 bytes, the stack area in the
+ * upper half of main memory, all memory zero; methods has entry 4 and a method cache of 4 blocks and 96 bytes.
+ * It prints what came of the run in the form of the program speed, and the least processor time a bundle of TIMES calls, each with its record
+ * read and written once.
+ */
+#include <stdio.h>
+#include <stdlib.h>
+#include <string.h>
+#include <time.h>
+
+#include "laqemdit.h"
+
+static uint8_t record[8192], out[8192], code[65536], main_memory[65536], local_memory[1024];
+
+static uint8_t *put_word(uint8_t *at, uint32_t w)
+{
+    at[0] = (uint8_t)(w >> 24);
+    at[1] = (uint8_t)(w >> 16);
+    at[2] = (uint8_t)(w >> 8);
+    at[3] = (uint8_t)w;
+    return at + 4;
+}
+
+static uint32_t word(const uint8_t *at)
+{
+    return (uint32_t)at[0] << 24 | (uint32_t)at[1] << 16 | (uint32_t)at[2] << 8 | at[3];
+}
+
+/* A section of words that are all 0; the count is told. */
+static uint8_t *zeros(uint8_t *at, uint32_t count)
+{
+    at = put_word(at, count);
+    while (count-- > 0)
+        at = put_word(at, 0);
+    return at;
+}
+
+int main(int argc, char **argv)
+{
+    uint32_t budget, words, lo, hi, entry = 0, on = 0, answer = 0, sum = 0, w;
+    size_t code_length = 0, main_length, record_length;
+    double least = 1e9;
+    uint8_t *at = record;
+    int times;
+    if (argc != 6) {
+        fprintf(stderr, "usage: speed WORKLOAD BUDGET MAINLEN W TIMES < WORDS\n");
+        return 2;
+    }
+    budget = (uint32_t)strtoul(argv[2], NULL, 10);
+    main_length = strtoul(argv[3], NULL, 10);
+    words = (uint32_t)strtoul(argv[4], NULL, 10);
+    times = atoi(argv[5]);
+    while (code_length < sizeof code && scanf("%x", &w) == 1) {
+        put_word(code + code_length, w);
+        code_length += 4;
+    }
+    if (main_length > sizeof main_memory || laqemdit_longest(words) == 0 || code_length == 0 || times < 1) {
+        fprintf(stderr, "speed: no code, too much main memory, no such stack cache, or no times\n");
+        return 2;
+    }
+    lo = (uint32_t)(main_length / 8 * 4);
+    hi = (uint32_t)(main_length / 4 * 4);
+    if (strcmp(argv[1], "methods") == 0) {
+        entry = 4;
+        on = 1;
+    }
+    at = put_word(at, 2);
+    at = put_word(at, entry);
+    at = put_word(at, entry);
+    at = zeros(at, 32);
+    at = put_word(at, 1);
+    at = put_word(at, 1);
+    put_word(put_word(at + 4 + 8, hi), hi);
+    put_word(at + 4 + 20, (uint32_t)code_length);
+    at = put_word(at, 8) + 32;
+    at = zeros(at, words);
+    at = zeros(at, 0);
+    at = zeros(at, 0);
+    at = zeros(at, 0);
+    at = zeros(at, 12);
+    at = zeros(at, 0);
+    record_length = (size_t)(at - record);
+    for (int i = 0; i < times; i++) {
+        clock_t start;
+        double took;
+        memset(main_memory, 0, sizeof main_memory);
+        memset(local_memory, 0, sizeof local_memory);
+        start = clock();
+        answer = laqemdit_run(record, record_length, code, code_length, main_memory, main_length, local_memory, sizeof local_memory, out,
+            sizeof out, budget, words, lo, hi, on, 4, 96);
+        took = (double)(clock() - start) / CLOCKS_PER_SEC;
+        least = took < least ? took : least;
+    }
+    if (answer == 1 || answer == 14) {
+        fprintf(stderr, "speed: the run is refused with %u\n", (unsigned)answer);
+        return 1;
+    }
+    at = out + 12;
+    for (int i = 0; i < 32; i++)
+        sum = (sum << 1 | sum >> 31) ^ word(at + 4 + 4 * i);
+    for (int k = 1; k < 8; k++)
+        at += 4 + 4 * (size_t)word(at);
+    at += 4;
+    if (answer == LAQEMDIT_ENDED || answer == LAQEMDIT_SPENT)
+        printf("%s %s", argv[1], answer == LAQEMDIT_ENDED ? "ended" : "spent");
+    else
+        printf("%s refused %u", argv[1], (unsigned)answer);
+    for (int i = 0; i < (on ? 6 : 4); i++) {
+        static const char *names[6] = {"bundles", "cycles", "spilled", "filled", "misses", "fetched"};
+        printf(" %s %llu", names[i], (unsigned long long)word(at + 8 * i) << 32 | word(at + 8 * i + 4));
+    }
+    printf(" checksum %08x\n", (unsigned)sum);
+    printf("%s: through C %.1f ns a bundle\n", argv[1], least / budget * 1e9);
+    return 0;
+}
