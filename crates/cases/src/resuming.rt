@@ -37,7 +37,7 @@ fn save(cache: &Cache, kept: &Kept, bytes: &mut Record) -> usize {
     let e = extents_of(kept);
     let w = e.words;
     let words = &cache[..];
-    record::write_record(state_of(kept), counts_of(kept), &words[0..w], &mut *bytes)
+    record::writing::write_record(state_of(kept), counts_of(kept), &words[0..w], &mut *bytes)
 }
 
 fn put_saved(out: &mut Report, bytes: &Record, length: usize) -> usize {
@@ -58,7 +58,7 @@ fn room_of(room: Room, words: usize) -> usize
     ensures { λ r. ⌜ r ≤ 8192 ⌝ }
 {
     match room {
-        Room::Longest => least(record::longest(words), RECORD_ROOM),
+        Room::Longest => least(record::writing::longest(words), RECORD_ROOM),
         Room::Bytes(n) => least(n as usize, RECORD_ROOM),
     }
 }

@@ -1,3 +1,2 @@
 -- Open first: Entries.antt.
 pub mod Entries
-pub mod BitLaws

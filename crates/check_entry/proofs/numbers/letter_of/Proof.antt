@@ -1,4 +1,4 @@
-use Rattle.entries.specs.Entries.{letterOf}
+use Rattle.check_entry.specs.CheckEntry.{letterOf}
 use borrow.Author.Tests.{ne-eqb, not-true}
 use Prim.Native.Nat.{ℕ, _-_, _≤_}
 use native.Mathlib.Omega.{arith}
@@ -7,10 +7,10 @@ use mathlib.Core.Path.{_≡_, refl, sym, ap, subst, _∙_}
 use mathlib.Core.List.{List, [], _++_}
 use denote.Ref.{now}
 use borrow.Author.Needs.{needs}
-use Rattle.entries.proofs.numbers.letter_of.Statement.{statement}
-use Rattle.entries.proofs.numbers.letter_of.Tie as tie
-use Rattle.entries.proofs.numbers.letter_of.Reads as reads
-use Rattle.entries.proofs.numbers.letter_of.Lts as lts
+use Rattle.check_entry.proofs.numbers.letter_of.Statement.{statement}
+use Rattle.check_entry.proofs.numbers.letter_of.Tie as tie
+use Rattle.check_entry.proofs.numbers.letter_of.Reads as reads
+use Rattle.check_entry.proofs.numbers.letter_of.Lts as lts
 
 -- src/numbers.rt:78:20
 enum-told : tie.Need-enum-told

@@ -1,12 +1,23 @@
-// The check.
+// The check for C, in a library of its own: beside it the step of a run would share the decoder with it, and be a third slower
+// (docs/DECISIONS.md). include/laqemdit.h declares it, docs/C.md tells how it is used.
 ghost use Rattle.settings.specs.Setup.{setup};
 ghost use Rattle.single_path.specs.Check.{checked};
-ghost use Rattle.entries.specs.Entries.{configOf, markingOf, Told};
-use crate::CheckedCode;
-use crate::numbers::config_of;
+ghost use Rattle.entries.specs.Entries.{configOf};
+ghost use Rattle.check_entry.specs.CheckEntry.{markingOf, Told};
 use crate::numbers::marking_of;
 use crate::numbers::told;
+use entries::numbers::config_of;
 use single_path::check;
+
+mod numbers;
+
+// What the check tells: its answer, the bundle's address, and of refusal 9 the letter of a broken rule.
+#[repr(C)]
+pub struct CheckedCode {
+    pub answer: u32,
+    pub address: u32,
+    pub rule: u32,
+}
 
 #[no_mangle]
 pub extern "C" fn laqemdit_check(

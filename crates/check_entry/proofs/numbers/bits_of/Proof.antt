@@ -1,4 +1,4 @@
-use Rattle.entries.specs.BitLaws.{bit-next, bit-last}
+use Rattle.check_entry.specs.BitLaws.{bit-next, bit-last}
 use Rattle.core_state.specs.State.{predicatesOf}
 use lib.Dec.{eqb}
 use lib.ListN.{length, take, set, length-set}
@@ -10,10 +10,10 @@ use mathlib.Core.Bool.{Bool, true, false}
 use mathlib.Core.Path.{_≡_, refl, sym, ap, subst, _∙_}
 use mathlib.Core.List.{List, [], _++_}
 use denote.Ref.{now}
-use Rattle.entries.proofs.numbers.bits_of.Statement.{statement}
-use Rattle.entries.proofs.numbers.bits_of.Tie as tie
-use Rattle.entries.proofs.numbers.bits_of.Reads as reads
-use Rattle.entries.proofs.numbers.bits_of.Lts as lts
+use Rattle.check_entry.proofs.numbers.bits_of.Statement.{statement}
+use Rattle.check_entry.proofs.numbers.bits_of.Tie as tie
+use Rattle.check_entry.proofs.numbers.bits_of.Reads as reads
+use Rattle.check_entry.proofs.numbers.bits_of.Lts as lts
 
 abbrev Inv-loop : tie.InvT-loop
 Inv-loop word bits₀ rest₀ i₀ bits rest i = (i ≤ 32) × (length bits ≡ 32) × (take i bits ++ predicatesOf (32 - i) rest ≡ predicatesOf 32 word)

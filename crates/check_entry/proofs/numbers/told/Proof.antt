@@ -1,4 +1,4 @@
-use Rattle.entries.specs.Entries.{checkNumber, checkAddress, letterTold, brokenBy, letterOf, Told, letter-broken, no-letter}
+use Rattle.check_entry.specs.CheckEntry.{checkNumber, checkAddress, letterTold, brokenBy, letterOf, Told, letter-broken, no-letter}
 use Rattle.single_path.specs.Check.{returned as checkReturned, letterBroken}
 use Rattle.single_path.specs.declared.Checked.{Checked}
 use Rattle.marking.specs.declared.Marking.{Marking}
@@ -12,11 +12,11 @@ use mathlib.Core.Path.{_≡_, refl, sym, ap, subst, _∙_}
 use mathlib.Core.List.{List, [], _++_}
 use denote.Ref.{now}
 use borrow.Author.Needs.{needs}
-use Rattle.entries.proofs.numbers.told.Statement.{statement}
-use Rattle.entries.proofs.numbers.told.Tie as tie
-use Rattle.entries.proofs.numbers.told.Reads as reads
-use Rattle.entries.proofs.numbers.told.Lts as lts
-use Rattle.entries.proofs.numbers.letter_of.Reads as letter-of-reads
+use Rattle.check_entry.proofs.numbers.told.Statement.{statement}
+use Rattle.check_entry.proofs.numbers.told.Tie as tie
+use Rattle.check_entry.proofs.numbers.told.Reads as reads
+use Rattle.check_entry.proofs.numbers.told.Lts as lts
+use Rattle.check_entry.proofs.numbers.letter_of.Reads as letter-of-reads
 
 -- src/numbers.rt:90:30
 enum-told : tie.Need-enum-told

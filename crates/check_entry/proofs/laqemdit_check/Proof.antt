@@ -2,18 +2,18 @@ use Rattle.single_path.specs.Check.{CheckAnswer, checked}
 use Rattle.marking.specs.declared.Marking.{Marking}
 use Rattle.settings.specs.Setup.{setup}
 use Rattle.settings.specs.declared.Config.{Config}
-use Rattle.entries.specs.Entries.{markingOf, Told}
+use Rattle.check_entry.specs.CheckEntry.{markingOf, Told}
 use mathlib.Core.Bool.{Bool, true, false}
 use mathlib.Core.Path.{_≡_, refl, sym, ap, subst, _∙_}
 use denote.Ref.{now}
 use borrow.Author.Needs.{needs}
-use Rattle.entries.proofs.checking.laqemdit_check.Statement.{statement}
-use Rattle.entries.proofs.checking.laqemdit_check.Tie as tie
-use Rattle.entries.proofs.checking.laqemdit_check.Reads as reads
-use Rattle.entries.proofs.checking.laqemdit_check.Lts as lts
+use Rattle.check_entry.proofs.laqemdit_check.Statement.{statement}
+use Rattle.check_entry.proofs.laqemdit_check.Tie as tie
+use Rattle.check_entry.proofs.laqemdit_check.Reads as reads
+use Rattle.check_entry.proofs.laqemdit_check.Lts as lts
 use Rattle.entries.proofs.numbers.config_of.Reads as config-of-reads
-use Rattle.entries.proofs.numbers.marking_of.Reads as marking-of-reads
-use Rattle.entries.proofs.numbers.told.Reads as told-reads
+use Rattle.check_entry.proofs.numbers.marking_of.Reads as marking-of-reads
+use Rattle.check_entry.proofs.numbers.told.Reads as told-reads
 use Rattle.single_path.proofs.check.Reads as check-reads
 
 -- src/checking.rt:28:9

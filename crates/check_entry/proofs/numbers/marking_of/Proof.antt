@@ -1,14 +1,14 @@
-use Rattle.entries.specs.Entries.{markingOf}
+use Rattle.check_entry.specs.CheckEntry.{markingOf}
 use lib.ListN.{getD}
 use mathlib.Core.Bool.{Bool, true, false}
 use mathlib.Core.Path.{_≡_, refl, sym, ap, subst, _∙_}
 use denote.Ref.{now}
 use borrow.Author.Needs.{needs}
-use Rattle.entries.proofs.numbers.marking_of.Statement.{statement}
-use Rattle.entries.proofs.numbers.marking_of.Tie as tie
-use Rattle.entries.proofs.numbers.marking_of.Reads as reads
-use Rattle.entries.proofs.numbers.marking_of.Lts as lts
-use Rattle.entries.proofs.numbers.bits_of.Reads as bits-of-reads
+use Rattle.check_entry.proofs.numbers.marking_of.Statement.{statement}
+use Rattle.check_entry.proofs.numbers.marking_of.Tie as tie
+use Rattle.check_entry.proofs.numbers.marking_of.Reads as reads
+use Rattle.check_entry.proofs.numbers.marking_of.Lts as lts
+use Rattle.check_entry.proofs.numbers.bits_of.Reads as bits-of-reads
 use Rattle.record_parts.proofs.reading.predicates_in.Reads as predicates-in-reads
 
 -- src/numbers.rt:60:9

@@ -1,0 +1,3 @@
+-- Open first: CheckEntry.antt.
+pub mod CheckEntry
+pub mod BitLaws
