@@ -33,11 +33,6 @@ pub record Form (w : ℕ) (l : List ℕ) : Type 0 where
   pub products : areProducts (sectionAt 7 l) ≡ true
   pub held : length (sectionAt 9 l) ≤ 16
 
-pub form-is : (w : ℕ) (l : List ℕ) → Form w l → isRecord w l ≡ true
-unfolding isRecord
-form-is w l f =
-    rw (f .cut, f .flow, f .registers, f .predicates, f .specials, eq-eqb _ _ (f .cache), f .counts, lt-ltb _ _ (f .word), f .transfer, f .load, f .products, le-leb _ _ (f .held)) refl
-
 module _ (w : ℕ) (l : List ℕ) where
   abbrev has : ℕ → ℕ → Bool
   has k n = eqb (length (sectionAt k l)) n
@@ -72,6 +67,11 @@ module _ (w : ℕ) (l : List ℕ) where
         products = and-left (areProducts (sectionAt 7 l)) (leb (length (sectionAt 9 l)) 16) d;
         held = leb-true (length (sectionAt 9 l)) 16 (and-right (areProducts (sectionAt 7 l)) (leb (length (sectionAt 9 l)) 16) d);
       }
+
+pub form-is : (w : ℕ) (l : List ℕ) → Form w l → isRecord w l ≡ true
+unfolding isRecord
+form-is w l f =
+    rw (f .cut, f .flow, f .registers, f .predicates, f .specials, eq-eqb _ _ (f .cache), f .counts, lt-ltb _ _ (f .word), f .transfer, f .load, f .products, le-leb _ _ (f .held)) refl
 
 -- A box that has the form of its type, and whose products are such as 11 lets pass.
 pub record Formed (p : Box) : Type 0 where
