@@ -58,6 +58,11 @@ predicates-forth (false ∷ ps) =
     let high : (0 + 2 * predicatesWord ps) / 2 ≡ predicatesWord ps = omega arith in
     λ i. eqb (low i) 1 ∷ (ap (predicatesOf (length ps)) high ∙ predicates-forth ps) i
 
+pub predicates-many : (k v : ℕ) → length (predicatesOf k v) ≡ k
+unfolding predicatesOf
+predicates-many zero v = refl
+predicates-many (suc k) v = ap suc (predicates-many k (v / 2))
+
 pub predicates-small : (ps : List Bool) → predicatesWord ps < 2 ^ length ps
 unfolding predicatesWord
 predicates-small [] = omega arith

@@ -1,16 +1,17 @@
 -- A run continued from the record of a stopped one, over the same memories, goes on as if it had never stopped, its own counts from 0.
 use Prim.Native.Nat.{ℕ, _+_, _≤_}
-use mathlib.Core.Bool.{Bool, true, not, cond, _||_}
+use mathlib.Core.Bool.{Bool, true, false, not, cond, _||_}
 use mathlib.Core.List.{List}
 use mathlib.Core.Path.{_≡_, refl, sym, ap, subst, _∙_}
 use borrow.Author.Tests.{le-ltb}
 use lib.Dec.{ltb}
-use lib.ListN.{length}
+use lib.ListN.{length, take, drop}
+use lib.Seq.{take-append-seam, drop-append-seam}
 use Rattle.answers.specs.Answer.{Returned, accepted, done, ended, spent, refused}
 use Rattle.settings.specs.Setup.{Setup, Buffers, buffers, settings, lent}
 use Rattle.settings.specs.Settings.{admits}
 use Rattle.settings.specs.SettingsLaws.{capacity-ok}
-use Rattle.sections.specs.Words.{over}
+use Rattle.sections.specs.Words.{AreBytes}
 use Rattle.core_state.specs.State.{State, Shaped}
 use Rattle.bundle_model.specs.declared.Counts.{Counts}
 use Rattle.bundle_model.specs.declared.Readiness.{Readiness}
@@ -25,8 +26,8 @@ use Rattle.run_model.specs.SplitLaws.{ifSpent, continued, run-split, run-length
 use Rattle.run_model.specs.Loop.{goesOn, ending}
 use Rattle.run_model.specs.LoopLaws.{run-advanced}
 use Rattle.record_model.specs.Record.{Box, box, recordOf, readRecord, accepts, longest, InWords}
-use Rattle.record_model.specs.RecordLaws.{record-read, record-accepted}
-use Rattle.resume_model.specs.Resume.{Resumed, boxOf, handedOut, fromRecord, resumed}
+use Rattle.record_model.specs.RecordLaws.{record-read, record-accepted, accepted-record}
+use Rattle.resume_model.specs.Resume.{Resumed, asFound, boxOf, handedOut, fromRecord, resumed}
 
 -- What goes on from the record of a box goes on from the box.
 pub from-box : (go : State → Buffers → Outcome) (x : Setup) (p : Box) (main local out : List ℕ) → InWords p → Shaped (p .state) → wellFormed x (p .state) ≡ true
@@ -65,16 +66,26 @@ spent-ready x m s b e = go (readiness (lent x b) x s) refl (sym (ap (λ (o : Out
     go Ended f h = cc
     go (Refused k) f h = cc
 
--- A stopped box carried on: what comes of it is what the run would have given, had it not stopped; the counts of both parts are its counts.
+-- A stopped box carried on: what comes of it is what the run would have given, had it not stopped; the counts of both parts are its counts,
+-- and the record stands where the output buffer begins, its length told, with the buffer's rest behind it.
 pub record CarriedOn (whole : Outcome) (before : Counts) (out : List ℕ) (r : Resumed) : Type 0 where
   pub answer : r .answer ≡ whole .answer
   pub main : r .main ≡ whole .buffers .main
   pub local : r .local ≡ whole .buffers .local
   pub counts : plus before (r .counts) ≡ whole .counts
-  pub record-out : r .out ≡ over out (recordOf (box (whole .state) (whole .buffers .cache) (r .counts)))
+  pub record-there : take (r .written) (r .out) ≡ recordOf (box (whole .state) (whole .buffers .cache) (r .counts))
+  pub rest-kept : drop (r .written) (r .out) ≡ drop (r .written) out
 
--- For every state and every setting: that the first run was spent says all that is needed of them but that the state has 32 registers and
--- 8 predicates and its numbers are words, as those of the type have.
+-- What is handed out of an outcome: its record, and behind it what was there.
+handed-record : (o : Outcome) (out : List ℕ) → take (handedOut o out .written) (handedOut o out .out) ≡ recordOf (boxOf o)
+handed-record o out = take-append-seam (recordOf (boxOf o)) (drop (length (recordOf (boxOf o))) out)
+
+handed-rest : (o : Outcome) (out : List ℕ) → drop (handedOut o out .written) (handedOut o out .out) ≡ drop (handedOut o out .written) out
+handed-rest o out = drop-append-seam (recordOf (boxOf o)) (drop (length (recordOf (boxOf o))) out)
+
+-- For every state and every setting: that the first run was spent tells that 1 and 11 let them pass. Of the state is asked that it has 32
+-- registers and 8 predicates, and of what the first run left that its numbers are words, as all that a function is given or gives has it by
+-- its type.
 pub never-stopped : (x : Setup) (m n : ℕ) (s : State) (b : Buffers) (out : List ℕ) → Shaped s → InWords (boxOf (run x m s b)) → longest (length (b .cache)) ≤ length out
     → run x m s b .answer ≡ spent
     → CarriedOn (run x (m + n) s b) (run x m s b .counts) out (resumed x n (length (b .cache)) (recordOf (boxOf (run x m s b))) (run x m s b .buffers .main) (run x m s b .buffers .local) out)
@@ -84,13 +95,41 @@ never-stopped x m n s b out shaped words room e =
     let next = resume-goes-on x m n s b out shaped words room (ready-admits (lent x b) x s ready) (ready-well-formed (lent x b) x s ready) in
     let rest = run x n (o .state) (o .buffers) in
     let split : run x (m + n) s b ≡ counted (o .counts) rest = run-split x m n s b ∙ ap (λ (a : Returned). ifSpent a (counted (o .counts) rest) o) e in
-    let whole = run x (m + n) s b in
-    record {
-      answer = ap (λ (r : Resumed). r .answer) next ∙ sym (ap (λ (y : Outcome). y .answer) split);
-      main = ap (λ (r : Resumed). r .main) next ∙ sym (ap (λ (y : Outcome). y .buffers .main) split);
-      local = ap (λ (r : Resumed). r .local) next ∙ sym (ap (λ (y : Outcome). y .buffers .local) split);
-      counts = ap (λ (r : Resumed). plus (o .counts) (r .counts)) next ∙ sym (ap (λ (y : Outcome). y .counts) split);
-      record-out =
-          ap (λ (r : Resumed). r .out) next
-          ∙ (λ i. over out (recordOf (box (sym (ap (λ (y : Outcome). y .state) split) i) (sym (ap (λ (y : Outcome). y .buffers .cache) split) i) (sym (ap (λ (r : Resumed). r .counts) next) i))));
-    }
+    subst (λ (r : Resumed). CarriedOn (run x (m + n) s b) (o .counts) out r) (sym next)
+    (subst (λ (whole : Outcome). CarriedOn whole (o .counts) out (handedOut rest out)) (sym split)
+    (record { answer = refl; main = refl; local = refl; counts = refl; record-there = handed-record rest out; rest-kept = handed-rest rest out }))
+
+-- What a call that is spent tells of its record, and what it hands out.
+module _ (x : Setup) (m w : ℕ) (bytes main local out : List ℕ) where
+  abbrev there : Outcome
+  there = run x m (readRecord bytes .state) (buffers main local (readRecord bytes .cache))
+
+  spent-handed : resumed x m w bytes main local out .answer ≡ spent → (accepts x w bytes ≡ true) × (resumed x m w bytes main local out ≡ handedOut there out)
+  unfolding fromRecord
+  spent-handed = go (not (admits (settings x (length main) (length local) w))) (ltb (length out) (longest w)) (accepts x w bytes) refl
+    where
+      go : (t u a : Bool) → accepts x w bytes ≡ a → cond t (asFound 1 main local out) (cond (u || not a) (asFound 14 main local out) (handedOut there out)) .answer ≡ spent
+          → (accepts x w bytes ≡ true) × (cond t (asFound 1 main local out) (cond (u || not a) (asFound 14 main local out) (handedOut there out)) ≡ handedOut there out)
+      go true u a f e = (cc, cc)
+      go false true a f e = (cc, cc)
+      go false false false f e = (cc, cc)
+      go false false true f e = (f, refl)
+
+  -- Two calls, the second with the record that stands where the first one's output begins: what one run from the first record with both
+  -- budgets gives.
+  pub called-twice : (n : ℕ) (next : List ℕ) → AreBytes bytes → InWords (boxOf there) → longest w ≤ length next → resumed x m w bytes main local out .answer ≡ spent
+      → let r = resumed x m w bytes main local out in
+      CarriedOn (run x (m + n) (readRecord bytes .state) (buffers main local (readRecord bytes .cache))) (r .counts) next
+      (resumed x n w (take (r .written) (r .out)) (r .main) (r .local) next)
+  called-twice n next are words room e =
+      let s = readRecord bytes .state in
+      let b = buffers main local (readRecord bytes .cache) in
+      let h = spent-handed e in
+      let r = accepted-record x w bytes are (h .0) in
+      let fits : longest (length (b .cache)) ≤ length next = subst (λ (k : ℕ). longest k ≤ length next) (sym (r .cache)) room in
+      let first : there .answer ≡ spent = sym (ap (λ (y : Resumed). y .answer) (h .1)) ∙ e in
+      let on = never-stopped x m n s b next (r .shaped) words fits first in
+      let found : take (handedOut there out .written) (handedOut there out .out) ≡ recordOf (boxOf there) = handed-record there out in
+      subst (λ (y : Resumed). CarriedOn (run x (m + n) s b) (y .counts) next (resumed x n w (take (y .written) (y .out)) (y .main) (y .local) next)) (sym (h .1))
+      (subst (λ (l : List ℕ). CarriedOn (run x (m + n) s b) (there .counts) next (resumed x n w l (there .buffers .main) (there .buffers .local) next)) (sym found)
+      (subst (λ (k : ℕ). CarriedOn (run x (m + n) s b) (there .counts) next (resumed x n k (recordOf (boxOf there)) (there .buffers .main) (there .buffers .local) next)) (r .cache) on))
