@@ -1,6 +1,6 @@
 /* A bench program in C: opens a box by writing its record, steps it, runs it, stops it anywhere and carries it on, hands in damaged
  * records, and checks code; it compares every answer and every byte with what docs/RECORD.md and include/laqemdit.h say.
- * Use: bench. It needs nothing but the C library and the archive, and prints the same lines every time.
+ * Use: bench. It needs nothing but the C library and the two archives, and prints the same lines every time.
  * The last line is 'bench: all N comparisons hold'; at the first difference it says what differs, and ends with status 1.
  */
 #include <stdarg.h>

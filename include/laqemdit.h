@@ -1,8 +1,9 @@
 /* The C entries of Laqemdit: a stopped box goes on, for one bundle or for a budget, and code is checked.
  *
- * Link with the archive that `rt staticlib entries` makes, target/staticlib/libentries.a.
+ * Link with the archive that `rt staticlib entries` makes, target/staticlib/libentries.a, and for the check with that of
+ * `rt staticlib check_entry`, target/staticlib/libcheck_entry.a.
  *
- * The contracts of the functions in the archive are proved. This header is not: that it declares what the archive has, and that a caller
+ * The contracts of the functions in the archives are proved. This header is not: that it declares what they have, and that a caller
  * keeps what is asked below, is believed.
  *
  * Asked of every call:

@@ -1,4 +1,4 @@
-// The check for C, in a library of its own: beside it the step of a run would share the decoder with it, and be a third slower
+// The check for C, in a library of its own: beside it the step of a run would share the decoder with it, and take 20 ns in place of 14
 // (docs/DECISIONS.md). include/laqemdit.h declares it, docs/C.md tells how it is used.
 ghost use Rattle.settings.specs.Setup.{setup};
 ghost use Rattle.single_path.specs.Check.{checked};

@@ -1,14 +1,13 @@
 -- A record written over the beginning of a lent buffer.
-use Prim.Native.Nat.{ℕ, _+_, _*_, _≤_}
+use Prim.Native.Nat.{ℕ, _+_, _*_}
 use mathlib.Core.Bool.{cond, _&&_}
-use mathlib.Core.List.{List, []}
-use mathlib.Core.Path.{_≡_, _∙_, ap}
-use native.Mathlib.Omega.{arith}
+use mathlib.Core.List.{List}
+use mathlib.Core.Path.{_≡_}
 use lib.Dec.{leb}
 use lib.ListN.{length}
 use Rattle.stack_cache.specs.Stack.{isCacheSize}
 use Rattle.sections.specs.Words.{over, putWords}
-use Rattle.sections.specs.Sections.{section, joined}
+use Rattle.sections.specs.Sections.{joined}
 use Rattle.record_model.specs.Record.{Box, recordOf, longest}
 
 -- The longest record's length where W is a cache size, and else 0.

@@ -1,10 +1,9 @@
 // Sections put into bytes, one behind the other: each function gives the address behind what it put.
-ghost use mathlib.Core.Path.{_≡_};
 ghost use mathlib.Core.List.{_∷_, []};
 ghost use Prim.Native.Nat.{_+_, _*_, _≤_};
 ghost use lib.ListN.{length};
 ghost use Rattle.alu_effects.specs.AluEffects.{predicatesWord};
-ghost use Rattle.record_model.specs.Record.{specialsSection, transferSection, loadSection, productSection, countSection};
+ghost use Rattle.record_model.specs.Record.{specialsSection, transferSection, loadSection, productSection};
 ghost use Rattle.record_parts.specs.Few.{fewIn};
 ghost use Rattle.record.specs.Written.{Put};
 use alu_effects::Specials;

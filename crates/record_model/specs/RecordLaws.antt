@@ -1,13 +1,13 @@
 -- Laws of the record. A well-formed box's record is accepted and read as that box; what is read of an accepted record is written as its bytes,
 -- so that different accepted records are different boxes; and how long records are. That equal boxes have equal bytes is that `recordOf` is
 -- a function of the box.
-use Prim.Native.Nat.{ℕ, _+_, _*_, _%_, _<_, _≤_}
+use Prim.Native.Nat.{ℕ, _+_, _*_, _%_, _≤_}
 use mathlib.Core.Bool.{Bool, true, false, cond, _&&_}
 use mathlib.Core.List.{List, _∷_}
 use mathlib.Core.Path.{_≡_, refl, sym, ap, subst, _∙_}
 use native.Mathlib.Nat.{add-zero}
 use native.Mathlib.Omega.{arith}
-use borrow.Author.Tests.{eqb-true, leb-true, eq-eqb}
+use borrow.Author.Tests.{eqb-true, leb-true}
 use lib.Dec.{eqb, leb}
 use lib.ListN.{length, getD, replicate}
 use Rattle.word.specs.BoolLaws.{and-left, and-right}

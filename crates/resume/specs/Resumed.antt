@@ -2,8 +2,6 @@
 use mathlib.Core.List.{List}
 use Prim.Native.Nat.{ℕ}
 use Rattle.answers.specs.Answer.{Returned, done, ended, spent, refused}
-use Rattle.run.specs.declared.RunAnswer.{RunAnswer}
-use Rattle.run.specs.Ran.{returned as ran}
 use Rattle.resume_model.specs.Resume.{Resumed, resumedOf}
 use Rattle.resume.specs.declared.Reply.{Reply}
 use Rattle.resume.specs.declared.Reply.the-variants as reply

@@ -1,14 +1,11 @@
 // Steps and runs from a record: the state goes in and out as bytes.
 ghost use mathlib.Core.Path.{_≡_};
-ghost use mathlib.Core.Bool.{true, _&&_, cond};
+ghost use mathlib.Core.Bool.{true, _&&_};
 ghost use mathlib.Core.List.{List};
 ghost use Prim.Native.Nat.{ℕ, _≤_};
-ghost use lib.Dec.{eqb};
 ghost use lib.ListN.{length};
-ghost use Rattle.answers.specs.Answer.{refused, done};
 ghost use Rattle.settings.specs.Settings.{admits};
 ghost use Rattle.settings.specs.Setup.{setup, setupOf, settings};
-ghost use Rattle.bundle_model.specs.Counts.{noCounts};
 ghost use Rattle.bundle_model.specs.Bundle.{wellFormed};
 ghost use Rattle.state.specs.Whole.{stateOf};
 ghost use Rattle.run.specs.Ran.{returned as ran};

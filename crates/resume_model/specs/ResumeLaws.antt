@@ -7,7 +7,7 @@ use borrow.Author.Tests.{le-ltb}
 use lib.Dec.{ltb}
 use lib.ListN.{length, take, drop}
 use lib.Seq.{take-append-seam, drop-append-seam}
-use Rattle.answers.specs.Answer.{Returned, accepted, done, ended, spent, refused}
+use Rattle.answers.specs.Answer.{Returned, spent}
 use Rattle.settings.specs.Setup.{Setup, Buffers, buffers, settings, lent}
 use Rattle.settings.specs.Settings.{admits}
 use Rattle.settings.specs.SettingsLaws.{capacity-ok}
@@ -19,10 +19,10 @@ use Rattle.bundle_model.specs.declared.Readiness.the-variants.{Ready, Ended, Re
 use Rattle.bundle_model.specs.Counts.{plus}
 use Rattle.bundle_model.specs.Bundle.{Outcome, counted, wellFormed, readiness, readyOr}
 use Rattle.bundle_model.specs.BundleLaws.{ready-admits, ready-well-formed}
-use Rattle.step_laws.specs.StackKept.{SameLengths, lent-same}
+use Rattle.step_laws.specs.StackKept.{lent-same}
 use Rattle.run_model.specs.Run.{run}
 use Rattle.run_model.specs.RunLaws.{run-shaped, run-well-formed}
-use Rattle.run_model.specs.SplitLaws.{ifSpent, continued, run-split, run-lengths}
+use Rattle.run_model.specs.SplitLaws.{ifSpent, run-split, run-lengths}
 use Rattle.run_model.specs.Loop.{goesOn, ending}
 use Rattle.run_model.specs.LoopLaws.{run-advanced}
 use Rattle.record_model.specs.Record.{Box, box, recordOf, readRecord, accepts, longest, InWords}

@@ -1,7 +1,7 @@
 -- Laws of sections: what is joined is cut again into the same, and what can be cut is its own sections joined. One argument serves all
 -- sections, whatever they hold.
-use Prim.Native.Nat.{ℕ, zero, suc, _+_, _^_, _<_, min}
-use mathlib.Core.Bool.{Bool, true, false, false≢true, _&&_}
+use Prim.Native.Nat.{ℕ, zero, suc, _+_, _^_, _<_}
+use mathlib.Core.Bool.{Bool, true, false, false≢true}
 use mathlib.Core.List.{List, [], _∷_, _++_, append-assoc}
 use mathlib.Core.Path.{_≡_, refl, sym, ap, _∙_}
 use native.Mathlib.Omega.{arith}

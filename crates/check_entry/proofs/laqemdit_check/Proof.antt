@@ -3,8 +3,7 @@ use Rattle.marking.specs.declared.Marking.{Marking}
 use Rattle.settings.specs.Setup.{setup}
 use Rattle.settings.specs.declared.Config.{Config}
 use Rattle.check_entry.specs.CheckEntry.{markingOf, Told}
-use mathlib.Core.Bool.{Bool, true, false}
-use mathlib.Core.Path.{_≡_, refl, sym, ap, subst, _∙_}
+use mathlib.Core.Path.{subst}
 use denote.Ref.{now}
 use borrow.Author.Needs.{needs}
 use Rattle.check_entry.proofs.laqemdit_check.Statement.{statement}

@@ -1,11 +1,5 @@
 use Rattle.resume_model.specs.Resume.{asStep}
-use borrow.Author.Tests.{eq-eqb, ne-eqb, not-true, not-false}
-use Prim.Native.Nat.{ℕ}
-use lib.ListN.{length}
-use native.Mathlib.Omega.{arith}
-use mathlib.Core.Path.{_≡_, refl, sym, ap, subst, _∙_}
-use mathlib.Core.List.{List}
-use denote.Ref.{now}
+use borrow.Author.Tests.{ne-eqb}
 use Rattle.resume.proofs.as_step.Statement.{statement}
 use Rattle.resume.proofs.as_step.Tie as tie
 use Rattle.resume.proofs.as_step.Reads as reads

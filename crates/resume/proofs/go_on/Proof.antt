@@ -8,13 +8,9 @@ use Rattle.settings.specs.Setup.{setup, buffers}
 use Rattle.answers.specs.Answer.{Returned}
 use Rattle.run_model.specs.Run.{run}
 use Rattle.resume_model.specs.Resume.{resumedOf}
-use mathlib.Core.Bool.{Bool, true, false}
-use borrow.Author.Tests.{eq-eqb, ne-eqb, not-true, not-false}
-use Prim.Native.Nat.{ℕ}
+use borrow.Author.Tests.{not-true, not-false}
 use lib.ListN.{length}
-use native.Mathlib.Omega.{arith}
-use mathlib.Core.Path.{_≡_, refl, sym, ap, subst, _∙_}
-use mathlib.Core.List.{List}
+use mathlib.Core.Path.{sym, ap, _∙_}
 use denote.Ref.{now}
 use borrow.Author.Needs.{needs}
 use Rattle.resume.proofs.go_on.Statement.{statement}

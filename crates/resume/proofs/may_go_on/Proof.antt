@@ -4,17 +4,9 @@ use Rattle.core_state.specs.Core.{joined}
 use Rattle.core_state.specs.State.{withHeld}
 use Rattle.state.specs.Whole.{stateOf, core-joined}
 use Rattle.bundle_model.specs.Bundle.{readiness}
-use Rattle.bundle_model.specs.declared.Readiness.{Readiness}
 use Rattle.core_state.specs.declared.Core.{Core}
-use Rattle.core_state.specs.State.{State}
 use Rattle.settings.specs.Setup.{setupOf}
-use mathlib.Core.Bool.{Bool, true, false}
-use borrow.Author.Tests.{eq-eqb, ne-eqb, not-true, not-false}
-use Prim.Native.Nat.{ℕ}
-use lib.ListN.{length}
-use native.Mathlib.Omega.{arith}
-use mathlib.Core.Path.{_≡_, refl, sym, ap, subst, _∙_}
-use mathlib.Core.List.{List}
+use mathlib.Core.Path.{sym, ap, _∙_}
 use denote.Ref.{now}
 use borrow.Author.Needs.{needs}
 use Rattle.resume.proofs.may_go_on.Statement.{statement}

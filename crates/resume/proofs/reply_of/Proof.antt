@@ -1,10 +1,3 @@
-use borrow.Author.Tests.{eq-eqb, ne-eqb, not-true, not-false}
-use Prim.Native.Nat.{ℕ}
-use lib.ListN.{length}
-use native.Mathlib.Omega.{arith}
-use mathlib.Core.Path.{_≡_, refl, sym, ap, subst, _∙_}
-use mathlib.Core.List.{List}
-use denote.Ref.{now}
 use borrow.Author.Needs.{needs}
 use Rattle.resume.proofs.reply_of.Statement.{statement}
 use Rattle.resume.proofs.reply_of.Tie as tie

@@ -1,16 +1,8 @@
 use Rattle.resume_model.specs.StepLaws.{asStepped, restep-resume}
-use Rattle.resume_model.specs.Resume.{Resumed, resumedOf, asStep}
+use Rattle.resume_model.specs.Resume.{resumedOf}
 use Rattle.answers.specs.Answer.{Returned}
-use Rattle.resume_model.specs.Resume.{resumed, restepped}
-use Rattle.settings.specs.Settings.{admits}
-use Rattle.settings.specs.Setup.{setup, settings}
-use mathlib.Core.Bool.{Bool, true, false}
-use borrow.Author.Tests.{eq-eqb, ne-eqb, not-true, not-false}
-use Prim.Native.Nat.{ℕ, _≤_}
-use lib.ListN.{length}
-use native.Mathlib.Omega.{arith}
-use mathlib.Core.Path.{_≡_, refl, sym, ap, subst, _∙_}
-use mathlib.Core.List.{List}
+use Rattle.settings.specs.Setup.{setup}
+use mathlib.Core.Path.{sym, ap, _∙_}
 use denote.Ref.{now}
 use borrow.Author.Needs.{needs}
 use Rattle.resume.proofs.restep.Statement.{statement}

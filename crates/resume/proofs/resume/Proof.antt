@@ -1,14 +1,9 @@
 use Rattle.resume.specs.GoingLaws.{bad-settings, no-room, room-of, short-of}
-use Rattle.resume_model.specs.Resume.{resumed, restepped}
 use Rattle.settings.specs.Settings.{admits}
 use Rattle.settings.specs.Setup.{setup, settings}
-use mathlib.Core.Bool.{Bool, true, false}
-use borrow.Author.Tests.{eq-eqb, ne-eqb, not-true, not-false}
-use Prim.Native.Nat.{ℕ, _≤_}
+use borrow.Author.Tests.{not-true, not-false}
 use lib.ListN.{length}
-use native.Mathlib.Omega.{arith}
-use mathlib.Core.Path.{_≡_, refl, sym, ap, subst, _∙_}
-use mathlib.Core.List.{List}
+use mathlib.Core.Path.{sym, ap, _∙_}
 use denote.Ref.{now}
 use borrow.Author.Needs.{needs}
 use Rattle.resume.proofs.resume.Statement.{statement}

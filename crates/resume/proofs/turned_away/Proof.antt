@@ -1,13 +1,7 @@
 use Rattle.bundle_model.specs.declared.Counts.{Counts}
 use Rattle.resume_model.specs.Resume.{resumedOf}
 use Rattle.answers.specs.Answer.{refused}
-use borrow.Author.Tests.{eq-eqb, ne-eqb, not-true, not-false}
-use Prim.Native.Nat.{ℕ}
-use lib.ListN.{length}
-use native.Mathlib.Omega.{arith}
-use mathlib.Core.Path.{_≡_, refl, sym, ap, subst, _∙_}
-use mathlib.Core.List.{List}
-use denote.Ref.{now}
+use mathlib.Core.Path.{ap}
 use borrow.Author.Needs.{needs}
 use Rattle.resume.proofs.turned_away.Statement.{statement}
 use Rattle.resume.proofs.turned_away.Tie as tie

@@ -1,18 +1,13 @@
-use Rattle.resume.specs.Resumed.{resumedWith}
-use Rattle.resume_model.specs.Resume.{Resumed}
 use Rattle.resume.specs.GoingLaws.{part-long}
 use Rattle.record_model.specs.Record.{longest}
 use Rattle.settings.specs.SettingsLaws.{words-small}
-use Rattle.resume_model.specs.Resume.{resumed, restepped}
+use Rattle.resume_model.specs.Resume.{resumed}
 use Rattle.settings.specs.Settings.{admits}
 use Rattle.settings.specs.Setup.{setup, settings}
-use mathlib.Core.Bool.{Bool, true, false}
-use borrow.Author.Tests.{eq-eqb, ne-eqb, not-true, not-false}
 use Prim.Native.Nat.{ℕ, _≤_}
 use lib.ListN.{length}
 use native.Mathlib.Omega.{arith}
-use mathlib.Core.Path.{_≡_, refl, sym, ap, subst, _∙_}
-use mathlib.Core.List.{List}
+use mathlib.Core.Path.{_≡_, sym, ap, subst, _∙_}
 use denote.Ref.{now}
 use borrow.Author.Needs.{needs}
 use Rattle.resume.proofs.with_cache.Statement.{statement}

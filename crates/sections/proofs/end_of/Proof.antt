@@ -1,9 +1,8 @@
 use denote.Ref.{now}
 use mathlib.Core.Path.{_≡_, refl, sym, ap, _∙_}
 use native.Mathlib.Omega.{arith}
-use Prim.Native.Nat.{ℕ, _<_, _≤_, _+_, _-_}
+use Prim.Native.Nat.{_≤_, _-_}
 use lib.ListN.{length, take, drop}
-use mathlib.Core.List.{List}
 use Rattle.sections.specs.Words.{wordsIn}
 use Rattle.sections.specs.Sections.{behind}
 use Rattle.sections.specs.FoundLaws.{tail-length, further-on, behind-next, behind-end}

@@ -1,5 +1,4 @@
 use denote.Ref.{now}
-use mathlib.Core.Path.{_≡_, refl, sym, ap, _∙_}
 use native.Mathlib.Omega.{arith}
 use Rattle.sections.specs.FoundLaws.{none-behind, past-behind, whole-behind}
 use borrow.Author.Needs.{needs}

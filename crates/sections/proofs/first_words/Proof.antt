@@ -1,9 +1,4 @@
 use denote.Ref.{now}
-use mathlib.Core.Path.{_≡_, refl, sym, ap, _∙_}
-use native.Mathlib.Omega.{arith}
-use Prim.Native.Nat.{ℕ}
-use mathlib.Core.List.{List}
-use Rattle.sections.specs.Words.{wordsIn}
 use Rattle.sections.specs.FoundLaws.{none-words, past-words, whole-words}
 use borrow.Author.Needs.{needs}
 use Rattle.sections.proofs.first_words.Statement.{statement}

@@ -1,6 +1,5 @@
 use denote.Ref.{now}
-use mathlib.Core.Path.{_≡_, refl, sym, ap, _∙_}
-use native.Mathlib.Omega.{arith}
+use mathlib.Core.Path.{sym}
 use Rattle.sections.specs.FoundLaws.{none-first, first-whole}
 use borrow.Author.Needs.{needs}
 use Rattle.sections.proofs.has_first.Statement.{statement}

@@ -1,9 +1,5 @@
-use Prim.Native.Nat.{ℕ}
-use mathlib.Core.List.{List}
-use Rattle.big_endian.specs.Bytes.{wordAt}
 use denote.Ref.{now}
-use mathlib.Core.Path.{_≡_, refl, sym, ap, _∙_}
-use native.Mathlib.Omega.{arith}
+use mathlib.Core.Path.{_∙_}
 use Rattle.sections.specs.FoundLaws.{word-found, word-past}
 use borrow.Author.Needs.{needs}
 use Rattle.sections.proofs.word_at.Statement.{statement}

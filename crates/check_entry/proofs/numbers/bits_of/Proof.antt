@@ -1,15 +1,11 @@
 use Rattle.check_entry.specs.BitLaws.{bit-next, bit-last}
 use Rattle.core_state.specs.State.{predicatesOf}
-use lib.Dec.{eqb}
-use lib.ListN.{length, take, set, length-set}
-use borrow.Author.Tests.{ne-eqb, not-true}
+use lib.ListN.{length, take, length-set}
 use borrow.Author.Needs.{needs}
-use Prim.Native.Nat.{ℕ, _-_, _≤_}
+use Prim.Native.Nat.{_-_, _≤_}
 use native.Mathlib.Omega.{arith}
-use mathlib.Core.Bool.{Bool, true, false}
-use mathlib.Core.Path.{_≡_, refl, sym, ap, subst, _∙_}
-use mathlib.Core.List.{List, [], _++_}
-use denote.Ref.{now}
+use mathlib.Core.Path.{_≡_, refl, sym, _∙_}
+use mathlib.Core.List.{_++_}
 use Rattle.check_entry.proofs.numbers.bits_of.Statement.{statement}
 use Rattle.check_entry.proofs.numbers.bits_of.Tie as tie
 use Rattle.check_entry.proofs.numbers.bits_of.Reads as reads

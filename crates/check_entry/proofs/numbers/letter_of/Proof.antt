@@ -1,11 +1,6 @@
 use Rattle.check_entry.specs.CheckEntry.{letterOf}
-use borrow.Author.Tests.{ne-eqb, not-true}
-use Prim.Native.Nat.{ℕ, _-_, _≤_}
-use native.Mathlib.Omega.{arith}
-use mathlib.Core.Bool.{Bool, true, false}
-use mathlib.Core.Path.{_≡_, refl, sym, ap, subst, _∙_}
-use mathlib.Core.List.{List, [], _++_}
-use denote.Ref.{now}
+use Prim.Native.Nat.{_-_}
+use mathlib.Core.Path.{sym, ap}
 use borrow.Author.Needs.{needs}
 use Rattle.check_entry.proofs.numbers.letter_of.Statement.{statement}
 use Rattle.check_entry.proofs.numbers.letter_of.Tie as tie

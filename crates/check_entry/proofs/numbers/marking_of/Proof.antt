@@ -1,8 +1,6 @@
 use Rattle.check_entry.specs.CheckEntry.{markingOf}
 use lib.ListN.{getD}
-use mathlib.Core.Bool.{Bool, true, false}
-use mathlib.Core.Path.{_≡_, refl, sym, ap, subst, _∙_}
-use denote.Ref.{now}
+use mathlib.Core.Bool.{false}
 use borrow.Author.Needs.{needs}
 use Rattle.check_entry.proofs.numbers.marking_of.Statement.{statement}
 use Rattle.check_entry.proofs.numbers.marking_of.Tie as tie

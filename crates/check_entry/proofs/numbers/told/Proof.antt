@@ -1,16 +1,8 @@
-use Rattle.check_entry.specs.CheckEntry.{checkNumber, checkAddress, letterTold, brokenBy, letterOf, Told, letter-broken, no-letter}
-use Rattle.single_path.specs.Check.{returned as checkReturned, letterBroken}
-use Rattle.single_path.specs.declared.Checked.{Checked}
-use Rattle.marking.specs.declared.Marking.{Marking}
+use Rattle.check_entry.specs.CheckEntry.{checkNumber, checkAddress, letterTold, brokenBy, letter-broken, no-letter}
+use Rattle.single_path.specs.Check.{letterBroken}
 use Rattle.fetch.specs.Fetch.{bundleAt}
-use lib.Dec.{eqb}
-use borrow.Author.Tests.{ne-eqb, not-true}
-use Prim.Native.Nat.{ℕ, _-_, _≤_}
-use native.Mathlib.Omega.{arith}
-use mathlib.Core.Bool.{Bool, true, false}
-use mathlib.Core.Path.{_≡_, refl, sym, ap, subst, _∙_}
-use mathlib.Core.List.{List, [], _++_}
-use denote.Ref.{now}
+use Prim.Native.Nat.{_-_}
+use mathlib.Core.Path.{refl, sym, ap, _∙_}
 use borrow.Author.Needs.{needs}
 use Rattle.check_entry.proofs.numbers.told.Statement.{statement}
 use Rattle.check_entry.proofs.numbers.told.Tie as tie

@@ -1,13 +1,8 @@
 use Rattle.entries.specs.Entries.{answerNumber}
 use Rattle.resume.specs.declared.Reply.{Reply}
 use Rattle.resume.specs.Resumed.{returned}
-use borrow.Author.Tests.{ne-eqb, not-true}
-use Prim.Native.Nat.{ℕ, _-_, _≤_}
-use native.Mathlib.Omega.{arith}
-use mathlib.Core.Bool.{Bool, true, false}
-use mathlib.Core.Path.{_≡_, refl, sym, ap, subst, _∙_}
-use mathlib.Core.List.{List, [], _++_}
-use denote.Ref.{now}
+use Prim.Native.Nat.{_-_}
+use mathlib.Core.Path.{sym, ap}
 use borrow.Author.Needs.{needs}
 use Rattle.entries.proofs.numbers.number_of.Statement.{statement}
 use Rattle.entries.proofs.numbers.number_of.Tie as tie

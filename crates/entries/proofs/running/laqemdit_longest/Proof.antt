@@ -1,11 +1,6 @@
 use Rattle.entries.specs.Entries.{longest-small}
-use borrow.Author.Tests.{ne-eqb, not-true}
-use Prim.Native.Nat.{ℕ, _-_, _≤_}
+use Prim.Native.Nat.{_-_}
 use native.Mathlib.Omega.{arith}
-use mathlib.Core.Bool.{Bool, true, false}
-use mathlib.Core.Path.{_≡_, refl, sym, ap, subst, _∙_}
-use mathlib.Core.List.{List, [], _++_}
-use denote.Ref.{now}
 use borrow.Author.Needs.{needs}
 use Rattle.entries.proofs.running.laqemdit_longest.Statement.{statement}
 use Rattle.entries.proofs.running.laqemdit_longest.Tie as tie

@@ -1,13 +1,9 @@
 use Rattle.entries.specs.Entries.{calledOf, called}
-use Rattle.resume_model.specs.Resume.{resumed, restepped}
+use Rattle.resume_model.specs.Resume.{resumed}
 use Rattle.settings.specs.Setup.{setup}
 use Rattle.settings.specs.declared.Config.{Config}
-use borrow.Author.Tests.{ne-eqb, not-true}
-use Prim.Native.Nat.{ℕ, _-_, _≤_}
-use native.Mathlib.Omega.{arith}
-use mathlib.Core.Bool.{Bool, true, false}
-use mathlib.Core.Path.{_≡_, refl, sym, ap, subst, _∙_}
-use mathlib.Core.List.{List, [], _++_}
+use Prim.Native.Nat.{ℕ, _-_}
+use mathlib.Core.Path.{ap, _∙_}
 use denote.Ref.{now}
 use borrow.Author.Needs.{needs}
 use Rattle.entries.proofs.running.laqemdit_run.Statement.{statement}

@@ -1,10 +1,9 @@
-use Rattle.record.specs.PutLaws.{put-then, put-end}
 use Rattle.record.specs.Written.{Put}
-use Prim.Native.Nat.{ℕ, _-_, _≤_, _+_, _*_}
-use lib.ListN.{length, take, length-take}
+use Prim.Native.Nat.{ℕ, _-_}
+use lib.ListN.{length, take}
 use native.Mathlib.Omega.{arith}
-use mathlib.Core.Path.{_≡_, refl, sym, ap, subst, _∙_}
-use mathlib.Core.List.{List, [], _∷_}
+use mathlib.Core.Path.{_≡_, subst}
+use mathlib.Core.List.{[], _∷_}
 use denote.Ref.{now}
 use borrow.Author.Needs.{needs}
 use Rattle.record.proofs.putting.put_few.Statement.{statement}

@@ -1,10 +1,9 @@
 use Rattle.record_parts.specs.Few.{fewIn}
-use Rattle.record.specs.PutLaws.{put-then, put-end, few-end}
+use Rattle.record.specs.PutLaws.{put-then, few-end}
 use Rattle.record.specs.Written.{Put}
 use Prim.Native.Nat.{ℕ, _-_}
-use lib.ListN.{length, take}
 use native.Mathlib.Omega.{arith}
-use mathlib.Core.Path.{_≡_, refl, sym, ap, subst, _∙_}
+use mathlib.Core.Path.{subst}
 use mathlib.Core.List.{List, [], _∷_}
 use denote.Ref.{now}
 use borrow.Author.Needs.{needs}

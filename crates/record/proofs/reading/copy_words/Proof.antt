@@ -1,12 +1,11 @@
 use Rattle.record.specs.CopyLaws.{copied, copy-next, copy-all}
 use Rattle.sections.specs.WordLaws.{words-length}
 use Rattle.sections.specs.Words.{wordsIn}
-use Prim.Native.Nat.{ℕ, _-_, _+_, _≤_, _<_}
-use lib.ListN.{length, getD, set, length-set}
+use Prim.Native.Nat.{_-_, _≤_, _<_}
+use lib.ListN.{length, set, length-set}
 use borrow.Author.Needs.{needs}
 use native.Mathlib.Omega.{arith}
-use mathlib.Core.Path.{_≡_, refl, sym, ap, subst, _∙_}
-use mathlib.Core.List.{List}
+use mathlib.Core.Path.{_≡_, refl, _∙_}
 use denote.Ref.{now}
 use Rattle.record.proofs.reading.copy_words.Statement.{statement}
 use Rattle.record.proofs.reading.copy_words.Tie as tie

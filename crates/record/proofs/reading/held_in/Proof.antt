@@ -1,12 +1,9 @@
-use Rattle.record.specs.CopyLaws.{over-all, held-over}
-use Rattle.sections.specs.Sections.{sectionAt}
+use Rattle.record.specs.CopyLaws.{held-over}
 use Rattle.sections.specs.WordLaws.{words-length}
 use Rattle.sections.specs.Words.{wordsIn}
-use Prim.Native.Nat.{ℕ, _≤_}
-use lib.ListN.{length, replicate}
 use native.Mathlib.Omega.{arith}
-use mathlib.Core.Path.{_≡_, refl, sym, ap, subst, _∙_}
-use mathlib.Core.List.{List, [], _∷_, _++_, append-nil}
+use mathlib.Core.Path.{sym, _∙_}
+use mathlib.Core.List.{_∷_, append-nil}
 use denote.Ref.{now}
 use borrow.Author.Needs.{needs}
 use Rattle.record.proofs.reading.held_in.Statement.{statement}

@@ -3,15 +3,11 @@ use Rattle.record.specs.Read.{readingOf, reading}
 use Rattle.record_model.specs.RecordLaws.{form-of}
 use Rattle.record_model.specs.Record.{box, boxIn, countsOfWords}
 use borrow.Author.Tests.{not-true, not-false}
-use Rattle.record.specs.CopyLaws.{over-all, held-over}
-use Rattle.sections.specs.Sections.{sectionAt}
-use Rattle.sections.specs.WordLaws.{words-length}
+use Rattle.record.specs.CopyLaws.{over-all}
 use Rattle.sections.specs.Words.{wordsIn}
-use Prim.Native.Nat.{ℕ, _≤_}
-use lib.ListN.{length, replicate}
+use lib.ListN.{length}
 use native.Mathlib.Omega.{arith}
-use mathlib.Core.Path.{_≡_, refl, sym, ap, subst, _∙_}
-use mathlib.Core.List.{List, [], _∷_, _++_, append-nil}
+use mathlib.Core.Path.{sym, ap, _∙_}
 use denote.Ref.{now}
 use borrow.Author.Needs.{needs}
 use Rattle.record.proofs.reading.read_record.Statement.{statement}

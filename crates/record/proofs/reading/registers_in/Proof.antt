@@ -1,12 +1,9 @@
-use Rattle.record.specs.CopyLaws.{over-all, held-over}
-use Rattle.sections.specs.Sections.{sectionAt}
-use Rattle.sections.specs.WordLaws.{words-length}
+use Rattle.record.specs.CopyLaws.{over-all}
 use Rattle.sections.specs.Words.{wordsIn}
-use Prim.Native.Nat.{ℕ, _≤_}
-use lib.ListN.{length, replicate}
-use native.Mathlib.Omega.{arith}
-use mathlib.Core.Path.{_≡_, refl, sym, ap, subst, _∙_}
-use mathlib.Core.List.{List, [], _∷_, _++_, append-nil}
+use Prim.Native.Nat.{ℕ}
+use lib.ListN.{replicate}
+use mathlib.Core.Path.{_∙_}
+use mathlib.Core.List.{List, append-nil}
 use denote.Ref.{now}
 use borrow.Author.Needs.{needs}
 use Rattle.record.proofs.reading.registers_in.Statement.{statement}

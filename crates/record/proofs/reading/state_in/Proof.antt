@@ -4,15 +4,12 @@ use Rattle.core_state.specs.State.{state, further, predicatesOf}
 use Rattle.method_cache.specs.WordLaws.{words-back, words-fixed}
 use Rattle.method_cache.specs.Words.{heldIn, heldWords, FixedHeld}
 use lib.ListN.{getD}
-use Rattle.record.specs.CopyLaws.{over-all, held-over}
 use Rattle.sections.specs.Sections.{sectionAt}
-use Rattle.sections.specs.WordLaws.{words-length}
 use Rattle.sections.specs.Words.{wordsIn}
 use Prim.Native.Nat.{ℕ, _≤_}
-use lib.ListN.{length, replicate}
-use native.Mathlib.Omega.{arith}
-use mathlib.Core.Path.{_≡_, refl, sym, ap, subst, _∙_}
-use mathlib.Core.List.{List, [], _∷_, _++_, append-nil}
+use lib.ListN.{length}
+use mathlib.Core.Path.{sym, ap, subst, _∙_}
+use mathlib.Core.List.{List}
 use denote.Ref.{now}
 use borrow.Author.Needs.{needs}
 use Rattle.record.proofs.reading.state_in.Statement.{statement}

@@ -1,10 +1,8 @@
-use Prim.Native.Nat.{ℕ, _+_, _*_}
 use Rattle.settings.specs.SettingsLaws.{size-words, size-made}
 use Rattle.record.specs.Written.{longestOf}
 use Rattle.settings.specs.SettingsLaws.{size-refused}
 use native.Mathlib.Omega.{arith}
-use mathlib.Core.Path.{_≡_, refl, sym, ap, subst, _∙_}
-use denote.Ref.{now}
+use mathlib.Core.Path.{sym, _∙_}
 use borrow.Author.Needs.{needs}
 use Rattle.record.proofs.writing.longest.Statement.{statement}
 use Rattle.record.proofs.writing.longest.Tie as tie

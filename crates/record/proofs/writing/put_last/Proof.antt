@@ -1,12 +1,10 @@
 use Rattle.record_model.specs.PartLaws.{counts-twelve}
-use Rattle.record_model.specs.Record.{countSection}
-use Rattle.method_cache.specs.Words.{heldIn}
 use Rattle.record.specs.PutLaws.{put-then, put-end, held-part}
 use Rattle.record.specs.Written.{Put}
-use Prim.Native.Nat.{ℕ, _-_, _+_, _≤_, min}
-use lib.ListN.{length, getD, take, drop, length-take}
+use Prim.Native.Nat.{ℕ, _-_, _+_}
+use lib.ListN.{length, take, drop, length-take}
 use native.Mathlib.Omega.{arith}
-use mathlib.Core.Path.{_≡_, refl, sym, ap, subst, _∙_}
+use mathlib.Core.Path.{_≡_, ap, subst, _∙_}
 use mathlib.Core.List.{List, [], _∷_}
 use denote.Ref.{now}
 use borrow.Author.Needs.{needs}

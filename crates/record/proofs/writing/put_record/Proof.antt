@@ -3,13 +3,12 @@ use Rattle.method_cache.specs.Words.{heldIn}
 use Rattle.record_model.specs.PartLaws.{transfer-few, load-few, products-few}
 use Rattle.record_model.specs.Record.{specialsSection, transferSection, loadSection, productSection, countSection, recordSections}
 use Rattle.alu_effects.specs.AluEffects.{predicatesWord}
-use Rattle.record.specs.PutLaws.{put-then, put-end, held-part}
-use Rattle.record.specs.Written.{Put}
-use Prim.Native.Nat.{ℕ, _-_, _+_, _≤_, min}
-use lib.ListN.{length, getD, take, drop, length-take}
+use Rattle.record.specs.PutLaws.{put-then, put-end}
+use Prim.Native.Nat.{_-_, _+_}
+use lib.ListN.{length}
 use native.Mathlib.Omega.{arith}
-use mathlib.Core.Path.{_≡_, refl, sym, ap, subst, _∙_}
-use mathlib.Core.List.{List, [], _∷_, _++_}
+use mathlib.Core.Path.{_≡_}
+use mathlib.Core.List.{[], _∷_, _++_}
 use denote.Ref.{now}
 use borrow.Author.Needs.{needs}
 use Rattle.record.proofs.writing.put_record.Statement.{statement}

@@ -3,10 +3,9 @@ use Rattle.record.specs.PutLaws.{put-whole}
 use Rattle.record_model.specs.Record.{box}
 use Rattle.method_cache.specs.WordLaws.{held-few}
 use Rattle.state.specs.Whole.{stateOf}
-use Prim.Native.Nat.{ℕ, _≤_, _<_}
 use lib.ListN.{length}
 use native.Mathlib.Omega.{arith}
-use mathlib.Core.Path.{_≡_, refl, sym, ap, subst, _∙_}
+use mathlib.Core.Path.{_≡_, sym, _∙_}
 use denote.Ref.{now}
 use borrow.Author.Needs.{needs}
 use Rattle.record.proofs.writing.write_record.Statement.{statement}

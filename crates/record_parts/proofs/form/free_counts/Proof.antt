@@ -1,6 +1,4 @@
 use Rattle.sections.specs.WordLaws.{words-length}
-use native.Mathlib.Omega.{arith}
-use mathlib.Core.Path.{_≡_, refl, sym, ap, subst, _∙_}
 use denote.Ref.{now}
 use borrow.Author.Needs.{needs}
 use Rattle.record_parts.proofs.form.free_counts.Statement.{statement}

@@ -1,7 +1,4 @@
 use Rattle.record_model.specs.Record.{hasForm, isRecord}
-use native.Mathlib.Omega.{arith}
-use mathlib.Core.Path.{_≡_, refl, sym, ap, subst, _∙_}
-use denote.Ref.{now}
 use borrow.Author.Needs.{needs}
 use Rattle.record_parts.proofs.form.has_form.Statement.{statement}
 use Rattle.record_parts.proofs.form.has_form.Tie as tie

@@ -1,7 +1,5 @@
 use Rattle.record_model.specs.Record.{isLoad}
 use Rattle.sections.specs.WordLaws.{words-length}
-use native.Mathlib.Omega.{arith}
-use mathlib.Core.Path.{_≡_, refl, sym, ap, subst, _∙_}
 use denote.Ref.{now}
 use Rattle.record_parts.proofs.form.is_load.Statement.{statement}
 use Rattle.record_parts.proofs.form.is_load.Tie as tie

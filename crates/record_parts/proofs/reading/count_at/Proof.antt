@@ -1,7 +1,4 @@
 use Rattle.record_model.specs.Record.{countAt}
-use native.Mathlib.Omega.{arith}
-use mathlib.Core.Path.{_≡_, refl, sym, ap, subst, _∙_}
-use denote.Ref.{now}
 use borrow.Author.Needs.{needs}
 use Rattle.record_parts.proofs.reading.count_at.Statement.{statement}
 use Rattle.record_parts.proofs.reading.count_at.Tie as tie

@@ -1,7 +1,5 @@
 use Rattle.core_state.specs.State.{predicatesOf}
-use native.Mathlib.Omega.{arith}
-use mathlib.Core.Path.{_≡_, refl, sym, ap, subst, _∙_}
-use denote.Ref.{now}
+use mathlib.Core.Path.{refl}
 use Rattle.record_parts.proofs.reading.predicates_in.Statement.{statement}
 use Rattle.record_parts.proofs.reading.predicates_in.Tie as tie
 use Rattle.record_parts.proofs.reading.predicates_in.Reads as reads

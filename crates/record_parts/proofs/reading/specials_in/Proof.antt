@@ -1,6 +1,3 @@
-use native.Mathlib.Omega.{arith}
-use mathlib.Core.Path.{_≡_, refl, sym, ap, subst, _∙_}
-use denote.Ref.{now}
 use borrow.Author.Needs.{needs}
 use Rattle.record_parts.proofs.reading.specials_in.Statement.{statement}
 use Rattle.record_parts.proofs.reading.specials_in.Tie as tie

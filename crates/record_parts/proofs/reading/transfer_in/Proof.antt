@@ -1,8 +1,6 @@
 use Rattle.record_model.specs.Record.{transferIn}
-use borrow.Author.Tests.{le-leb, lt-leb, eq-eqb, ne-eqb}
+use borrow.Author.Tests.{eq-eqb, ne-eqb}
 use Rattle.sections.specs.WordLaws.{words-length}
-use native.Mathlib.Omega.{arith}
-use mathlib.Core.Path.{_≡_, refl, sym, ap, subst, _∙_}
 use denote.Ref.{now}
 use borrow.Author.Needs.{needs}
 use Rattle.record_parts.proofs.reading.transfer_in.Statement.{statement}

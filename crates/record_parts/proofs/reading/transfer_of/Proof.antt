@@ -1,8 +1,5 @@
 use Rattle.record_model.specs.Record.{transferOf}
-use borrow.Author.Tests.{le-leb, lt-leb, eq-eqb, ne-eqb}
-use native.Mathlib.Omega.{arith}
-use mathlib.Core.Path.{_≡_, refl, sym, ap, subst, _∙_}
-use denote.Ref.{now}
+use borrow.Author.Tests.{eq-eqb, ne-eqb}
 use Rattle.record_parts.proofs.reading.transfer_of.Statement.{statement}
 use Rattle.record_parts.proofs.reading.transfer_of.Tie as tie
 use Rattle.record_parts.proofs.reading.transfer_of.Reads as reads

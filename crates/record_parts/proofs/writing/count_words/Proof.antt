@@ -1,7 +1,4 @@
 use Rattle.record_model.specs.Record.{countSection}
-use native.Mathlib.Omega.{arith}
-use mathlib.Core.Path.{_≡_, refl, sym, ap, subst, _∙_}
-use denote.Ref.{now}
 use borrow.Author.Needs.{needs}
 use Rattle.record_parts.proofs.writing.count_words.Statement.{statement}
 use Rattle.record_parts.proofs.writing.count_words.Tie as tie

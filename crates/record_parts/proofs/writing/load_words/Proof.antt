@@ -2,8 +2,7 @@ use Rattle.core_state.specs.declared.WaitingLoad.{WaitingLoad}
 use Rattle.record_model.specs.Record.{loadSection}
 use Rattle.record_parts.specs.Few.{Holds}
 use native.Mathlib.Omega.{arith}
-use mathlib.Core.Path.{_≡_, refl, sym, ap, subst, _∙_}
-use denote.Ref.{now}
+use mathlib.Core.Path.{refl, sym, subst}
 use borrow.Author.Needs.{needs}
 use Rattle.record_parts.proofs.writing.load_words.Statement.{statement}
 use Rattle.record_parts.proofs.writing.load_words.Tie as tie

@@ -2,8 +2,7 @@ use Rattle.record_model.specs.Record.{productSection}
 use Rattle.products.specs.declared.Products.{Products}
 use Rattle.record_parts.specs.Few.{Holds}
 use native.Mathlib.Omega.{arith}
-use mathlib.Core.Path.{_≡_, refl, sym, ap, subst, _∙_}
-use denote.Ref.{now}
+use mathlib.Core.Path.{refl, sym, subst}
 use borrow.Author.Needs.{needs}
 use Rattle.record_parts.proofs.writing.product_words.Statement.{statement}
 use Rattle.record_parts.proofs.writing.product_words.Tie as tie

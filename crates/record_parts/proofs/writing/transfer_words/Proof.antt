@@ -1,11 +1,9 @@
 use Rattle.record_model.specs.Record.{transferSection}
-use Rattle.effects.specs.declared.Transfer.{Transfer}
 use Rattle.core_state.specs.declared.WaitingTransfer.the-variants as transfer
 use Rattle.core_state.specs.declared.WaitingTransfer.{WaitingTransfer}
 use Rattle.record_parts.specs.Few.{Holds}
 use native.Mathlib.Omega.{arith}
-use mathlib.Core.Path.{_≡_, refl, sym, ap, subst, _∙_}
-use denote.Ref.{now}
+use mathlib.Core.Path.{refl, sym, subst}
 use borrow.Author.Needs.{needs}
 use Rattle.record_parts.proofs.writing.transfer_words.Statement.{statement}
 use Rattle.record_parts.proofs.writing.transfer_words.Tie as tie

@@ -1,10 +1,8 @@
-use mathlib.Core.List.{List, [], _∷_}
+use mathlib.Core.List.{[], _∷_}
 use Prim.Native.Nat.{ℕ}
 use Rattle.record_model.specs.Record.{productSection}
-use Rattle.record_parts.specs.Few.{Holds}
 use native.Mathlib.Omega.{arith}
-use mathlib.Core.Path.{_≡_, refl, sym, ap, subst, _∙_}
-use denote.Ref.{now}
+use mathlib.Core.Path.{ap}
 use borrow.Author.Needs.{needs}
 use Rattle.record_parts.proofs.writing.two_products.Statement.{statement}
 use Rattle.record_parts.proofs.writing.two_products.Tie as tie
