@@ -290,7 +290,7 @@ static int all(const uint8_t *at, uint8_t value, size_t n)
 
 /* A call over copies of the box's record and memories, with an output of `room` bytes that all hold A5; `after` gets the memories and, where
  * one was written, the record. What holds of every call is compared here. */
-static uint32_t call(long budget, const struct box *box, size_t room, const struct settings *s, struct box *after, const char *what)
+static uint32_t call(int64_t budget, const struct box *box, size_t room, const struct settings *s, struct box *after, const char *what)
 {
     size_t at = 0, longest = laqemdit_longest(s->words);
     uint8_t *record, *code_lent, *main_lent, *local_lent, *out;
@@ -329,7 +329,7 @@ static uint32_t call(long budget, const struct box *box, size_t room, const stru
 }
 
 /* The same with an output that is just long enough. */
-static uint32_t go(long budget, const struct box *box, const struct settings *s, struct box *after, const char *what)
+static uint32_t go(int64_t budget, const struct box *box, const struct settings *s, struct box *after, const char *what)
 {
     return call(budget, box, laqemdit_longest(s->words), s, after, what);
 }

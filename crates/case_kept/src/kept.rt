@@ -92,13 +92,13 @@ pub const HOLDS: usize = 190;
 
 pub const HELD: usize = 191;
 
-// How many bytes of the record are handed in, if a line gives that: GIVEN + RECORD_BYTES, which tells, stands behind the counts.
+// How many bytes of the record are handed in, if a line gives that; GIVEN + RECORD_BYTES, index 272, is then 1.
 pub const RECORD_BYTES: usize = 208;
 
 // The six counts of the last run or step, in the order of the report.
 pub const COUNTS: usize = 209;
 
-// How many words the record has, and behind that up to 2,048 words. Those that it has not need not be cleared.
+// How many words the record has, and behind that up to 2,048 words. Words past that number are never read, so they are not cleared.
 pub const RECORD: usize = 280;
 
 // The case's numbers that are cleared end here. The line and the phase outlast a case.

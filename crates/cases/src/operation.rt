@@ -123,7 +123,12 @@ fn row_of(asked: Asked) -> usize {
 fn put_outcome(out: &mut Report, asked: Asked, r: Reply, kept: &Kept) -> usize {
     let used = put_reply(&mut *out, row_of(asked), r);
     let numbers = &kept[..];
-    put_counts(&mut *out, used, &numbers[COUNTS..], is_set(kept, METHOD))
+    put_counts(
+        &mut *out,
+        used,
+        &numbers[COUNTS..COUNTS + 6],
+        is_set(kept, METHOD),
+    )
 }
 
 // The change lines. What is reported is changed no longer: the copies of the memories are brought up to date.

@@ -1,5 +1,5 @@
-// The check for C, in a library of its own: beside it the step of a run would share the decoder with it, and take 20 ns in place of 14
-// (docs/DECISIONS.md). include/laqemdit.h declares it, docs/C.md tells how it is used.
+// The check for C, in a library of its own, so that a run need not share the decoder with it (docs/DECISIONS.md). include/laqemdit.h declares it,
+// docs/C.md tells how it is used.
 ghost use Rattle.settings.specs.Setup.{setup};
 ghost use Rattle.single_path.specs.Check.{checked};
 ghost use Rattle.entries.specs.Entries.{configOf};

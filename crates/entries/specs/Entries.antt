@@ -17,7 +17,7 @@ use Rattle.resume_model.specs.Resume.{Resumed}
 abbrev pub configOf : ℕ → ℕ → ℕ → ℕ → ℕ → Config
 configOf lo hi on blocks bytes = record { lo = lo; hi = hi; method = record { on = not (eqb on 0); blocks = blocks; bytes = bytes } }
 
--- The number of an answer: a refusal's own, and for the others numbers that no refusal has.
+-- The number of an answer: a refusal's own, which is one of the documents' (1 to 20), and for the others 0, 256 and 257.
 unfoldable pub answerNumber : Returned → ℕ
 answerNumber accepted = 0
 answerNumber done = 0
@@ -38,11 +38,11 @@ calledOf answer main local out = record { answer = answer; main = main; local = 
 abbrev pub called : Resumed → Called
 called r = calledOf (answerNumber (r .answer)) (r .main) (r .local) (r .out)
 
--- No record is longer than 2,420 bytes.
-pub longest-small : (w : ℕ) → longestOf w ≤ 2420
+-- The longest record is far below 8,192 bytes.
+pub longest-small : (w : ℕ) → longestOf w ≤ 8192
 unfolding longestOf
 longest-small w = go (isCacheSize w) refl
   where
-    go : (t : Bool) → isCacheSize w ≡ t → cond t (longest w) 0 ≤ 2420
+    go : (t : Bool) → isCacheSize w ≡ t → cond t (longest w) 0 ≤ 8192
     go true e = omega (arith, size-small w e)
     go false e = omega arith

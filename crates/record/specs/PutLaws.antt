@@ -16,7 +16,13 @@ use Rattle.sections.specs.Sections.{section, joined}
 use Rattle.sections.specs.SectionLaws.{joined-append}
 use Rattle.method_cache.specs.Words.{heldIn}
 use Rattle.stack_cache.specs.Stack.{isCacheSize}
-use Rattle.record_model.specs.Record.{Box, recordSections, recordWords, recordOf, longest}
+use Rattle.products.specs.declared.Products.{Products}
+use Rattle.core_state.specs.declared.WaitingTransfer.{WaitingTransfer}
+use Rattle.core_state.specs.declared.WaitingLoad.{WaitingLoad}
+use Rattle.record_model.specs.Record.{Box, transferSection, loadSection, productSection, recordSections, recordWords, recordOf, longest}
+use Rattle.record_model.specs.PartLaws.{transfer-few, load-few, products-few}
+use Rattle.record_parts.specs.declared.Few.{Few}
+use Rattle.record_parts.specs.Few.{fewOf, Holds, holds}
 use Rattle.record_model.specs.RecordLaws.{record-long}
 use Rattle.record.specs.Written.{Put, writtenOf, writing}
 
@@ -100,3 +106,13 @@ put-whole p out after end q registers few size room =
     let there : end ≡ length (bytesOf (recordWords p)) = q .there ∙ omega (arith, n) in
     let fits : 4 * length (recordWords p) ≤ length out = omega (arith, room, n, long) in
     rw (size, le-leb (longest (length (p .cache))) (length out) room) (λ i. writtenOf (there i) ((q .bytes ∙ put-over out (recordWords p) fits) i))
+
+-- What waits and what is under way has few words.
+pub transfer-holds : (r : Few) (t : WaitingTransfer) → r ≡ fewOf (transferSection t) → Holds r (transferSection t)
+transfer-holds r t e = holds r (transferSection t) e (omega (arith, transfer-few t))
+
+pub load-holds : (r : Few) (l : WaitingLoad) → r ≡ fewOf (loadSection l) → Holds r (loadSection l)
+load-holds r l e = holds r (loadSection l) e (omega (arith, load-few l))
+
+pub products-holds : (r : Few) (p : Products) → r ≡ fewOf (productSection p) → Holds r (productSection p)
+products-holds r p e = holds r (productSection p) e (products-few p)

@@ -48,7 +48,8 @@ module _ (p : Box) (registers : length (p .state .registers) ≡ 32) where
       let s = p .state in
       omega (arith, record-length, few, transfer-few (s .transfer), load-few (s .load), products-few (s .further .products))
 
--- Both are lengths of records: of a fresh box, and of one that has all that a record can have.
+-- Both are reached: by a fresh box, and by one that has all that there is room for. (Its blocks are none that 11 would let pass: what is shown is
+-- that no shorter output has room for every record that can be written.)
 abbrev fullBox : List ℕ → Box
 fullBox cache =
     let p = product 1 0 0 in

@@ -2,7 +2,7 @@
 ghost use mathlib.Core.Path.{_≡_};
 ghost use Rattle.core_state.specs.declared.WaitingTransfer.{WaitingTransfer};
 ghost use Rattle.record_model.specs.Record.{transferSection, loadSection, productSection, countSection, upper, lower};
-ghost use Rattle.record_parts.specs.Few.{Holds};
+ghost use Rattle.record_parts.specs.Few.{fewOf};
 use crate::Few;
 use bundle_model::Counts;
 use core_state::WaitingLoad;
@@ -14,7 +14,7 @@ use word::arithmetic::add;
 
 // A transfer that waits.
 fn waiting_words(t: Transfer, wait: u32) -> Few
-    ensures { λ r. ⌜ Holds r (transferSection (WaitingTransfer.Waits t wait)) ⌝ }
+    ensures { λ r. ⌜ r ≡ fewOf (transferSection (WaitingTransfer.Waits t wait)) ⌝ }
 {
     match t {
         Transfer::Br { target } => Few {
@@ -33,7 +33,7 @@ fn waiting_words(t: Transfer, wait: u32) -> Few
 }
 
 pub fn transfer_words(w: WaitingTransfer) -> Few
-    ensures { λ r. ⌜ Holds r (transferSection w) ⌝ }
+    ensures { λ r. ⌜ r ≡ fewOf (transferSection w) ⌝ }
 {
     match w {
         WaitingTransfer::Nothing => Few {
@@ -45,7 +45,7 @@ pub fn transfer_words(w: WaitingTransfer) -> Few
 }
 
 pub fn load_words(l: WaitingLoad) -> Few
-    ensures { λ r. ⌜ Holds r (loadSection l) ⌝ }
+    ensures { λ r. ⌜ r ≡ fewOf (loadSection l) ⌝ }
 {
     match l {
         WaitingLoad::Nothing => Few {
@@ -61,7 +61,7 @@ pub fn load_words(l: WaitingLoad) -> Few
 
 // Two products: the second waits the sum of both waits from now.
 fn two_products(p: Product, q: Product) -> Few
-    ensures { λ r. ⌜ Holds r (productSection (Products.Two p q)) ⌝ }
+    ensures { λ r. ⌜ r ≡ fewOf (productSection (Products.Two p q)) ⌝ }
 {
     let wait = add(p.wait, q.wait);
     Few {
@@ -71,7 +71,7 @@ fn two_products(p: Product, q: Product) -> Few
 }
 
 pub fn product_words(p: Products) -> Few
-    ensures { λ r. ⌜ Holds r (productSection p) ⌝ }
+    ensures { λ r. ⌜ r ≡ fewOf (productSection p) ⌝ }
 {
     match p {
         Products::Nothing => Few {

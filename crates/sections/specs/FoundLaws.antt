@@ -1,5 +1,5 @@
 -- Where sections are found in bytes.
-use Prim.Native.Nat.{ℕ, zero, suc, _+_, _-_, _*_, _/_, _<_, _≤_}
+use Prim.Native.Nat.{ℕ, zero, suc, _+_, _-_, _*_, _/_, _%_, _<_, _≤_}
 use mathlib.Core.Bool.{Bool, true, false, _&&_}
 use mathlib.Core.List.{List, [], _∷_}
 use mathlib.Core.Path.{_≡_, refl, sym, ap, _∙_}
@@ -7,12 +7,16 @@ use native.Mathlib.Omega.{arith}
 use borrow.Author.Tests.{ltb-true, ltb-false}
 use lib.Dec.{leb, ltb}
 use lib.ListN.{length, getD, take, drop, length-drop, drop-of-length-le, List·getD-eq-default}
-use lib.Seq.{take-all, drop-length, drop-drop}
+use lib.Seq.{length-take-le, take-all, drop-length, drop-drop}
 use Rattle.big_endian.specs.Bytes.{wordAt}
 use Rattle.sections.specs.Words.{wordsFrom, wordsIn}
 use Rattle.sections.specs.WordLaws.{words-length, word-at, word-drop, words-drop, words-take}
 use Rattle.sections.specs.Sections.{isCut, behind, hasFirst, wordsOfFirst}
 use Rattle.sections.specs.SectionLaws.{behind-none}
+
+-- A part of whole words behind the count.
+pub whole-part : (l : List ℕ) (k : ℕ) → 1 ≤ k → 4 * k ≤ length l → length (take (4 * k - 4) (drop 4 l)) % 4 ≡ 0
+whole-part l k some p = omega (arith, length-take-le (4 * k - 4) (drop 4 l) (omega (arith, length-drop 4 l, p)), some)
 
 -- A part from an address to the end.
 pub tail-part : (l : List ℕ) (a : ℕ) → take (length l - a) (drop a l) ≡ drop a l
@@ -70,9 +74,16 @@ module _ (l : List ℕ) (n : ℕ) (some : 4 ≤ length l) (count : n ≡ getD (w
   first-whole = ap (leb n) (sym rest-length) ∙ sym (ap hasFirst here)
 
   -- One that reaches past the end.
-  pub past-words : length l / 4 - 1 < n → wordsIn (take (length l - 4) (drop 4 l)) ≡ wordsOfFirst (wordsIn l)
+  pub past-words : length l / 4 - 1 < n → wordsIn (take (4 * (length l / 4) - 4) (drop 4 l)) ≡ wordsOfFirst (wordsIn l)
   unfolding rest
-  past-words p = ap wordsIn (tail-part l 4) ∙ sym (take-all n rest (omega (arith, rest-length, p))) ∙ sym (ap wordsOfFirst here)
+  past-words p =
+      let k = length l / 4 - 1 in
+      let e : 4 * (length l / 4) - 4 ≡ 4 * k = omega arith in
+      ap (λ (j : ℕ). wordsIn (take j (drop 4 l))) e
+      ∙ words-take k (drop 4 l) (omega (arith, length-drop 4 l, some))
+      ∙ take-all k rest (omega (arith, rest-length))
+      ∙ sym (take-all n rest (omega (arith, rest-length, p)))
+      ∙ sym (ap wordsOfFirst here)
 
   pub past-behind : length l / 4 - 1 < n → wordsIn (drop (length l) l) ≡ behind 1 (wordsIn l)
   unfolding rest behind

@@ -1,6 +1,6 @@
 // Sections of words in bytes, each after its count of words: how they are found. Nothing is asked of the bytes.
 ghost use mathlib.Core.Path.{_≡_};
-ghost use Prim.Native.Nat.{_≤_};
+ghost use Prim.Native.Nat.{_≤_, _%_};
 ghost use lib.ListN.{length, getD, drop};
 ghost use Rattle.sections.specs.Words.{wordsIn};
 ghost use Rattle.sections.specs.Sections.{isCut, behind, hasFirst, wordsOfFirst, sectionAt};
@@ -41,16 +41,16 @@ fn first_length(bytes: &[u8]) -> usize
     4 * (1 + n)
 }
 
-// Its words; where it is not whole, those that there are.
+// Its words; where it is not whole, those that there are. What is given is whole words, so that its bytes are fixed by them.
 fn first_words(bytes: &[u8]) -> &[u8]
-    ensures { λ r. ⌜ wordsIn (now r) ≡ wordsOfFirst (wordsIn (now (bytes .entry))) ⌝ }
+    ensures { λ r. ⌜ (wordsIn (now r) ≡ wordsOfFirst (wordsIn (now (bytes .entry)))) × (length (now r) % 4 ≡ 0) ⌝ }
 {
     if bytes.len() < 4 {
         return &bytes[0..0];
     }
     let n = word_at(bytes, 0) as usize;
     if bytes.len() / 4 - 1 < n {
-        return &bytes[4..];
+        return &bytes[4..4 * (bytes.len() / 4)];
     }
     &bytes[4..4 * (1 + n)]
 }
@@ -71,7 +71,7 @@ fn end_of(bytes: &[u8], k: u32) -> usize
 
 // The words of the section at a place, the first at 0.
 pub fn section_at(bytes: &[u8], k: u32) -> &[u8]
-    ensures { λ r. ⌜ wordsIn (now r) ≡ sectionAt k (wordsIn (now (bytes .entry))) ⌝ }
+    ensures { λ r. ⌜ (wordsIn (now r) ≡ sectionAt k (wordsIn (now (bytes .entry)))) × (length (now r) % 4 ≡ 0) ⌝ }
 {
     let at = end_of(bytes, k);
     first_words(&bytes[at..])

@@ -1,5 +1,9 @@
+use Rattle.sections.specs.FoundLaws.{whole-part, none-words, past-words, whole-words}
+use lib.ListN.{length}
+use Prim.Native.Nat.{ℕ, _/_, _+_}
+use native.Mathlib.Omega.{arith}
+use mathlib.Core.Path.{refl}
 use denote.Ref.{now}
-use Rattle.sections.specs.FoundLaws.{none-words, past-words, whole-words}
 use borrow.Author.Needs.{needs}
 use Rattle.sections.proofs.first_words.Statement.{statement}
 use Rattle.sections.proofs.first_words.Tie as tie
@@ -21,7 +25,7 @@ part-result-end c = search needs
 
 -- src/lib.rt:49:9
 returns : tie.Need-returns
-returns c = none-words (now (c .before .before .before .args .bytes)) (c .before .if1 .taken) 0
+returns c = (none-words (now (c .before .before .before .args .bytes)) (c .before .if1 .taken) 0, refl)
 
 -- src/lib.rt:51:13
 word-at-requires : tie.Need-word-at-requires
@@ -34,6 +38,10 @@ cast-n c = search needs
 -- src/lib.rt:52:8
 sub-if2 : tie.Need-sub-if2
 sub-if2 c = search needs
+
+-- src/lib.rt:53:26
+mul-result : tie.Need-mul-result
+mul-result c = search needs
 
 -- src/lib.rt:53:16
 sub-result-2 : tie.Need-sub-result-2
@@ -49,15 +57,19 @@ part-result-end-2 c = search needs
 
 -- src/lib.rt:53:9
 returns-2 : tie.Need-returns-2
-returns-2 c = past-words (now (c .before .before .before .before .before .args .bytes)) (c .before .before .word-at .result) (c .before .before .before .if1 .left) (c .before .before .word-at .ensures) (c .before .if2 .taken)
+returns-2 c =
+    let l = now (c .before .before .before .before .before .args .bytes) in (
+      past-words l (c .before .before .word-at .result) (c .before .before .before .if1 .left) (c .before .before .word-at .ensures) (c .before .if2 .taken),
+      whole-part l (length l / 4) (omega (arith, c .before .before .before .if1 .left)) (omega arith),
+    )
 
 -- src/lib.rt:55:20
 add-result : tie.Need-add-result
 add-result c = search needs
 
 -- src/lib.rt:55:15
-mul-result : tie.Need-mul-result
-mul-result c = search needs
+mul-result-2 : tie.Need-mul-result-2
+mul-result-2 c = search needs
 
 -- src/lib.rt:55:5
 sub-result-3 : tie.Need-sub-result-3
@@ -73,7 +85,12 @@ part-result-end-3 c = search needs
 
 -- src/lib.rt:45:1
 returns-3 : tie.Need-returns-3
-returns-3 c = whole-words (now (c .before .before .before .before .before .args .bytes)) (c .before .before .word-at .result) (c .before .before .before .if1 .left) (c .before .before .word-at .ensures) (c .before .if2 .left)
+returns-3 c =
+    let l = now (c .before .before .before .before .before .args .bytes) in
+    let n = c .before .before .word-at .result in (
+      whole-words l n (c .before .before .before .if1 .left) (c .before .before .word-at .ensures) (c .before .if2 .left),
+      whole-part l (1 + n) (omega arith) (omega (arith, c .before .if2 .left, c .before .before .before .if1 .left)),
+    )
 
 pub first-words-spec : {M : Type 1} → statement M
 first-words-spec =
@@ -86,12 +103,13 @@ first-words-spec =
     word-at-requires
     cast-n
     sub-if2
+    mul-result
     sub-result-2
     part-result-start-2
     part-result-end-2
     returns-2
     add-result
-    mul-result
+    mul-result-2
     sub-result-3
     part-result-start-3
     part-result-end-3

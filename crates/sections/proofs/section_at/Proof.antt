@@ -37,8 +37,10 @@ first-words-requires c κs = search needs
 returns : tie.Need-returns
 unfolding sectionAt
 returns c =
-    let l = now (c .before .before .before .before .args .bytes) in
-    c .first-words .ensures ∙ ap (λ (m : List ℕ). wordsOfFirst (wordsIn m)) (tail-part l (c .before .before .end-of .result)) ∙ ap wordsOfFirst (c .before .before .end-of .ensures .1)
+    let l = now (c .before .before .before .before .args .bytes) in (
+      c .first-words .ensures .0 ∙ ap (λ (m : List ℕ). wordsOfFirst (wordsIn m)) (tail-part l (c .before .before .end-of .result)) ∙ ap wordsOfFirst (c .before .before .end-of .ensures .1),
+      c .first-words .ensures .1,
+    )
 
 pub section-at-spec : {M : Type 1} → statement M
 section-at-spec =

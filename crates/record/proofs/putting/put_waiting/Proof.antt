@@ -1,4 +1,5 @@
 use Rattle.record_parts.specs.Few.{fewIn}
+use Rattle.record.specs.PutLaws.{transfer-holds, load-holds, products-holds}
 use Rattle.record.specs.PutLaws.{put-then, few-end}
 use Rattle.record.specs.Written.{Put}
 use Prim.Native.Nat.{ℕ, _-_}
@@ -22,7 +23,7 @@ transfer-words-requires c κs = search needs
 
 -- src/putting.rt:65:9
 put-few-requires : tie.Need-put-few-requires
-put-few-requires c κs = search needs
+put-few-requires c κs = (omega (arith, c .before .before .before .pre), transfer-holds _ _ (c .transfer-words .ensures) .room)
 
 -- src/putting.rt:66:44
 load-words-requires : tie.Need-load-words-requires
@@ -30,7 +31,9 @@ load-words-requires c κs = search needs
 
 -- src/putting.rt:66:9
 put-few-requires-2 : tie.Need-put-few-requires-2
-put-few-requires-2 c κs = (omega (arith, c .before .before .before .before .before .before .before .before .pre, few-end _ (c .before .before .before .before .before .transfer-words .result .words) (c .before .before .before .before .before .transfer-words .ensures .room) (c .before .before .before .before .put-few .ensures)), c .load-words .ensures .room)
+put-few-requires-2 c κs =
+    let t = c .before .before .before .before .before .transfer-words in
+    (omega (arith, c .before .before .before .before .before .before .before .before .pre, few-end _ (t .result .words) (transfer-holds _ _ (t .ensures) .room) (c .before .before .before .before .put-few .ensures)), load-holds _ _ (c .load-words .ensures) .room)
 
 -- src/putting.rt:67:32
 product-words-requires : tie.Need-product-words-requires
@@ -38,7 +41,10 @@ product-words-requires c κs = search needs
 
 -- src/putting.rt:67:5
 put-few-requires-3 : tie.Need-put-few-requires-3
-put-few-requires-3 c κs = (omega (arith, c .before .before .before .before .before .before .before .before .before .before .before .before .before .pre, few-end _ (c .before .before .before .before .before .before .before .before .before .before .transfer-words .result .words) (c .before .before .before .before .before .before .before .before .before .before .transfer-words .ensures .room) (c .before .before .before .before .before .before .before .before .before .put-few .ensures), few-end _ (c .before .before .before .before .before .load-words .result .words) (c .before .before .before .before .before .load-words .ensures .room) (c .before .before .before .before .put-few2 .ensures)), c .product-words .ensures .room)
+put-few-requires-3 c κs =
+    let t = c .before .before .before .before .before .before .before .before .before .before .transfer-words in
+    let l = c .before .before .before .before .before .load-words in
+    (omega (arith, c .before .before .before .before .before .before .before .before .before .before .before .before .before .pre, few-end _ (t .result .words) (transfer-holds _ _ (t .ensures) .room) (c .before .before .before .before .before .before .before .before .before .put-few .ensures), few-end _ (l .result .words) (load-holds _ _ (l .ensures) .room) (c .before .before .before .before .put-few2 .ensures)), products-holds _ _ (c .product-words .ensures) .room)
 
 -- src/putting.rt:61:1
 same-length : tie.Need-same-length
@@ -52,7 +58,7 @@ returns c =
     let l = c .before .before .before .before .before .before .before .before .load-words in
     let p = c .before .before .before .product-words in
     let whole = put-then (fewIn (t .result) ∷ []) (fewIn (l .result) ∷ fewIn (p .result) ∷ []) (c .before .before .before .before .before .before .before .before .before .before .before .before .put-few .ensures) (put-then (fewIn (l .result) ∷ []) (fewIn (p .result) ∷ []) (c .before .before .before .before .before .before .before .put-few2 .ensures) (c .before .before .put-few3 .ensures)) in
-    subst (λ (ws : List (List ℕ)). Put (now (a .out)) (c .before .before .put-few3 .last .0) (a .at) (c .before .before .put-few3 .result) ws) (λ i. t .ensures .words i ∷ l .ensures .words i ∷ p .ensures .words i ∷ []) whole
+    subst (λ (ws : List (List ℕ)). Put (now (a .out)) (c .before .before .put-few3 .last .0) (a .at) (c .before .before .put-few3 .result) ws) (λ i. transfer-holds _ _ (t .ensures) .words i ∷ load-holds _ _ (l .ensures) .words i ∷ products-holds _ _ (p .ensures) .words i ∷ []) whole
 
 pub put-waiting-spec : {M : Type 1} → statement M
 put-waiting-spec =

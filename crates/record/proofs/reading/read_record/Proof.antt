@@ -51,7 +51,7 @@ copy-words-requires : tie.Need-copy-words-requires
 copy-words-requires c κs =
     let a = c .before .before .before .before .before .before .args in
     let form = form-of (length (now (a .cache))) (now (a .bytes)) (sym (c .before .before .before .has-form .ensures) ∙ not-false _ (c .before .before .if1 .left)) in
-    omega (arith, ap length (c .before .section-at .ensures), form .cache)
+    omega (arith, ap length (c .before .section-at .ensures .0), form .cache)
 
 -- src/reading.rt:121:9
 state-in-requires : tie.Need-state-in-requires
@@ -80,9 +80,9 @@ returns-2 c =
     let has = sym (c .before .before .before .before .before .before .before .before .before .has-form .ensures) ∙ not-false _ (c .before .before .before .before .before .before .before .before .if1 .left) in
     let form = form-of (length (now (a .cache))) (now (a .bytes)) has in
     let l = wordsIn (now (a .bytes)) in
-    let part = c .before .before .before .before .before .before .before .section-at .ensures in
+    let part = c .before .before .before .before .before .before .before .section-at .ensures .0 in
     let cache = c .before .before .before .before .before .copy-words .ensures ∙ over-all (now (a .cache)) (wordsIn (now (c .before .before .before .before .before .before .before .section-at .result))) (ap length part ∙ form .cache) ∙ part in
-    let counts = c .counts-in .ensures ∙ ap countsOfWords (c .before .section-at2 .ensures) in
+    let counts = c .counts-in .ensures ∙ ap countsOfWords (c .before .section-at2 .ensures .0) in
     (rw has (λ i. readingOf true (box (c .before .before .state-in .ensures .0 i) (cache i) (counts i))), c .before .before .state-in .ensures .1)
 
 pub read-record-spec : {M : Type 1} → statement M

@@ -44,7 +44,7 @@ section-at-requires-3 c κs = search needs
 
 -- src/reading.rt:69:20
 registers-in-requires : tie.Need-registers-in-requires
-registers-in-requires c κs = ap length (c .section-at3 .ensures) ∙ c .before .before .before .before .before .pre .0
+registers-in-requires c κs = ap length (c .section-at3 .ensures .0) ∙ c .before .before .before .before .before .pre .0
 
 -- src/reading.rt:70:21
 predicates-in-requires : tie.Need-predicates-in-requires
@@ -96,24 +96,24 @@ section-at-requires-8 c κs = search needs
 
 -- src/reading.rt:77:15
 held-in-requires : tie.Need-held-in-requires
-held-in-requires c κs = subst (λ (l : List ℕ). length l ≤ 16) (sym (c .section-at8 .ensures)) (c .before .before .before .before .before .before .before .before .before .before .before .before .before .before .before .before .before .before .pre .1)
+held-in-requires c κs = subst (λ (l : List ℕ). length l ≤ 16) (sym (c .section-at8 .ensures .0)) (c .before .before .before .before .before .before .before .before .before .before .before .before .before .before .before .before .before .before .pre .1)
 
 -- src/reading.rt:62:1
 returns : tie.Need-returns
 unfolding stateOf boxIn
 returns c =
     let l = wordsIn (now (c .before .before .before .before .before .before .before .before .before .before .before .before .before .before .before .before .before .before .before .args .bytes)) in
-    let flow = c .before .before .before .before .before .before .before .before .before .before .before .before .before .before .before .before .before .section-at .ensures in
-    let registers = c .before .before .before .before .before .before .before .before .before .before .before .before .before .registers-in .ensures ∙ c .before .before .before .before .before .before .before .before .before .before .before .before .before .before .section-at3 .ensures in
-    let predicates = c .before .before .before .before .before .before .before .before .before .before .before .before .predicates-in .ensures ∙ ap (predicatesOf 8) (c .before .before .before .before .before .before .before .before .before .before .before .before .before .before .before .word-at .ensures ∙ ap (λ (m : List ℕ). getD m 0 0) (c .before .before .before .before .before .before .before .before .before .before .before .before .before .before .before .before .section-at2 .ensures)) in
-    let specials = c .before .before .before .before .before .before .before .before .before .before .specials-in .ensures ∙ ap specialsIn (c .before .before .before .before .before .before .before .before .before .before .before .section-at4 .ensures) in
+    let flow = c .before .before .before .before .before .before .before .before .before .before .before .before .before .before .before .before .before .section-at .ensures .0 in
+    let registers = c .before .before .before .before .before .before .before .before .before .before .before .before .before .registers-in .ensures ∙ c .before .before .before .before .before .before .before .before .before .before .before .before .before .before .section-at3 .ensures .0 in
+    let predicates = c .before .before .before .before .before .before .before .before .before .before .before .before .predicates-in .ensures ∙ ap (predicatesOf 8) (c .before .before .before .before .before .before .before .before .before .before .before .before .before .before .before .word-at .ensures ∙ ap (λ (m : List ℕ). getD m 0 0) (c .before .before .before .before .before .before .before .before .before .before .before .before .before .before .before .before .section-at2 .ensures .0)) in
+    let specials = c .before .before .before .before .before .before .before .before .before .before .specials-in .ensures ∙ ap specialsIn (c .before .before .before .before .before .before .before .before .before .before .before .section-at4 .ensures .0) in
     let fetch = c .before .before .before .before .before .before .before .before .before .word-at2 .ensures ∙ ap (λ (m : List ℕ). getD m 0 0) flow in
     let base = c .before .before .before .before .before .before .before .before .word-at3 .ensures ∙ ap (λ (m : List ℕ). getD m 1 0) flow in
-    let transfer = c .before .before .before .before .before .before .transfer-in .ensures ∙ ap transferIn (c .before .before .before .before .before .before .before .section-at5 .ensures) in
-    let load = c .before .before .before .before .load-in .ensures ∙ ap loadIn (c .before .before .before .before .before .section-at6 .ensures) in
-    let products = c .before .before .products-in .ensures ∙ ap productsIn (c .before .before .before .section-at7 .ensures) in
+    let transfer = c .before .before .before .before .before .before .transfer-in .ensures ∙ ap transferIn (c .before .before .before .before .before .before .before .section-at5 .ensures .0) in
+    let load = c .before .before .before .before .load-in .ensures ∙ ap loadIn (c .before .before .before .before .before .section-at6 .ensures .0) in
+    let products = c .before .before .products-in .ensures ∙ ap productsIn (c .before .before .before .section-at7 .ensures .0) in
     let few = c .before .before .before .before .before .before .before .before .before .before .before .before .before .before .before .before .before .before .before .pre .1 in
-    let words = c .held-in .ensures ∙ ap heldWords (c .before .section-at8 .ensures) in
+    let words = c .held-in .ensures ∙ ap heldWords (c .before .section-at8 .ensures .0) in
     let held = ap heldIn words ∙ words-back (sectionAt 9 l) few in (
       (λ i. state (registers i) (predicates i) (specials i) (fetch i) (base i) (transfer i) (load i) (further (products i) (held i))),
       subst FixedHeld (sym words) (words-fixed (sectionAt 9 l) few),

@@ -40,7 +40,7 @@ section-at-requires-4 c κs = search needs
 
 -- src/form.rt:56:1
 returns : tie.Need-returns
-returns c = rw (← c .before .before .before .before .before .before .section-at .ensures, ← c .before .before .before .before .before .is-transfer .ensures, ← c .before .before .before .before .section-at2 .ensures, ← c .before .before .before .is-load .ensures, ← c .before .before .section-at3 .ensures, ← c .before .are-products .ensures, ← c .section-at4 .ensures, words-length (now (c .section-at4 .result)))
+returns c = rw (← c .before .before .before .before .before .before .section-at .ensures .0, ← c .before .before .before .before .before .is-transfer .ensures, ← c .before .before .before .before .section-at2 .ensures .0, ← c .before .before .before .is-load .ensures, ← c .before .before .section-at3 .ensures .0, ← c .before .are-products .ensures, ← c .section-at4 .ensures .0, words-length (now (c .section-at4 .result)))
 
 pub free-counts-spec : {M : Type 1} → statement M
 free-counts-spec =

@@ -18,7 +18,7 @@ section-at-requires c κs = search needs
 
 -- src/form.rt:13:1
 returns : tie.Need-returns
-returns c = ap (λ (k : ℕ). eqb k (c .before .before .args .n)) (sym (words-length (now (c .section-at .result)))) ∙ ap (λ (l : List ℕ). eqb (length l) (c .before .before .args .n)) (c .section-at .ensures)
+returns c = ap (λ (k : ℕ). eqb k (c .before .before .args .n)) (sym (words-length (now (c .section-at .result)))) ∙ ap (λ (l : List ℕ). eqb (length l) (c .before .before .args .n)) (c .section-at .ensures .0)
 
 pub has-count-spec : {M : Type 1} → statement M
 has-count-spec = tie.close (tie.spec section-at-requires returns)

@@ -33,7 +33,7 @@ is-cut-requires c κs = search needs
 -- src/form.rt:66:1
 returns : tie.Need-returns
 unfolding hasForm isRecord
-returns c = rw (← c .before .before .fixed-counts .ensures, ← c .before .free-counts .ensures, ← c .is-cut .ensures, ← c .before .before .before .before .section-at .ensures, ← c .before .before .before .word-at .ensures)
+returns c = rw (← c .before .before .fixed-counts .ensures, ← c .before .free-counts .ensures, ← c .is-cut .ensures, ← c .before .before .before .before .section-at .ensures .0, ← c .before .before .before .word-at .ensures)
 
 pub has-form-spec : {M : Type 1} → statement M
 has-form-spec =

@@ -1,6 +1,6 @@
 use Rattle.core_state.specs.declared.WaitingLoad.{WaitingLoad}
 use Rattle.record_model.specs.Record.{loadSection}
-use Rattle.record_parts.specs.Few.{Holds}
+use Rattle.record_parts.specs.Few.{fewOf}
 use native.Mathlib.Omega.{arith}
 use mathlib.Core.Path.{refl, sym, subst}
 use borrow.Author.Needs.{needs}
@@ -20,12 +20,12 @@ enum-known-l c = search needs
 -- src/writing.rt:47:1
 returns : tie.Need-returns
 unfolding loadSection
-returns c = subst (λ (l : WaitingLoad). Holds _ (loadSection l)) (sym (c .enum-told .given .1)) (record { words = refl; room = omega arith })
+returns c = rw (c .enum-told .given .1) refl
 
 -- src/writing.rt:47:1
 returns-2 : tie.Need-returns-2
 unfolding loadSection
-returns-2 c = rw (c .before .l .given .1) (record { words = refl; room = omega arith })
+returns-2 c = rw (c .before .l .given .1) refl
 
 pub load-words-spec : {M : Type 1} → statement M
 load-words-spec = tie.close (tie.spec enum-told enum-known-l returns returns-2)

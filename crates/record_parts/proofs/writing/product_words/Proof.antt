@@ -1,6 +1,6 @@
 use Rattle.record_model.specs.Record.{productSection}
 use Rattle.products.specs.declared.Products.{Products}
-use Rattle.record_parts.specs.Few.{Holds}
+use Rattle.record_parts.specs.Few.{fewOf}
 use native.Mathlib.Omega.{arith}
 use mathlib.Core.Path.{refl, sym, subst}
 use borrow.Author.Needs.{needs}
@@ -29,12 +29,12 @@ two-products-requires c κs = search needs
 -- src/writing.rt:73:1
 returns : tie.Need-returns
 unfolding productSection
-returns c = subst (λ (p : Products). Holds _ (productSection p)) (sym (c .enum-told .given .1)) (record { words = refl; room = omega arith })
+returns c = rw (c .enum-told .given .1) refl
 
 -- src/writing.rt:73:1
 returns-2 : tie.Need-returns-2
 unfolding productSection
-returns-2 c = rw (c .before .p .given .1) (record { words = refl; room = omega arith })
+returns-2 c = rw (c .before .p .given .1) refl
 
 -- src/writing.rt:73:1
 returns-3 : tie.Need-returns-3

@@ -1,7 +1,7 @@
 use Rattle.record_model.specs.Record.{transferSection}
 use Rattle.core_state.specs.declared.WaitingTransfer.the-variants as transfer
 use Rattle.core_state.specs.declared.WaitingTransfer.{WaitingTransfer}
-use Rattle.record_parts.specs.Few.{Holds}
+use Rattle.record_parts.specs.Few.{fewOf}
 use native.Mathlib.Omega.{arith}
 use mathlib.Core.Path.{refl, sym, subst}
 use borrow.Author.Needs.{needs}
@@ -26,7 +26,7 @@ waiting-words-requires c κs = search needs
 -- src/writing.rt:35:1
 returns : tie.Need-returns
 unfolding transferSection
-returns c = subst (λ (w : WaitingTransfer). Holds _ (transferSection w)) (sym (c .enum-told .given .1)) (record { words = refl; room = omega arith })
+returns c = rw (c .enum-told .given .1) refl
 
 -- src/writing.rt:35:1
 returns-2 : tie.Need-returns-2

@@ -1,3 +1,4 @@
+use Rattle.record_parts.specs.Few.{fewOf}
 use mathlib.Core.List.{[], _∷_}
 use Prim.Native.Nat.{ℕ}
 use Rattle.record_model.specs.Record.{productSection}
@@ -17,7 +18,7 @@ add-requires c κs = search needs
 -- src/writing.rt:63:1
 returns : tie.Need-returns
 unfolding productSection
-returns c = let p = c .before .args .p in let q = c .before .args .q in record { words = ap (λ (w : ℕ). p .wait ∷ p .low ∷ p .high ∷ w ∷ q .low ∷ q .high ∷ []) (c .add .ensures); room = omega arith }
+returns c = let p = c .before .args .p in let q = c .before .args .q in ap (λ (w : ℕ). fewOf (p .wait ∷ p .low ∷ p .high ∷ w ∷ q .low ∷ q .high ∷ [])) (c .add .ensures)
 
 pub two-products-spec : {M : Type 1} → statement M
 two-products-spec = tie.close (tie.spec add-requires returns)

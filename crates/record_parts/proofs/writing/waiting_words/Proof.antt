@@ -23,17 +23,17 @@ enum-known-t-3 c = search needs
 -- src/writing.rt:16:1
 returns : tie.Need-returns
 unfolding transferSection
-returns c = rw (c .before .t .given .1) (record { words = refl; room = omega arith })
+returns c = rw (c .before .t .given .1) refl
 
 -- src/writing.rt:16:1
 returns-2 : tie.Need-returns-2
 unfolding transferSection
-returns-2 c = rw (c .before .t2 .given .1) (record { words = refl; room = omega arith })
+returns-2 c = rw (c .before .t2 .given .1) refl
 
 -- src/writing.rt:16:1
 returns-3 : tie.Need-returns-3
 unfolding transferSection
-returns-3 c = rw (c .before .t3 .given .1) (record { words = refl; room = omega arith })
+returns-3 c = rw (c .before .t3 .given .1) refl
 
 pub waiting-words-spec : {M : Type 1} → statement M
 waiting-words-spec =
