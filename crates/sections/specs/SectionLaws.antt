@@ -60,11 +60,6 @@ joined-at [] k = ap wordsOfFirst (behind-none k)
 joined-at (w ∷ ws) zero = take-append-seam w (joined ws)
 joined-at (w ∷ ws) (suc k) = ap (λ (l : List ℕ). wordsOfFirst (behind k l)) (drop-append-seam w (joined ws)) ∙ joined-at ws k
 
--- How many words there are.
-pub joined-length : (w : List ℕ) (ws : List (List ℕ)) → length (joined (w ∷ ws)) ≡ 1 + length w + length (joined ws)
-unfolding joined
-joined-length w ws = omega (arith, length-append w (joined ws))
-
 -- Of words every section has words.
 words-dropped : (n : ℕ) (l : List ℕ) → AreWords l → AreWords (drop n l)
 words-dropped n l h i = rw (getD-drop n l i 0) (h (n + i))

@@ -161,11 +161,6 @@ put-append bytes a (x ∷ xs) ys =
     let e : a + 4 + 4 * length xs ≡ a + 4 * suc (length xs) = omega arith in
     put-append (putWord bytes a x) (a + 4) xs ys ∙ ap (λ (n : ℕ). putWords (putWords (putWord bytes a x) (a + 4) xs) n ys) e
 
-pub put-length : (bytes : List ℕ) (a : ℕ) (ws : List ℕ) → length (putWords bytes a ws) ≡ length bytes
-unfolding putWords
-put-length bytes a [] = refl
-put-length bytes a (w ∷ ws) = put-length (putWord bytes a w) (a + 4) ws ∙ length-putNumber 4 bytes a w
-
 -- A word put behind some bytes.
 set-behind : (front : List ℕ) (rest : List ℕ) (k v : ℕ) → set (front ++ rest) (length front + k) v ≡ front ++ set rest k v
 set-behind [] rest k v = ap (λ (n : ℕ). set rest n v) (zero-add k)
