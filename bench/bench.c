@@ -1,6 +1,6 @@
-/* A bench program in C: opens a box by writing its record, steps it, runs it, stops it anywhere and carries it on, hands in damaged
- * records, and checks code; it compares every answer and every byte with what docs/RECORD.md and include/laqemdit.h say.
- * Use: bench. It needs nothing but the C library and the two archives, and prints the same lines every time.
+/* A bench program in C: opens a box, steps it, runs it, stops it anywhere and carries it on, hands in damaged records, and checks code; it
+ * compares every answer and every byte with what docs/RECORD.md and include/laqemdit.h say.
+ * Use: bench. It needs nothing but the C library and the three archives, and prints the same lines every time.
  * The last line is 'bench: all N comparisons hold'; at the first difference it says what differs, and ends with status 1.
  */
 #include <stdarg.h>
@@ -173,35 +173,22 @@ static int same_memories(const struct box *a, const struct box *b)
     return memcmp(a->main, b->main, MAIN) == 0 && memcmp(a->local, b->local, LOCAL) == 0;
 }
 
-/* A box built at an entry: fetch address and base are the entry, ss and st are hi, sro is the code's length, p0 is true, all else is 0. */
-static void fresh(struct box *b, uint32_t entry, const struct settings *s)
+static int same_box(const struct box *a, const struct box *b)
 {
-    uint32_t at = 0, w[ROOM / 4];
-    memset(b, 0, sizeof *b);
-    memset(w, 0, sizeof w);
-    w[at] = 2;
-    w[at + 1] = w[at + 2] = entry;
-    at += 3;
-    w[at] = 32;
-    at += 33;
-    w[at] = w[at + 1] = 1;
-    at += 2;
-    w[at] = 8;
-    w[at + 3] = w[at + 4] = s->hi;
-    w[at + 6] = (uint32_t)code_length;
-    at += 9;
-    w[at] = s->words;
-    at += 1 + s->words;
-    at += 3; /* no transfer, no load, no product */
-    w[at] = 12;
-    at += 13;
-    at += 1; /* no block held */
-    for (uint32_t i = 0; i < at; i++)
-        put_word(b->record + 4 * i, w[i]);
-    b->length = 4 * (size_t)at;
-    for (int i = 0; i < MAIN; i++)
-        b->main[i] = i < 128 ? (uint8_t)(i * 7) : 0;
-    put_word(b->local + 4, 0x10);
+    return a->length == b->length && memcmp(a->record, b->record, a->length) == 0 && same_memories(a, b);
+}
+
+/* A fresh record in which the library has no part: place and value of each word that is not 0, as docs/RECORD.md has them. What is opened is
+ * compared with it. */
+static size_t by_hand(uint8_t *record, uint32_t entry, size_t length, const struct settings *s)
+{
+    const uint32_t w = s->words, hi = s->hi;
+    const uint32_t words[12][2] = {{0, 2}, {1, entry}, {2, entry}, {3, 32}, {36, 1}, {37, 1}, {38, 8}, {41, hi}, {42, hi},
+        {44, (uint32_t)length}, {47, w}, {51 + w, 12}};
+    memset(record, 0, 4 * (65 + (size_t)w));
+    for (int i = 0; i < 12; i++)
+        put_word(record + 4 * words[i][0], words[i][1]);
+    return 4 * (65 + (size_t)w);
 }
 
 /* Whether a record is accepted: a reading of the documents of its own. */
@@ -334,6 +321,51 @@ static uint32_t go(int64_t budget, const struct box *box, const struct settings 
     return call(budget, box, laqemdit_longest(s->words), s, after, what);
 }
 
+/* How long the buffers of an opening are. */
+struct lengths {
+    size_t code, main, local, out;
+};
+
+/* An opening that has to answer `due`; `b` gets the record, where one is written. The memories hold what the code holds, since none of it may
+ * matter. What holds of every opening is compared here. */
+static void open_box(uint32_t due, const struct lengths *n, uint32_t entry, const struct settings *s, struct box *b)
+{
+    size_t at = 0;
+    uint8_t *code_lent, *main_lent, *local_lent, *out;
+    uint32_t answer;
+    memset(arena, 0x5A, n->code + n->main + n->local + n->out + 5 * GUARD);
+    code_lent = lend(&at, code, n->code);
+    main_lent = lend(&at, code, n->main);
+    local_lent = lend(&at, code, n->local);
+    out = lend(&at, NULL, n->out);
+    answer = laqemdit_open(code_lent, n->code, main_lent, n->main, local_lent, n->local, out, n->out, entry,
+        s->words, s->lo, s->hi, s->on, s->blocks, s->bytes);
+    HOLDS(answer == due, "an opening at %u of %lu bytes, with %u cache words, into %lu bytes answers %u in place of %u", (unsigned)entry,
+        (unsigned long)n->code, (unsigned)s->words, (unsigned long)n->out, (unsigned)answer, (unsigned)due);
+    HOLDS(all(code_lent - GUARD, 0x5A, GUARD) && all(main_lent - GUARD, 0x5A, GUARD) && all(local_lent - GUARD, 0x5A, GUARD)
+            && all(out - GUARD, 0x5A, GUARD) && all(out + n->out, 0x5A, GUARD),
+        "an opening that answers %u touches bytes outside the buffers", (unsigned)answer);
+    HOLDS(memcmp(code_lent, code, n->code) == 0 && memcmp(main_lent, code, n->main) == 0 && memcmp(local_lent, code, n->local) == 0,
+        "an opening that answers %u writes to code or a memory", (unsigned)answer);
+    b->length = due == LAQEMDIT_OPENED ? by_hand(b->record, entry, n->code, s) : 0;
+    HOLDS(memcmp(out, b->record, b->length) == 0, "the record opened at %u of %lu bytes, with %u cache words, is not the one built by hand",
+        (unsigned)entry, (unsigned long)n->code, (unsigned)s->words);
+    HOLDS(all(out + b->length, 0xA5, n->out - b->length), "an opening that answers %u does not leave the output's rest as found",
+        (unsigned)answer);
+    memcpy(b->record, out, b->length);
+}
+
+/* The box opened at an entry, with the memories that the tries begin with. */
+static void opened(struct box *b, uint32_t entry, const struct settings *s)
+{
+    const struct lengths n = {code_length, MAIN, LOCAL, laqemdit_longest(s->words)};
+    memset(b, 0, sizeof *b);
+    open_box(LAQEMDIT_OPENED, &n, entry, s, b);
+    for (int i = 0; i < 128; i++)
+        b->main[i] = (uint8_t)(i * 7);
+    put_word(b->local + 4, 0x10);
+}
+
 static int same_counts(struct counts a, struct counts b)
 {
     return memcmp(a.number, b.number, sizeof a.number) == 0;
@@ -370,6 +402,62 @@ static void try_longest(void)
     printf("longest: 2102 sizes, %u bytes for 4 words and %u for 512\n", (unsigned)laqemdit_longest(4), (unsigned)laqemdit_longest(512));
 }
 
+/* A box from its opening on, in code whose words are no bundles: a run of budget 0 and a refused step give it back. */
+static void try_opened(uint32_t entry, const struct settings *s)
+{
+    const struct lengths n = {code_length, MAIN, LOCAL, ROOM};
+    struct box b, after;
+    open_box(LAQEMDIT_OPENED, &n, entry, s, &b);
+    opened(&b, entry, s);
+    HOLDS(go(0, &b, s, &after, "budget 0") == LAQEMDIT_SPENT && same_box(&after, &b), "a run of budget 0 does not give back what was opened");
+    HOLDS(go(STEP, &b, s, &after, "no bundle") == 3 && same_box(&after, &b), "a step at no bundle does not give back what was opened");
+}
+
+/* Openings that are taken: sizes of the stack cache, stack areas, method caches, lengths of code, entries. */
+static void try_open(void)
+{
+    static const uint32_t areas[5][2] = {{0, 0}, {0, 256}, {128, 256}, {64, 128}, {256, 256}};
+    static const uint32_t methods[4][3] = {{0, 0, 0}, {0, 17, 63}, {1, 1, 64}, {0x80000000, 16, 16384}};
+    static const size_t lengths[4] = {4, 8, 160, 65536};
+    unsigned boxes = 0;
+    for (size_t i = 0; i < LARGE; i += 4)
+        put_word(code + i, 0x05C00000);
+    for (uint32_t k = 0; k < 8 * 5 * 4 * 4; k++) {
+        const uint32_t *area = areas[k / 8 % 5], *method = methods[k / 40 % 4];
+        const struct settings s = {4u << k % 8, area[0], area[1], method[0], method[1], method[2]};
+        code_length = lengths[k / 160];
+        try_opened(0, &s);
+        try_opened((uint32_t)(code_length / 8 * 4), &s);
+        try_opened((uint32_t)code_length - 4, &s);
+        boxes += 3;
+    }
+    printf("open: %u boxes as built by hand, each given back by a run of budget 0\n", boxes);
+}
+
+/* Openings that are refused for their entry or their output, and the last ones that are not: 14 comes before 2. */
+static void try_open_refused(void)
+{
+    static const uint32_t far[] = {65536, 65540, 0x7FFFFFFC, 0x80000000, 0xFFFFFFFC, 0xFFFFFFFD, 0xFFFFFFFF};
+    struct settings s = settings;
+    struct lengths n = {sizeof program, MAIN, LOCAL, ROOM};
+    struct box b;
+    unsigned entries = 0, outputs = 0;
+    LOAD(program);
+    for (uint32_t entry = 0; entry < 1000; entry++, entries++)
+        open_box(entry % 4 == 0 && entry < 160 ? LAQEMDIT_OPENED : 2, &n, entry, &settings, &b);
+    for (size_t i = 0; i < sizeof far / sizeof far[0]; i++, entries++)
+        open_box(2, &n, far[i], &settings, &b);
+    for (s.words = 4; s.words <= 512; s.words *= 2) {
+        size_t longest = laqemdit_longest(s.words);
+        for (n.out = 0; n.out < longest + 3; n.out++, outputs++) {
+            open_box(n.out < longest ? 14 : LAQEMDIT_OPENED, &n, 68, &s, &b);
+            open_box(n.out < longest ? 14 : 2, &n, 3, &s, &b);
+            open_box(n.out < longest ? 14 : 2, &n, 160, &s, &b);
+        }
+    }
+    printf("openings: %u entries, %u outputs\n", entries, outputs);
+}
+
 /* The whole run, and every state on its way: the records after m bundles for all m. */
 static struct box stops[64];
 static struct counts stop_counts[64];
@@ -380,18 +468,16 @@ static void try_run(void)
     struct box start, end, same;
     struct counts c;
     LOAD(program);
-    fresh(&start, 68, &settings);
-    HOLDS(fits(start.record, start.length, &settings), "the bench program's own fresh record");
+    opened(&start, 68, &settings);
+    HOLDS(fits(start.record, start.length, &settings), "the record that was opened is none of a well-formed box");
     HOLDS(start.length == 4 * 69, "a fresh record has %lu bytes", (unsigned long)start.length);
     HOLDS(go(0, &start, &settings, &same, "budget 0") == LAQEMDIT_SPENT, "budget 0 is not spent");
-    HOLDS(same.length == start.length && memcmp(same.record, start.record, start.length) == 0 && same_memories(&same, &start),
-        "a run of budget 0 does not give back the fresh record");
+    HOLDS(same_box(&same, &start), "a run of budget 0 does not give back what was opened");
     HOLDS(go(1000, &start, &settings, &end, "the whole run") == LAQEMDIT_ENDED, "the whole run does not end");
     c = counts_of(end.record);
     HOLDS(same_counts(c, whole), "the whole run's counts");
     HOLDS(go(0xFFFFFFFFL, &start, &settings, &same, "the greatest budget") == LAQEMDIT_ENDED, "the greatest budget does not end");
-    HOLDS(same.length == end.length && memcmp(same.record, end.record, end.length) == 0 && same_memories(&same, &end),
-        "the greatest budget gives another end");
+    HOLDS(same_box(&same, &end), "the greatest budget gives another end");
     HOLDS(part(&end, 0, 0) == 160 && part(&end, 0, 1) == 68, "fetch address and base at the end");
     for (uint32_t i = 0; i < 32; i++)
         HOLDS(part(&end, 1, i) == registers[i], "r%u at the end is %08X", (unsigned)i, (unsigned)part(&end, 1, i));
@@ -406,11 +492,9 @@ static void try_run(void)
         (unsigned long)c.number[5]);
     HOLDS(go(5, &end, &settings, &same, "a run of an ended box") == LAQEMDIT_ENDED, "an ended box does not stay ended");
     clear_counts(end.record);
-    HOLDS(same.length == end.length && memcmp(same.record, end.record, end.length) == 0 && same_memories(&same, &end),
-        "a run of an ended box changes it");
+    HOLDS(same_box(&same, &end), "a run of an ended box changes it");
     HOLDS(go(STEP, &end, &settings, &same, "a step of an ended box") == LAQEMDIT_ENDED, "a step of an ended box");
-    HOLDS(same.length == end.length && memcmp(same.record, end.record, end.length) == 0 && same_memories(&same, &end),
-        "a step of an ended box changes it");
+    HOLDS(same_box(&same, &end), "a step of an ended box changes it");
 }
 
 static void try_steps(void)
@@ -418,7 +502,7 @@ static void try_steps(void)
     struct box now, next;
     struct counts total = {{0}};
     unsigned waiting = 0, loading = 0, single = 0, both = 0;
-    fresh(&now, 68, &settings);
+    opened(&now, 68, &settings);
     stops[0] = now;
     for (uint32_t m = 1; m <= 58; m++) {
         struct box ran;
@@ -689,7 +773,7 @@ static void try_places(void)
     unsigned tried = 0;
     w = 0x00400000;
     load_code(&w, 1);
-    fresh(&start, 0, &s);
+    opened(&start, 0, &s);
     for (uint32_t i = 0; i < 32; i++)
         words[i] = i == 0 ? 0 : 0x01010101 * i;
     replace(&start, 1, words, 32);
@@ -772,7 +856,62 @@ static void try_places(void)
     printf("places: %u words of a record by what a bundle makes of them\n", tried);
 }
 
-/* Settings outside the limits are 1 for every entry, with a good record and without; just inside, they are not. */
+/* Settings outside the limits: every entry answers 1, whether what else it is handed is good or not. */
+static void refused_by_all(const struct settings *s, const char *what)
+{
+    struct lengths n = {code_length, MAIN, LOCAL, ROOM};
+    struct box none, after;
+    struct laqemdit_checked c;
+    none = stops[0];
+    none.length = 0;
+    HOLDS(call(9, &stops[0], ROOM, s, &after, what) == 1, "%s with a good record", what);
+    HOLDS(call(STEP, &stops[0], ROOM, s, &after, what) == 1, "a step with %s", what);
+    HOLDS(call(9, &none, 0, s, &after, what) == 1, "%s without record and output", what);
+    HOLDS(call(STEP, &none, 0, s, &after, what) == 1, "a step with %s without record and output", what);
+    for (int k = 0; k < 4; k++) {
+        n.out = k < 2 ? ROOM : 0;
+        open_box(1, &n, k % 2 == 0 ? 0 : 3, s, &after);
+    }
+    c = laqemdit_check(code, code_length, 0, 0, 0, MAIN, LOCAL, s->words, s->lo, s->hi, s->on, s->blocks, s->bytes);
+    HOLDS(c.answer == 1 && c.address == 0 && c.rule == 0, "the check with %s gives %u", what, (unsigned)c.answer);
+}
+
+/* Settings inside the limits: no entry answers 1. */
+static void taken_by_all(const struct settings *s, const char *what)
+{
+    struct box b, none, after;
+    opened(&b, 68, s);
+    none = b;
+    none.length = 0;
+    HOLDS(go(0, &b, s, &after, what) == LAQEMDIT_SPENT, "%s are refused", what);
+    HOLDS(call(0, &none, ROOM, s, &after, what) == 14, "no record with %s", what);
+    HOLDS(laqemdit_check(code, code_length, 0, 0, 0, MAIN, LOCAL, s->words, s->lo, s->hi, s->on, s->blocks, s->bytes).answer
+            == LAQEMDIT_ACCEPTED,
+        "the check refuses %s", what);
+}
+
+/* Lengths of memories, which the other tries do not change. */
+static void try_memories(void)
+{
+    static const struct {
+        struct lengths n;
+        uint32_t hi, due;
+    } tries[] = {
+        {{160, 65536, 65536, ROOM}, 65536, 0}, {{160, 65537, 64, ROOM}, 65536, 1}, {{160, 65536, 65537, ROOM}, 65536, 1},
+        {{160, 255, 64, ROOM}, 256, 1}, {{160, 256, 0, ROOM}, 256, 0}, {{160, 259, 1, ROOM}, 256, 0}, {{160, 259, 1, ROOM}, 260, 1},
+        {{160, 0, 0, ROOM}, 0, 0}, {{160, 3, 0, ROOM}, 4, 1},
+    };
+    for (size_t i = 0; i < sizeof tries / sizeof tries[0]; i++) {
+        const struct lengths *n = &tries[i].n;
+        const struct settings s = {4, 0, tries[i].hi, 0, 0, 0};
+        struct box b;
+        open_box(tries[i].due, n, 68, &s, &b);
+        HOLDS(laqemdit_check(code, n->code, 0, 0, 0, n->main, n->local, s.words, s.lo, s.hi, 0, 0, 0).answer == tries[i].due,
+            "the check with memories of %lu and %lu bytes", (unsigned long)n->main, (unsigned long)n->local);
+    }
+}
+
+/* Settings outside the limits, and those just inside. */
 static void try_settings(void)
 {
     static const struct settings bad[] = {
@@ -789,42 +928,24 @@ static void try_settings(void)
         {4, 256, 256, 1, 2, 104}, {4, 0, 0, 1, 2, 104}, {4, 128, 256, 0, 0, 0}, {4, 128, 256, 0, 17, 16385},
     };
     static const size_t bad_lengths[] = {0, 2, 6, 65537, 65540};
-    struct box b, none, after;
     unsigned tried = 0;
+    char what[40];
     LOAD(program);
-    none = stops[0];
-    none.length = 0;
     for (size_t i = 0; i < sizeof bad / sizeof bad[0]; i++, tried++) {
-        struct laqemdit_checked c;
-        b = stops[0];
-        HOLDS(call(9, &b, ROOM, &bad[i], &after, "bad settings") == 1, "bad settings %lu with a good record", (unsigned long)i);
-        HOLDS(call(STEP, &b, ROOM, &bad[i], &after, "bad settings") == 1, "a step with bad settings %lu", (unsigned long)i);
-        HOLDS(call(9, &none, 0, &bad[i], &after, "bad settings") == 1, "bad settings %lu without record and output", (unsigned long)i);
-        HOLDS(call(STEP, &none, 0, &bad[i], &after, "bad settings") == 1, "a step with bad settings %lu without record", (unsigned long)i);
-        c = laqemdit_check(code, code_length, 0, 0, 0, MAIN, LOCAL, bad[i].words, bad[i].lo, bad[i].hi, bad[i].on, bad[i].blocks, bad[i].bytes);
-        HOLDS(c.answer == 1 && c.address == 0 && c.rule == 0, "the check with bad settings %lu gives %u", (unsigned long)i, (unsigned)c.answer);
+        sprintf(what, "bad settings %lu", (unsigned long)i);
+        refused_by_all(&bad[i], what);
     }
     for (size_t i = 0; i < sizeof bad_lengths / sizeof bad_lengths[0]; i++, tried++) {
-        struct laqemdit_checked c;
         code_length = bad_lengths[i];
-        HOLDS(call(9, &stops[0], ROOM, &settings, &after, "a bad length") == 1, "code of %lu bytes", (unsigned long)code_length);
-        HOLDS(call(STEP, &none, 0, &settings, &after, "a bad length") == 1, "a step of code of %lu bytes", (unsigned long)code_length);
-        c = laqemdit_check(code, code_length, 0, 0, 0, MAIN, LOCAL, 4, 128, 256, 1, 2, 104);
-        HOLDS(c.answer == 1 && c.address == 0 && c.rule == 0, "the check of code of %lu bytes", (unsigned long)code_length);
+        sprintf(what, "code of %lu bytes", (unsigned long)code_length);
+        refused_by_all(&settings, what);
     }
     LOAD(program);
     for (size_t i = 0; i < sizeof good / sizeof good[0]; i++) {
-        fresh(&b, 68, &good[i]);
-        HOLDS(go(0, &b, &good[i], &after, "good settings") == LAQEMDIT_SPENT, "good settings %lu are refused", (unsigned long)i);
-        HOLDS(call(0, &none, ROOM, &good[i], &after, "no record") == 14, "no record with good settings %lu", (unsigned long)i);
-        HOLDS(laqemdit_check(code, code_length, 0, 0, 0, MAIN, LOCAL, good[i].words, good[i].lo, good[i].hi, good[i].on, good[i].blocks,
-                  good[i].bytes).answer == LAQEMDIT_ACCEPTED,
-            "the check refuses good settings %lu", (unsigned long)i);
+        sprintf(what, "good settings %lu", (unsigned long)i);
+        taken_by_all(&good[i], what);
     }
-    HOLDS(laqemdit_check(code, code_length, 0, 0, 0, 65537, LOCAL, 4, 128, 256, 0, 0, 0).answer == 1, "main memory of 65,537 bytes");
-    HOLDS(laqemdit_check(code, code_length, 0, 0, 0, MAIN, 65537, 4, 128, 256, 0, 0, 0).answer == 1, "local memory of 65,537 bytes");
-    HOLDS(laqemdit_check(code, code_length, 0, 0, 0, 65536, 65536, 4, 128, 65536, 0, 0, 0).answer == 0, "memories of 65,536 bytes");
-    HOLDS(laqemdit_check(code, code_length, 0, 0, 0, 255, LOCAL, 4, 128, 256, 0, 0, 0).answer == 1, "a stack area past main memory");
+    try_memories();
     printf("settings: %u refused with 1, %lu accepted\n", tried, (unsigned long)(sizeof good / sizeof good[0]));
 }
 
@@ -835,11 +956,10 @@ static void try_sizes(void)
     for (s.words = 4; s.words <= 512; s.words *= 2)
         for (t.words = 4; t.words <= 512; t.words *= 2) {
             struct box b, after;
-            fresh(&b, 68, &s);
-            HOLDS(b.length == 4 * (65 + (size_t)s.words), "a fresh record with %u cache words", (unsigned)s.words);
+            opened(&b, 68, &s);
             HOLDS(go(0, &b, &t, &after, "a cache of another size") == (s.words == t.words ? LAQEMDIT_SPENT : 14),
                 "a record of %u cache words under %u", (unsigned)s.words, (unsigned)t.words);
-            HOLDS(s.words != t.words || (after.length == b.length && memcmp(after.record, b.record, b.length) == 0),
+            HOLDS(s.words != t.words || same_box(&after, &b),
                 "a record of %u cache words comes back otherwise", (unsigned)s.words);
         }
     printf("stack caches: records of 8 sizes under 8 sizes\n");
@@ -867,11 +987,10 @@ static void try_refusals(void)
         uint32_t number = tries[i].number;
         s.on = tries[i].on;
         load_code(tries[i].words, 3);
-        fresh(&b, 0, &s);
+        opened(&b, 0, &s);
         HOLDS(go(2, &b, &s, &two, "two bundles") == LAQEMDIT_SPENT, "two bundles before the refusal %u", (unsigned)number);
         HOLDS(go(99, &b, &s, &ran, "a refused run") == number, "the run is not refused with %u", (unsigned)number);
-        HOLDS(ran.length == two.length && memcmp(ran.record, two.record, two.length) == 0 && same_memories(&ran, &two),
-            "a run refused with %u does not leave what two bundles leave", (unsigned)number);
+        HOLDS(same_box(&ran, &two), "a run refused with %u does not leave what two bundles leave", (unsigned)number);
         HOLDS(counts_of(ran.record).number[0] == 2, "a run refused with %u does not count two bundles", (unsigned)number);
         HOLDS(go(STEP, &two, &s, &stepped, "a refused step") == number, "the step is not refused with %u", (unsigned)number);
         HOLDS(same_state(&stepped, &two) && same_memories(&stepped, &two), "a step refused with %u changes the box", (unsigned)number);
@@ -944,6 +1063,8 @@ static void try_check(void)
 int main(void)
 {
     try_longest();
+    try_open();
+    try_open_refused();
     try_run();
     try_steps();
     try_going_on();

@@ -1,5 +1,5 @@
-//! Compares the C entries with a second opinion, on random boxes: the plain interpreter for what bundles do, record.rs for records, marks.rs
-//! for the check. Whole answers are compared: the number, both memories, and every byte of the output.
+//! Compares the C entries with a second opinion, on random boxes: the plain interpreter for what is opened and what bundles do, record.rs for
+//! records, marks.rs for the check. Whole answers are compared: the number, both memories, and every byte of the output.
 //! Build: rustc --edition 2021 -O compare.rs -L DIRECTORY -l static=entries -l static=check_entry
 //! Use: compare [PROGRAMS [SEED [FIRST]]]
 //! PROGRAMS random programs from number FIRST on, each with its boxes, damaged records and markings; the same arguments try the same ones.
@@ -14,7 +14,7 @@ mod plain;
 mod record;
 
 use marks::Marking;
-use plain::{Answer, Method};
+use plain::{Answer, Machine, Method};
 use record::{Stopped, Under};
 
 #[repr(C)]
@@ -27,6 +27,9 @@ struct Checked {
 #[rustfmt::skip]
 extern "C" {
     fn laqemdit_longest(words: u32) -> u32;
+    fn laqemdit_open(code: *const u8, code_len: usize, main: *const u8, main_len: usize, local: *const u8, local_len: usize,
+        out: *mut u8, out_len: usize, entry: u32,
+        words: u32, lo: u32, hi: u32, on: u32, blocks: u32, bytes: u32) -> u32;
     fn laqemdit_step(record: *const u8, record_len: usize, code: *const u8, code_len: usize, main: *mut u8, main_len: usize,
         local: *mut u8, local_len: usize, out: *mut u8, out_len: usize,
         words: u32, lo: u32, hi: u32, on: u32, blocks: u32, bytes: u32) -> u32;
@@ -58,9 +61,10 @@ struct Given {
     set: Settings,
 }
 
-/// A run with a budget, or a step.
+/// An opening at an entry, which takes no record, a run with a budget, or a step.
 #[derive(Clone, Copy, Debug)]
 enum Call {
+    Open(u32),
     Run(u32),
     Step,
 }
@@ -85,10 +89,10 @@ fn guarded(bytes: &[u8]) -> Vec<u8> {
 }
 
 /// The buffer, if its guards are as they were.
-fn unguarded(g: &[u8]) -> Option<Vec<u8>> {
+fn unguarded(g: &[u8]) -> Option<&[u8]> {
     let n = g.len() - GUARD;
-    let whole = g[..GUARD].iter().chain(&g[n..]).all(|&b| b == 0x5A);
-    whole.then(|| g[GUARD..n].to_vec())
+    let whole = g[..GUARD] == [0x5A; GUARD] && g[n..] == [0x5A; GUARD];
+    whole.then(|| &g[GUARD..n])
 }
 
 /// The call through C; an error where bytes outside the buffers, or the record or the code, were touched.
@@ -102,52 +106,57 @@ fn through_c(g: &Given, record: &[u8], room: usize, call: Call) -> Result<Left, 
     // Every pointer is valid for its length, and the buffers are apart.
     let answer = unsafe {
         match call {
+            Call::Open(e) => laqemdit_open(cp, cn, mp, mn, lp, ln, op, room, e, s.words, s.lo, s.hi, s.on, s.blocks, s.bytes),
             Call::Step => laqemdit_step(rp, rn, cp, cn, mp, mn, lp, ln, op, room, s.words, s.lo, s.hi, s.on, s.blocks, s.bytes),
             Call::Run(k) => laqemdit_run(rp, rn, cp, cn, mp, mn, lp, ln, op, room, k, s.words, s.lo, s.hi, s.on, s.blocks, s.bytes),
         }
     };
-    if r != guarded(record) || c != guarded(&g.code) {
+    if unguarded(&r) != Some(record) || unguarded(&c) != Some(&g.code) {
         return Err("record or code was written to".into());
     }
     match (unguarded(&m), unguarded(&l), unguarded(&o)) {
-        (Some(main), Some(local), Some(out)) => Ok(Left { answer, main, local, out }),
+        (Some(main), Some(local), Some(out)) => Ok(Left { answer, main: main.to_vec(), local: local.to_vec(), out: out.to_vec() }),
         _ => Err("bytes outside the buffers were written to".into()),
     }
 }
 
+fn method(s: &Settings) -> Method {
+    Method { on: s.on != 0, blocks: s.blocks, bytes: s.bytes }
+}
+
 fn settings_ok(g: &Given) -> bool {
     let s = &g.set;
-    g.code.len() >= 4
-        && g.code.len() <= 65536
-        && g.code.len() % 4 == 0
-        && g.main.len() <= 65536
-        && g.local.len() <= 65536
-        && [4, 8, 16, 32, 64, 128, 256, 512].contains(&s.words)
-        && s.lo % 4 == 0
-        && s.hi % 4 == 0
-        && s.lo <= s.hi
-        && s.hi as usize <= g.main.len()
-        && (s.on == 0 || (s.blocks >= 1 && s.blocks <= 16 && s.bytes >= 64 && s.bytes <= 16384))
+    plain::admitted(g.code.len(), g.main.len(), g.local.len(), s.words, s.lo, s.hi, method(s))
 }
 
 fn under(g: &Given) -> Under<'_> {
     Under { words: g.set.words as usize, code: &g.code, on: g.set.on != 0, blocks: g.set.blocks, bytes: g.set.bytes }
 }
 
+/// The machine that a call begins with, or the number of the refusal: 1, then 14, then 2 of an entry.
+fn begun(g: &Given, record: &[u8], room: usize, call: Call) -> Result<Machine, u32> {
+    let s = &g.set;
+    if !settings_ok(g) {
+        return Err(1);
+    }
+    if room < record::longest(s.words as usize) {
+        return Err(14);
+    }
+    if let Call::Open(entry) = call {
+        return Machine::open(g.code.clone(), g.main.clone(), g.local.clone(), s.words, s.lo, s.hi, method(s), entry);
+    }
+    let stopped = record::read(record, &under(g)).ok_or(14u32)?;
+    Ok(record::machine_of(&stopped, &g.code, &g.main, &g.local, s.lo, s.hi, method(s)))
+}
+
 /// What the call has to leave, by the second opinion.
 fn due(g: &Given, record: &[u8], room: usize, call: Call) -> Left {
-    let as_found = |answer| Left { answer, main: g.main.clone(), local: g.local.clone(), out: vec![OLD; room] };
-    if !settings_ok(g) {
-        return as_found(1);
-    }
-    let s = &g.set;
-    if room < record::longest(s.words as usize) {
-        return as_found(14);
-    }
-    let Some(stopped) = record::read(record, &under(g)) else { return as_found(14) };
-    let method = Method { on: s.on != 0, blocks: s.blocks, bytes: s.bytes };
-    let mut m = record::machine_of(&stopped, &g.code, &g.main, &g.local, s.lo, s.hi, method);
+    let mut m = match begun(g, record, room, call) {
+        Ok(m) => m,
+        Err(answer) => return Left { answer, main: g.main.clone(), local: g.local.clone(), out: vec![OLD; room] },
+    };
     let answer = match call {
+        Call::Open(_) => Answer::Done,
         Call::Run(budget) => m.run(budget),
         Call::Step => m.step(),
     };
@@ -172,17 +181,9 @@ fn words_of(bytes: &[u8]) -> Vec<u32> {
     bytes.chunks(4).map(|b| b.iter().chain(&[0; 3]).take(4).fold(0, |w, &b| w << 8 | b as u32)).collect()
 }
 
-/// The call as a case of the case program.
-fn case_of(g: &Given, record: &[u8], room: usize, call: Call) -> String {
-    let s = &g.set;
-    let mut t = String::from("case difference\n");
-    for words in words_of(&g.code).chunks(16) {
-        t += &format!("code{}\n", hex(words));
-    }
-    t += &format!("main {}\nlocal {}\nstack {} {} {}\n", g.main.len(), g.local.len(), s.words, s.lo, s.hi);
-    if s.on != 0 {
-        t += &format!("method {} {}\n", s.blocks, s.bytes);
-    }
+/// The lines of a case for what a step or a run takes beside code and settings.
+fn stopped_lines(g: &Given, record: &[u8]) -> String {
+    let mut t = String::new();
     for (name, memory) in [("main", &g.main), ("local", &g.local)] {
         for (i, b) in memory.chunks(4).enumerate() {
             if b.iter().any(|&b| b != 0) {
@@ -194,12 +195,25 @@ fn case_of(g: &Given, record: &[u8], room: usize, call: Call) -> String {
     for words in words_of(record).chunks(16) {
         t += &format!("record{}\n", hex(words));
     }
-    t += &format!("recordbytes {}\n", record.len());
-    t += &match call {
-        Call::Run(k) => format!("resume {} {}\n", k, room),
-        Call::Step => format!("restep {}\n", room),
-    };
-    t
+    t + &format!("recordbytes {}\n", record.len())
+}
+
+/// The call as a case of the case program.
+fn case_of(g: &Given, record: &[u8], room: usize, call: Call) -> String {
+    let s = &g.set;
+    let mut t = String::from("case difference\n");
+    for words in words_of(&g.code).chunks(16) {
+        t += &format!("code{}\n", hex(words));
+    }
+    t += &format!("main {}\nlocal {}\nstack {} {} {}\n", g.main.len(), g.local.len(), s.words, s.lo, s.hi);
+    if s.on != 0 {
+        t += &format!("method {} {}\n", s.blocks, s.bytes);
+    }
+    t + &match call {
+        Call::Open(entry) => format!("entry {}\n# an output of {} bytes\nsave\n", entry, room),
+        Call::Run(k) => format!("{}resume {} {}\n", stopped_lines(g, record), k, room),
+        Call::Step => format!("{}restep {}\n", stopped_lines(g, record), room),
+    }
 }
 
 fn first_difference(a: &[u8], b: &[u8]) -> Option<usize> {
@@ -213,6 +227,10 @@ fn tell(name: &str, due: &[u8], came: &[u8]) {
         println!("  came{}", hex(&words_of(came)));
     }
 }
+
+/// What is added to the answers of the check and of openings where answers are counted.
+const CHECKS: u32 = 1000;
+const OPENINGS: u32 = 2000;
 
 /// Counts of what was tried, and where a difference is told.
 struct Bench {
@@ -244,9 +262,10 @@ impl Bench {
             self.stop("the call of the case above leaves something else");
         }
         self.runs += 1;
-        *self.answers.entry(came.answer).or_default() += 1;
-        if let Some(s) = self.written(g, &came) {
-            self.bundles += s.counts[0];
+        let kind = if matches!(call, Call::Open(_)) { OPENINGS } else { 0 };
+        *self.answers.entry(kind + came.answer).or_default() += 1;
+        if kind == 0 {
+            self.bundles += self.written(g, &came).map_or(0, |s| s.counts[0]);
         }
         came
     }
@@ -560,6 +579,32 @@ impl Random {
         r
     }
 
+    /// An entry inside the code: a block's base, where there are blocks, or any word.
+    fn entry(&mut self, code: u32, bases: &[u32]) -> u32 {
+        if bases.is_empty() || self.chance(20) { 4 * self.below(code / 4) } else { self.pick(bases) }
+    }
+
+    /// An entry that may be refused.
+    fn any_entry(&mut self, code: u32) -> u32 {
+        match self.below(4) {
+            0 => 4 * self.below(code / 4 + 3),
+            1 => self.below(code + 8),
+            2 => self.pick(&[1, 2, 3, code, code.saturating_sub(4), code + 1, 65536, 0x80000000, 0xFFFFFFFC]),
+            _ => self.value(code),
+        }
+    }
+
+    /// An output's length near that of the longest record or of a fresh one, or any below.
+    fn room(&mut self, words: u32) -> usize {
+        let longest = record::longest(words as usize);
+        match self.below(4) {
+            0 => longest + self.below(40) as usize,
+            1 => longest + 1 - self.below(3) as usize,
+            2 => 4 * (65 + words as usize) + self.below(5) as usize,
+            _ => self.below(longest as u32) as usize,
+        }
+    }
+
     /// Settings that may be refused: one number changed.
     fn unsettled(&mut self, g: &Given) -> Given {
         let mut g = g.clone();
@@ -646,7 +691,20 @@ fn check(b: &mut Bench, r: &mut Random, g: &Given) {
         b.stop("the check");
     }
     b.runs += 1;
-    *b.answers.entry(1000 + came.answer).or_default() += 1;
+    *b.answers.entry(CHECKS + came.answer).or_default() += 1;
+}
+
+/// Openings that may be refused, for their settings, their output, their entry, or several of these.
+fn openings(b: &mut Bench, r: &mut Random, g: &Given) {
+    for _ in 0..2 {
+        let room = r.room(g.set.words);
+        let mut given = if r.chance(60) { g.clone() } else { r.unsettled(g) };
+        if r.chance(2) {
+            given.code.resize(r.pick(&[0, 4, 65532, 65536, 65537, 65540]) as usize, 0);
+        }
+        let entry = r.any_entry(given.code.len() as u32);
+        b.call(&given, &[], room, Call::Open(entry));
+    }
 }
 
 fn program(b: &mut Bench, r: &mut Random) {
@@ -659,8 +717,15 @@ fn program(b: &mut Bench, r: &mut Random) {
     if unsafe { laqemdit_longest(words) } as usize != if size { record::longest(words as usize) } else { 0 } {
         b.stop(&format!("longest {}", words));
     }
-    for _ in 0..3 {
-        let record = record::write(&r.stopped(&g, &bases));
+    openings(b, r, &g);
+    let entry = r.entry(code, &bases);
+    let opened = b.call(&g, &[], longest, Call::Open(entry)).out;
+    for box_number in 0..3 {
+        // The first box is the one that was opened, the others are anywhere.
+        let record = match box_number {
+            0 => opened[..record_length(&opened)].to_vec(),
+            _ => record::write(&r.stopped(&g, &bases)),
+        };
         let m = r.below(30);
         let n = if r.chance(70) { r.below(30) } else { r.below(2000) };
         in_parts(b, &g, &record, m, n);
@@ -715,10 +780,10 @@ fn main() {
         }
         program(&mut b, &mut r);
     }
-    let tally = |checks: bool| -> String {
-        let of_kind = b.answers.iter().filter(|(&a, _)| (a >= 1000) == checks);
-        of_kind.map(|(a, n)| format!(" {}: {}", a % 1000, n)).collect::<Vec<_>>().join(",")
+    let tally = |kind: u32| -> String {
+        let of_kind = b.answers.range(kind..kind + 1000);
+        of_kind.map(|(a, n)| format!(" {}: {}", a - kind, n)).collect::<Vec<_>>().join(",")
     };
-    println!("compare: {} bundles; answers of step and run{}; of check{}", b.bundles, tally(false), tally(true));
+    println!("compare: {} bundles; answers of step and run{}; of check{}; of open{}", b.bundles, tally(0), tally(CHECKS), tally(OPENINGS));
     println!("compare: {} programs, {} runs, no difference", programs, b.runs);
 }

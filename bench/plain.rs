@@ -211,6 +211,21 @@ fn rs2(w: u32) -> usize {
     (w >> 7 & 31) as usize
 }
 
+/// Whether settings are inside their limits: the lengths of code, main and local memory are among them.
+pub fn admitted(code: usize, main: usize, local: usize, w: u32, lo: u32, hi: u32, method: Method) -> bool {
+    (4..=65536).contains(&code)
+        && code % 4 == 0
+        && main <= 65536
+        && local <= 65536
+        && w.is_power_of_two()
+        && (4..=512).contains(&w)
+        && lo % 4 == 0
+        && hi % 4 == 0
+        && lo <= hi
+        && hi as usize <= main
+        && (!method.on || ((1..=16).contains(&method.blocks) && (64..=16384).contains(&method.bytes)))
+}
+
 impl Machine {
     /// The fresh state at an entry, or the number of the refusal.
     pub fn open(
@@ -223,18 +238,7 @@ impl Machine {
         method: Method,
         entry: u32,
     ) -> Result<Machine, u32> {
-        let settings = (4..=65536).contains(&code.len())
-            && code.len() % 4 == 0
-            && main.len() <= 65536
-            && local.len() <= 65536
-            && w.is_power_of_two()
-            && (4..=512).contains(&w)
-            && lo % 4 == 0
-            && hi % 4 == 0
-            && lo <= hi
-            && hi as usize <= main.len()
-            && (!method.on || ((1..=16).contains(&method.blocks) && (64..=16384).contains(&method.bytes)));
-        if !settings {
+        if !admitted(code.len(), main.len(), local.len(), w, lo, hi, method) {
             return Err(1);
         }
         if entry % 4 != 0 || entry as usize >= code.len() {

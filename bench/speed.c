@@ -13,13 +13,12 @@
 
 static uint8_t record[8192], out[8192], code[65536], main_memory[65536], local_memory[1024];
 
-static uint8_t *put_word(uint8_t *at, uint32_t w)
+static void put_word(uint8_t *at, uint32_t w)
 {
     at[0] = (uint8_t)(w >> 24);
     at[1] = (uint8_t)(w >> 16);
     at[2] = (uint8_t)(w >> 8);
     at[3] = (uint8_t)w;
-    return at + 4;
 }
 
 static uint32_t word(const uint8_t *at)
@@ -27,21 +26,12 @@ static uint32_t word(const uint8_t *at)
     return (uint32_t)at[0] << 24 | (uint32_t)at[1] << 16 | (uint32_t)at[2] << 8 | at[3];
 }
 
-/* A section of words that are all 0; the count is told. */
-static uint8_t *zeros(uint8_t *at, uint32_t count)
-{
-    at = put_word(at, count);
-    while (count-- > 0)
-        at = put_word(at, 0);
-    return at;
-}
-
 int main(int argc, char **argv)
 {
-    uint32_t budget, words, lo, hi, entry = 0, on = 0, answer = 0, sum = 0, w;
-    size_t code_length = 0, main_length, record_length;
+    uint32_t budget, words, lo, hi, entry = 0, on = 0, answer, sum = 0, w;
+    size_t code_length = 0, main_length;
     double least = 1e9;
-    uint8_t *at = record;
+    const uint8_t *at;
     int times;
     if (argc != 6) {
         fprintf(stderr, "usage: speed WORKLOAD BUDGET MAINLEN W TIMES < WORDS\n");
@@ -55,8 +45,8 @@ int main(int argc, char **argv)
         put_word(code + code_length, w);
         code_length += 4;
     }
-    if (main_length > sizeof main_memory || laqemdit_longest(words) == 0 || code_length == 0 || times < 1) {
-        fprintf(stderr, "speed: no code, too much main memory, no such stack cache, or no times\n");
+    if (main_length > sizeof main_memory || times < 1) {
+        fprintf(stderr, "speed: too much main memory, or no times\n");
         return 2;
     }
     lo = (uint32_t)(main_length / 8 * 4);
@@ -65,30 +55,20 @@ int main(int argc, char **argv)
         entry = 4;
         on = 1;
     }
-    at = put_word(at, 2);
-    at = put_word(at, entry);
-    at = put_word(at, entry);
-    at = zeros(at, 32);
-    at = put_word(at, 1);
-    at = put_word(at, 1);
-    put_word(put_word(at + 4 + 8, hi), hi);
-    put_word(at + 4 + 20, (uint32_t)code_length);
-    at = put_word(at, 8) + 32;
-    at = zeros(at, words);
-    at = zeros(at, 0);
-    at = zeros(at, 0);
-    at = zeros(at, 0);
-    at = zeros(at, 12);
-    at = zeros(at, 0);
-    record_length = (size_t)(at - record);
+    answer = laqemdit_open(code, code_length, main_memory, main_length, local_memory, sizeof local_memory, record, sizeof record, entry,
+        words, lo, hi, on, 4, 96);
+    if (answer != LAQEMDIT_OPENED) {
+        fprintf(stderr, "speed: the opening is refused with %u\n", (unsigned)answer);
+        return 1;
+    }
     for (int i = 0; i < times; i++) {
         clock_t start;
         double took;
         memset(main_memory, 0, sizeof main_memory);
         memset(local_memory, 0, sizeof local_memory);
         start = clock();
-        answer = laqemdit_run(record, record_length, code, code_length, main_memory, main_length, local_memory, sizeof local_memory, out,
-            sizeof out, budget, words, lo, hi, on, 4, 96);
+        answer = laqemdit_run(record, 4 * (65 + (size_t)words), code, code_length, main_memory, main_length, local_memory,
+            sizeof local_memory, out, sizeof out, budget, words, lo, hi, on, 4, 96);
         took = (double)(clock() - start) / CLOCKS_PER_SEC;
         least = took < least ? took : least;
     }

@@ -1,7 +1,7 @@
-/* The C entries of Laqemdit: a stopped box goes on, for one bundle or for a budget, and code is checked.
+/* The C entries of Laqemdit: a fresh box is opened, a stopped box goes on, for one bundle or for a budget, and code is checked.
  *
- * Link with the archive that `rt staticlib entries` makes, target/staticlib/libentries.a, and for the check with that of
- * `rt staticlib check_entry`, target/staticlib/libcheck_entry.a.
+ * Link with the archives that `rt staticlib open_entry`, `rt staticlib entries` and, for the check, `rt staticlib check_entry` make:
+ * libopen_entry.a, libentries.a and libcheck_entry.a in target/staticlib.
  *
  * The contracts of the functions in the archives are proved. This header is not: that it declares what they have, and that a caller
  * keeps what is asked below, is believed.
@@ -25,6 +25,7 @@ extern "C" {
 
 /* Answers. 1 to 20 are refusals, by the numbers of the documents; those that an entry can give stand at the entry. */
 enum {
+    LAQEMDIT_OPENED = 0,   /* open: the fresh box was written */
     LAQEMDIT_DONE = 0,     /* step: the bundle was done */
     LAQEMDIT_ACCEPTED = 0, /* check: the code keeps the marking rules */
     LAQEMDIT_ENDED = 256,  /* the fetch address is the code's length and no transfer waits */
@@ -45,6 +46,22 @@ enum {
 
 /* The bytes of the longest record with a stack cache of so many words, which an `out` must have room for; 0 where no cache has so many. */
 uint32_t laqemdit_longest(uint32_t words);
+
+/* The fresh box at `entry`, written into `out` as a record: fetch address and base are the entry, p0 is true, ss and st are hi, sro is
+ * code_len. All else is 0, the cache words and the counts too; nothing waits, no product is under way, no block is held.
+ *
+ *   answer  meaning                                                out
+ *   0       the box was opened                                     its record, 4 * (65 + words) bytes
+ *   1       settings outside the limits above                      as found
+ *   14      out_len is below laqemdit_longest(words)               as found
+ *   2       `entry` is not a multiple of 4, or not below code_len  as found
+ *
+ * 1 is judged first, then 14, then 2. Past the record `out` keeps its bytes. `code`, `main` and `local` are only lengths here: nothing of them
+ * is read or written. So an entry at a word that is no bundle is opened too; a step there is refused.
+ */
+uint32_t laqemdit_open(const uint8_t *code, size_t code_len, const uint8_t *main, size_t main_len, const uint8_t *local, size_t local_len,
+    uint8_t *out, size_t out_len, uint32_t entry,
+    uint32_t words, uint32_t lo, uint32_t hi, uint32_t on, uint32_t blocks, uint32_t bytes);
 
 /* One bundle (step), or as many as `budget` (run), from the box in `record`, over this code and these memories. The box that is left is
  * written into `out` as a record, with the counts of this call alone: they start at 0, whatever the counts in `record` are.

@@ -2,6 +2,7 @@
 ghost use Prim.Native.Nat.{_≤_};
 ghost use lib.ListN.{length};
 use crate::kept_state::config_of;
+use answers::Verdict;
 use case_file::Reason;
 use case_kept::buffers::Bytes;
 use case_kept::buffers::Cache;
@@ -39,7 +40,6 @@ use case_report::mistake::fail;
 use case_state::listed;
 use settings::Config;
 use state::Opened;
-use state::Opening;
 use state::State;
 use text::fields::next_field;
 use text::page::put;
@@ -81,8 +81,8 @@ pub(crate) fn start_case(
     put_name(&mut *out, line, name)
 }
 
-// The fresh state, judged and built.
-fn fresh(
+// The opening over the parts of what is lent that the case asks for.
+fn open_parts(
     e: Extents,
     config: Config,
     entry: u32,
@@ -97,7 +97,7 @@ fn fresh(
     let m = e.main;
     let l = e.local;
     let w = e.words;
-    State::fresh(
+    State::open(
         &code[0..c],
         &main[0..m],
         &local[0..l],
@@ -135,11 +135,11 @@ fn keep_fresh(kept: &mut Kept, o: Opened) {
 fn keep_opened(o: Opened, kept: &mut Kept, out: &mut Report) -> usize {
     let answer = o.answer;
     match answer {
-        Opening::Refused(n) => {
+        Verdict::Refused(n) => {
             kept[PHASE] = REFUSED;
             say(&mut *out, 0, b"open refused %\n", &[n as u64])
         }
-        Opening::Opened => {
+        Verdict::Fine => {
             keep_fresh(&mut *kept, o);
             0
         }
@@ -159,7 +159,7 @@ fn open(
     let e = extents_of(&*kept);
     let entry = word(&*kept, ENTRY);
     let config = config_of(e, &*kept);
-    let o = fresh(e, config, entry, code, &*main, &*local, &mut *cache);
+    let o = open_parts(e, config, entry, code, &*main, &*local, &mut *cache);
     copy_memory(&mut *main, e.main);
     copy_memory(&mut *local, e.local);
     fill_cache(&mut *cache, e.words);

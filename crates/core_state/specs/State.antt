@@ -181,3 +181,8 @@ ended s codeLength = eqb (s .fetch) codeLength && noneWaits (s .transfer)
 unfoldable pub fresh : ℕ → ℕ → ℕ → State
 fresh codeLength hi entry =
     state (replicate 32 0) (true ∷ predicatesOf 7 0) (specials 0 0 hi hi 0 codeLength 0 0) entry entry transfer.Nothing load.Nothing (further products.Nothing [])
+
+-- The state that is nobody's: all zero, p0 too, so 11 describes it, and no step or run of any code takes it. Where there is no state to hand
+-- back, this one is.
+unfoldable pub blank : State
+blank = state (replicate 32 0) (replicate 8 false) (specials 0 0 0 0 0 0 0 0) 0 0 transfer.Nothing load.Nothing (further products.Nothing [])

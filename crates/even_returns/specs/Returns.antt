@@ -1,26 +1,20 @@
 -- Even pace of what the functions `check` and `run` return, from their contracts; and states of which even pace speaks.
 use Prim.Native.Nat.{ℕ}
-use mathlib.Core.Bool.{Bool, true, false, not, cond, _||_, _&&_}
+use mathlib.Core.Bool.{true}
 use mathlib.Core.Option.{some}
-use mathlib.Core.Path.{_≡_, refl, sym, ap, subst, _∙_}
-use lib.Dec.{leb}
-use lib.ListN.{length, getElem?, replicate}
-use Rattle.word.specs.Word.{isMultipleOf4}
-use Rattle.answers.specs.Answer.{accepted as accepts, refused}
-use Rattle.settings.specs.Settings.{admits}
-use Rattle.settings.specs.Setup.{Setup, Buffers, lent}
-use Rattle.products.specs.Products.{productsOk}
-use Rattle.core_state.specs.State.{State, Shaped, predicatesOf, partsOk, fresh}
+use mathlib.Core.Path.{_≡_, sym, ap, subst, _∙_}
+use lib.ListN.{length, getElem?}
+use Rattle.answers.specs.Answer.{accepted}
+use Rattle.settings.specs.Setup.{Setup, Buffers}
+use Rattle.core_state.specs.State.{Shaped}
 use Rattle.bundle_model.specs.Counts.{noCounts}
 use Rattle.bundle_model.specs.Bundle.{Outcome, wellFormed}
-use Rattle.method_cache.specs.MethodCache.{bytesHeld, heldGood, heldOk}
-use borrow.Author.Tests.{le-leb}
-use native.Mathlib.Omega.{arith}
 use Rattle.run_model.specs.Run.{run, Tried, tries}
 use Rattle.run_model.specs.RunLaws.{run-shaped, run-well-formed}
 use Rattle.state.specs.declared.State as struct
 use Rattle.state.specs.Whole.{stateOf}
-use Rattle.state.specs.Open.{openOf, opening}
+use Rattle.state.specs.Open.{opening}
+use Rattle.state.specs.OpenLaws.{opened-shaped, opened-well-formed}
 use Rattle.run.specs.declared.Ran.{Ran}
 use Rattle.run.specs.Ran.{whole}
 use Rattle.marking.specs.declared.Marking.{Marking}
@@ -50,40 +44,10 @@ even-returns x budget m q₁ q₂ b₁ b₂ v r₁ r₂ after₁ after₂ c e p�
     (subst (λ (o : Outcome). SameOutcome m x (run x budget (stateOf q₁) b₁) o) (sym (p₂ .outcome))
     (even-runs x budget m (stateOf q₁) (stateOf q₂) b₁ b₂ (sym c ∙ ap returned e) (p₁ .shaped) (p₂ .shaped) w₁ w₂ a n₁ n₂))
 
--- A fresh state has the shape and is well formed, and so has and is what any run of it leaves.
-pub fresh-shaped : (n hi entry : ℕ) → Shaped (fresh n hi entry)
-unfolding fresh predicatesOf
-fresh-shaped n hi entry = record { registers = refl; predicates = refl }
+-- What any run leaves of a state that was opened has the shape and is well formed.
+module _ (x : Setup) (b : Buffers) (entry k : ℕ) (c : Buffers) where
+  pub ran-shaped : Shaped (run x k (opening x b entry .state) c .state)
+  ran-shaped = run-shaped x k (opening x b entry .state) c (opened-shaped x b entry)
 
-pub fresh-well-formed : (x : Setup) (n hi entry : ℕ) → wellFormed x (fresh n hi entry) ≡ true
-unfolding fresh wellFormed partsOk productsOk heldOk heldGood bytesHeld
-fresh-well-formed x n hi entry = go (x .method .on)
-  where
-    go : (t : Bool) → cond t (leb 0 (x .method .blocks) && leb 0 (x .method .bytes)) true ≡ true
-    go true = rw (le-leb 0 (x .method .blocks) (omega arith), le-leb 0 (x .method .bytes) (omega arith)) refl
-    go false = refl
-
--- Whatever is handed to the opening, the state that it hands back is so.
-module _ (x : Setup) (b : Buffers) (entry : ℕ) where
-  opening-state : (P : State → Type 0) → ((n hi e : ℕ) → P (fresh n hi e)) → P (opening x b entry .state)
-  unfolding opening
-  opening-state P h = go (admits (lent x b)) (not (isMultipleOf4 entry) || leb (length (x .code)) entry)
-    where
-      go : (t u : Bool) → P (cond (not t) (openOf (refused 1) (fresh 0 0 0) (b .cache)) (cond u (openOf (refused 2) (fresh 0 0 0) (b .cache))
-          (openOf accepts (fresh (length (x .code)) (x .hi) entry) (replicate (length (b .cache)) 0))) .state)
-      go false u = h 0 0 0
-      go true true = h 0 0 0
-      go true false = h (length (x .code)) (x .hi) entry
-
-  pub opened-shaped : Shaped (opening x b entry .state)
-  opened-shaped = opening-state Shaped fresh-shaped
-
-  pub opened-well-formed : wellFormed x (opening x b entry .state) ≡ true
-  opened-well-formed = opening-state (λ s. wellFormed x s ≡ true) (fresh-well-formed x)
-
-  -- And so is what a run of it leaves.
-  pub ran-shaped : (k : ℕ) (c : Buffers) → Shaped (run x k (opening x b entry .state) c .state)
-  ran-shaped k c = run-shaped x k (opening x b entry .state) c opened-shaped
-
-  pub ran-well-formed : (k : ℕ) (c : Buffers) → wellFormed x (run x k (opening x b entry .state) c .state) ≡ true
-  ran-well-formed k c = run-well-formed x k (opening x b entry .state) c opened-well-formed
+  pub ran-well-formed : opening x b entry .answer ≡ accepted → wellFormed x (run x k (opening x b entry .state) c .state) ≡ true
+  ran-well-formed e = run-well-formed x k (opening x b entry .state) c (opened-well-formed x b entry e)

@@ -3,7 +3,7 @@ use Prim.Native.Nat.{ℕ}
 use mathlib.Core.Bool.{Bool, true, false, cond}
 use mathlib.Core.List.{List}
 use lib.ListN.{length}
-use Rattle.core_state.specs.State.{fresh}
+use Rattle.core_state.specs.State.{blank}
 use Rattle.bundle_model.specs.Counts.{noCounts}
 use Rattle.state.specs.Whole.{stateOf}
 use Rattle.record_model.specs.Record.{Box, box, hasForm, readRecord}
@@ -21,7 +21,7 @@ readingOf formed box = record { formed = formed; box = box }
 abbrev pub readWith : Read → List ℕ → Reading
 readWith r cache = readingOf (r .formed) (box (stateOf (r .state)) cache (r .counts))
 
--- W is the number of cache words lent. Of bytes without the form nothing is read: the cache words stay, and the state is that of entry 0 to no
--- code.
+-- W is the number of cache words lent. Of bytes without the form nothing is read: the cache words stay, and the state is one that no run
+-- takes.
 unfoldable pub reading : List ℕ → List ℕ → Reading
-reading bytes cache = cond (hasForm (length cache) bytes) (readingOf true (readRecord bytes)) (readingOf false (box (fresh 0 0 0) cache noCounts))
+reading bytes cache = cond (hasForm (length cache) bytes) (readingOf true (readRecord bytes)) (readingOf false (box blank cache noCounts))

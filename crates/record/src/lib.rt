@@ -7,8 +7,8 @@ pub mod writing;
 use bundle_model::Counts;
 use state::State;
 
-// What is read of bytes: whether they have the form of a record, and the state and the counts of that record; of others the state is that of
-// entry 0 to no code, and the counts are 0. The cache words go to a lent buffer.
+// What is read of bytes: whether they have the form of a record, and the state and the counts of that record; of others the state is the
+// blank one, which no step or run takes, and the counts are 0. The cache words go to a lent buffer.
 pub struct Read {
     pub formed: bool,
     pub state: State,

@@ -5,16 +5,11 @@ ghost use lib.ListN.{length};
 ghost use Rattle.sections.specs.Words.{wordsIn, over};
 ghost use Rattle.sections.specs.Sections.{sectionAt};
 ghost use Rattle.method_cache.specs.Words.{heldWords, FixedHeld};
-ghost use Rattle.core_state.specs.State.{fresh};
 ghost use Rattle.state.specs.Whole.{stateOf};
 ghost use Rattle.record_model.specs.Record.{boxIn};
 ghost use Rattle.record.specs.Read.{readWith, reading};
 use crate::Read;
-use alu_effects::Specials;
 use bundle_model::outcome::no_counts;
-use core_state::WaitingLoad;
-use core_state::WaitingTransfer;
-use products::Products;
 use record_parts::form::has_form;
 use record_parts::reading::counts_in;
 use record_parts::reading::load_in;
@@ -78,32 +73,6 @@ fn state_in(bytes: &[u8]) -> State
     }
 }
 
-// The state of entry 0 to no code.
-fn no_state() -> State
-    ensures { λ r. ⌜ (stateOf r ≡ fresh 0 0 0) × FixedHeld (r .held) ⌝ }
-{
-    State {
-        registers: [0; 32],
-        predicates: predicates_in(1),
-        specials: Specials {
-            sl: 0,
-            sh: 0,
-            ss: 0,
-            st: 0,
-            srb: 0,
-            sro: 0,
-            sxb: 0,
-            sxo: 0,
-        },
-        fetch: 0,
-        base: 0,
-        transfer: WaitingTransfer::Nothing,
-        load: WaitingLoad::Nothing,
-        products: Products::Nothing,
-        held: [0; 17],
-    }
-}
-
 // What bytes say as a record with as many cache words as are lent. They are only told apart by their form here: code and settings, over which
 // 11 is judged, are not at hand.
 pub fn read_record(bytes: &[u8], cache: &mut [u32]) -> Read
@@ -113,7 +82,7 @@ pub fn read_record(bytes: &[u8], cache: &mut [u32]) -> Read
     if !has_form(bytes, cache.len()) {
         return Read {
             formed: false,
-            state: no_state(),
+            state: State::blank(),
             counts: no_counts(),
         };
     }

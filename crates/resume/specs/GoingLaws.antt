@@ -14,7 +14,7 @@ use Rattle.settings.specs.Settings.{admits}
 use Rattle.settings.specs.SettingsLaws.{size-ok}
 use Rattle.settings.specs.declared.Config.{Config}
 use Rattle.settings.specs.Setup.{Setup, buffers, setup, setupOf, settings}
-use Rattle.core_state.specs.State.{State, fresh, ended as hasEnded}
+use Rattle.core_state.specs.State.{State, blank, ended as hasEnded}
 use Rattle.bundle_model.specs.declared.Readiness.{Readiness}
 use Rattle.bundle_model.specs.declared.Readiness.the-variants as ready
 use Rattle.bundle_model.specs.Bundle.{Outcome, wellFormed, readiness}
@@ -83,7 +83,7 @@ pub read-refused : (bytes cache : List ℕ) (r : Reading) → r ≡ reading byte
 unfolding reading
 read-refused bytes cache r e f = go (hasForm (length cache) bytes) (sym (ap (λ (y : Reading). y .formed) e) ∙ f)
   where
-    go : (t : Bool) → cond t (readingOf true (readRecord bytes)) (readingOf false (box (fresh 0 0 0) cache noCounts)) .formed ≡ false → t ≡ false
+    go : (t : Bool) → cond t (readingOf true (readRecord bytes)) (readingOf false (box blank cache noCounts)) .formed ≡ false → t ≡ false
     go true h = h
     go false h = refl
 
@@ -91,8 +91,8 @@ pub read-formed : (bytes cache : List ℕ) (r : Reading) → r ≡ reading bytes
 unfolding reading
 read-formed bytes cache r e f = go (hasForm (length cache) bytes) e (sym (ap (λ (y : Reading). y .formed) e) ∙ f)
   where
-    go : (t : Bool) → r ≡ cond t (readingOf true (readRecord bytes)) (readingOf false (box (fresh 0 0 0) cache noCounts))
-        → cond t (readingOf true (readRecord bytes)) (readingOf false (box (fresh 0 0 0) cache noCounts)) .formed ≡ true
+    go : (t : Bool) → r ≡ cond t (readingOf true (readRecord bytes)) (readingOf false (box blank cache noCounts))
+        → cond t (readingOf true (readRecord bytes)) (readingOf false (box blank cache noCounts)) .formed ≡ true
         → (t ≡ true) × (r .box ≡ readRecord bytes)
     go true h g = (refl, ap (λ (y : Reading). y .box) h)
     go false h g = absurd (false≢true g)

@@ -1,6 +1,7 @@
 -- Open first: Run.antt, then Loop.antt.
 pub mod Run
 pub mod RunLaws
+pub mod RefusalLaws
 pub mod SplitLaws
 pub mod TriesLaws
 pub mod Loop

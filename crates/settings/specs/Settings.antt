@@ -1,14 +1,11 @@
 -- "What the core has": the limits of the settings.
 use Prim.Native.Nat.{ℕ}
-use mathlib.Core.Bool.{Bool, cond, _&&_}
+use mathlib.Core.Bool.{Bool, _&&_}
 use lib.Dec.{leb}
 use Rattle.word.specs.Word.{isMultipleOf4}
 use Rattle.stack_cache.specs.Stack.{isCacheSize}
 use Rattle.method_cache.specs.MethodCache.{capacityOk}
 use Rattle.settings.specs.declared.Settings.{Settings}
-use Rattle.settings.specs.declared.Acceptance.{Acceptance}
-use Rattle.settings.specs.declared.Acceptance.the-variants.{Accepted, Refused}
-use Rattle.answers.specs.Answer.{Returned, accepted, refused}
 
 -- The greatest length of code and of each memory.
 abbrev pub greatestLength : ℕ
@@ -28,11 +25,3 @@ admits s =
     ((codeLengthOk (s .code) && (leb (s .main) greatestLength && leb (s .local) greatestLength))
     && (isCacheSize (s .words) && areaOk (s .main) (s .lo) (s .hi)))
     && capacityOk (s .method)
-
--- The answer of accepting settings, and what its cases return.
-unfoldable pub acceptance : Settings → Returned
-acceptance s = cond (admits s) accepted (refused 1)
-
-abbrev pub returned : Acceptance → Returned
-returned Accepted = accepted
-returned (Refused n) = refused n

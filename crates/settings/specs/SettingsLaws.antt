@@ -44,6 +44,12 @@ module _ (g : Settings) (ok : admits g ≡ true) where
       let c = and-left (codeLengthOk (g .code)) (leb (g .main) greatestLength && leb (g .local) greatestLength) lengths-ok in
       leb-true (g .code) 65536 (and-right (leb 4 (g .code)) (leb (g .code) 65536) (and-left (leb 4 (g .code) && leb (g .code) 65536) (isMultipleOf4 (g .code)) c))
 
+  pub main-small : g .main ≤ 65536
+  unfolding lengths
+  main-small =
+      let m = and-right (codeLengthOk (g .code)) (leb (g .main) greatestLength && leb (g .local) greatestLength) lengths-ok in
+      leb-true (g .main) 65536 (and-left (leb (g .main) 65536) (leb (g .local) 65536) m)
+
   pub words-small : g .words ≤ 512
   unfolding isCacheSize
   words-small =

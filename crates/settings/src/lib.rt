@@ -1,7 +1,7 @@
 // What is handed to a run: the numbers beside what is lent, the settings that they make together, and their limits.
 ghost use mathlib.Core.Path.{_≡_};
 ghost use Rattle.stack_cache.specs.Stack.{isCacheSize};
-ghost use Rattle.settings.specs.Settings.{codeLengthOk, areaOk, admits, acceptance, returned};
+ghost use Rattle.settings.specs.Settings.{codeLengthOk, areaOk, admits};
 ghost use Rattle.settings.specs.Setup.{setup, settings};
 use method_cache::Method;
 use stack_cache::Made;
@@ -23,12 +23,6 @@ pub struct Settings {
     pub lo: u32,
     pub hi: u32,
     pub method: Method,
-}
-
-// Settings are accepted, or refused with document 01's number.
-pub enum Acceptance {
-    Accepted,
-    Refused(u32),
 }
 
 fn code_length_ok(n: usize) -> bool
@@ -80,15 +74,5 @@ impl Settings {
         let method = self.method;
         let stack = is_cache_size(self.words) & area_ok(self.main, self.lo, self.hi);
         (lengths & stack) & method.is_ok()
-    }
-
-    // The first of the two operations that make a fresh state.
-    pub fn accept(self) -> Acceptance
-        ensures { λ r. ⌜ returned r ≡ acceptance self ⌝ }
-    {
-        if self.admits() {
-            return Acceptance::Accepted;
-        }
-        Acceptance::Refused(1)
     }
 }

@@ -3,13 +3,13 @@ ghost use Prim.Native.Nat.{_≤_};
 
 mod workload;
 
+use answers::Verdict;
 use libc::STDERR_FILENO;
 use libc::STDOUT_FILENO;
 use method_cache::Method;
 use run::Ran;
 use run::RunAnswer;
 use settings::Config;
-use state::Opening;
 use state::State;
 use text::Number;
 use text::fields::same;
@@ -106,15 +106,15 @@ fn run_workload(
     put_code(&mut *code, words);
     let method = s.method;
     let config = Config { lo, hi, method };
-    let opened = State::fresh(&*code, &*main, &*local, &mut *cache, config, s.entry);
+    let opened = State::open(&*code, &*main, &*local, &mut *cache, config, s.entry);
     let answer = opened.answer;
     let state = opened.state;
     match answer {
-        Opening::Refused(k) => {
+        Verdict::Refused(k) => {
             print_number(b" open refused ", k as u64);
             io::write_all(STDOUT_FILENO, b"\n");
         }
-        Opening::Opened => {
+        Verdict::Fine => {
             let r = run::run(
                 state,
                 &*code,

@@ -3,6 +3,7 @@ pub mod open;
 pub mod whole_state;
 
 use alu_effects::Specials;
+use answers::Verdict;
 use bundle_model::Answer;
 use bundle_model::Counts;
 use core_state::WaitingLoad;
@@ -30,14 +31,8 @@ pub struct Stepped {
     pub counts: Counts,
 }
 
-// A state was built, or the number that the building is refused with.
-pub enum Opening {
-    Opened,
-    Refused(u32),
-}
-
-// The answer beside the state; of a refused opening the state is that of entry 0 to no code.
+// What an opening answers beside the state; of a refused one that is a state that no step or run takes.
 pub struct Opened {
-    pub answer: Opening,
+    pub answer: Verdict,
     pub state: State,
 }

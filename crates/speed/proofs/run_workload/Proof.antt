@@ -11,8 +11,8 @@ mul-hi c = search needs
 put-code-requires : tie.Need-put-code-requires
 put-code-requires c κs = search needs
 
-fresh-requires : tie.Need-fresh-requires
-fresh-requires c κs = search needs
+open-requires : tie.Need-open-requires
+open-requires c κs = search needs
 
 enum-known-answer : tie.Need-enum-known-answer
 enum-known-answer c = search needs
@@ -78,7 +78,7 @@ run-workload-spec =
     mul-lo
     mul-hi
     put-code-requires
-    fresh-requires
+    open-requires
     enum-known-answer
     slice-aggregate-print-number
     cast-print-number

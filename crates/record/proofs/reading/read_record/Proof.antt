@@ -16,7 +16,7 @@ use Rattle.record.proofs.reading.read_record.Reads as reads
 use Rattle.record.proofs.reading.read_record.Lts as lts
 use Rattle.bundle_model.proofs.outcome.no_counts.Reads as no-counts-reads
 use Rattle.record.proofs.reading.copy_words.Reads as copy-words-reads
-use Rattle.record.proofs.reading.no_state.Reads as no-state-reads
+use Rattle.state.proofs.State.blank.Reads as blank-reads
 use Rattle.record.proofs.reading.state_in.Reads as state-in-reads
 use Rattle.record_parts.proofs.form.has_form.Reads as has-form-reads
 use Rattle.record_parts.proofs.reading.counts_in.Reads as counts-in-reads
@@ -27,8 +27,8 @@ has-form-requires : tie.Need-has-form-requires
 has-form-requires c κs = search needs
 
 -- src/reading.rt:116:20
-no-state-requires : tie.Need-no-state-requires
-no-state-requires c κs = search needs
+blank-requires : tie.Need-blank-requires
+blank-requires c κs = search needs
 
 -- src/reading.rt:117:21
 no-counts-requires : tie.Need-no-counts-requires
@@ -40,7 +40,7 @@ unfolding reading
 returns c =
     let a = c .before .before .before .before .before .before .args in
     let none = sym (c .before .before .before .has-form .ensures) ∙ not-true _ (c .before .before .if1 .taken) in
-    (rw none (λ i. readingOf false (box (c .before .no-state .ensures .0 i) (now (a .cache)) (c .no-counts .ensures i))), c .before .no-state .ensures .1)
+    (rw none (λ i. readingOf false (box (c .before .blank .ensures .0 i) (now (a .cache)) (c .no-counts .ensures i))), c .before .blank .ensures .1)
 
 -- src/reading.rt:120:16
 section-at-requires : tie.Need-section-at-requires
@@ -90,7 +90,7 @@ read-record-spec =
     tie.close
     (tie.spec
     has-form-requires
-    no-state-requires
+    blank-requires
     no-counts-requires
     returns
     section-at-requires

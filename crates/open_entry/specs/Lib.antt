@@ -1,0 +1,3 @@
+-- Open first: OpenEntry.antt.
+pub mod OpenEntry
+pub mod OpenLaws
