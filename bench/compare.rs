@@ -1,6 +1,6 @@
 //! Compares the C entries with a second opinion, on random boxes: the plain interpreter for what is opened and what bundles do, record.rs for
 //! records, marks.rs for the check. Whole answers are compared: the number, both memories, and every byte of the output.
-//! Build: rustc --edition 2021 -O compare.rs -L DIRECTORY -l static=entries -l static=check_entry
+//! Build: rustc --edition 2021 -O compare.rs -L DIRECTORY -l static=entries -l static=open_entry -l static=check_entry
 //! Use: compare [PROGRAMS [SEED [FIRST]]]
 //! PROGRAMS random programs from number FIRST on, each with its boxes, damaged records and markings; the same arguments try the same ones.
 //! The last line is 'compare: N programs, M runs, no difference'. At the first difference it prints a case file that shows it, for the

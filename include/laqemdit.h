@@ -56,8 +56,9 @@ uint32_t laqemdit_longest(uint32_t words);
  *   14      out_len is below laqemdit_longest(words)               as found
  *   2       `entry` is not a multiple of 4, or not below code_len  as found
  *
- * 1 is judged first, then 14, then 2. Past the record `out` keeps its bytes. `code`, `main` and `local` are only lengths here: nothing of them
- * is read or written. So an entry at a word that is no bundle is opened too; a step there is refused.
+ * 1 is judged first, then 14, then 2. Past the record `out` keeps its bytes. Of `code`, `main` and `local` only the lengths
+ * matter, and they are not written: an entry whose word does not decode is opened too, and a step there is refused. A refused call leaves an
+ * older record in `out` as it was: look at the answer.
  */
 uint32_t laqemdit_open(const uint8_t *code, size_t code_len, const uint8_t *main, size_t main_len, const uint8_t *local, size_t local_len,
     uint8_t *out, size_t out_len, uint32_t entry,

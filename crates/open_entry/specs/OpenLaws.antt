@@ -1,6 +1,6 @@
 -- A box that was opened for C goes on: a step or a run from the record that was written does what it does from the opened state.
 use Prim.Native.Nat.{ℕ, zero, suc, _-_, _<_, _≤_, _^_}
-use mathlib.Core.Bool.{Bool, true, false, false≢true, not, cond, _&&_}
+use mathlib.Core.Bool.{Bool, true, false, false≢true, not, cond}
 use mathlib.Core.List.{List, [], _∷_, _++_}
 use mathlib.Core.Path.{_≡_, refl, sym, ap, subst, _∙_}
 use native.Mathlib.Omega.{arith}
@@ -11,9 +11,8 @@ use lib.Seq.{take-append-seam}
 use Rattle.stack_cache.specs.Stack.{isCacheSize}
 use Rattle.word.specs.Word.{isMultipleOf4}
 use Rattle.word.specs.BoolLaws.{and-right}
-use Rattle.answers.specs.declared.Verdict.{Verdict}
 use Rattle.answers.specs.declared.Verdict.the-variants.{Fine, Refused}
-use Rattle.answers.specs.Answer.{Returned, accepted, refused}
+use Rattle.answers.specs.Answer.{accepted, refused}
 use Rattle.sections.specs.Words.{AreWords, over}
 use Rattle.sections.specs.Sections.{joined}
 use Rattle.settings.specs.Settings.{admits}
@@ -27,7 +26,7 @@ use Rattle.state.specs.declared.Opened.{Opened}
 use Rattle.state.specs.Whole.{stateOf}
 use Rattle.state.specs.Open.{Open, openOf, openWith, returned, entryOk, opening}
 use Rattle.state.specs.OpenLaws.{fresh-shaped, fresh-well-formed}
-use Rattle.record_model.specs.Record.{Box, box, recordSections, recordOf, transferSection, loadSection, productSection, countSection, upper, lower, longest, InWords}
+use Rattle.record_model.specs.Record.{Box, box, recordSections, recordOf, transferSection, loadSection, productSection, countSection, longest, InWords}
 use Rattle.record.specs.Written.{Written, writtenOf, writing}
 use Rattle.resume_model.specs.Resume.{Resumed, asFound, handedOut, fromRecord}
 use Rattle.resume_model.specs.ResumeLaws.{from-box}
@@ -81,36 +80,37 @@ module _ (x : Setup) (w entry : ℕ) (main local : List ℕ) where
       (section-words (replicate 12 0) (rest 9) (omega arith) (zero-words 12)
       (section-words [] [] (omega arith) none-words none-words)))))))))
 
-  -- What is written of a box that was opened; and what goes on from it, a step or a run, with any output that has room.
+  -- What is written of a box that was opened; and what goes on from it, a step or a run, under the same settings and with any output that has
+  -- room. Code and memories may have been filled since.
   abbrev judged : List ℕ → Bool → Bool → Bool → Resumed
   judged out t u v =
       cond (not t) (asFound 1 main local out)
       (cond u (asFound 14 main local out)
       (cond (not v) (asFound 2 main local out) (handedOut (outcome accepted freshState noCounts (buffers main local (replicate w 0))) out)))
 
-  pub opened-goes-on : (go : State → Buffers → Outcome) (out next : List ℕ) → openedRecord x w entry main local out .answer ≡ accepted → longest w ≤ length next
+  pub opened-goes-on : (go : State → Buffers → Outcome) (y : Setup) (main′ local′ out next : List ℕ) → openedRecord x w entry main local out .answer ≡ accepted
+      → settings y (length main′) (length local′) w ≡ settings x (length main) (length local) w → longest w ≤ length next
       → let r = openedRecord x w entry main local out in
-      fromRecord go x w (take (r .written) (r .out)) main local next ≡ handedOut (go freshState (buffers main local (replicate w 0))) next
+      fromRecord go y w (take (r .written) (r .out)) main′ local′ next ≡ handedOut (go freshState (buffers main′ local′ (replicate w 0))) next
   unfolding openedRecord
-  opened-goes-on go out next e room =
+  opened-goes-on go y main′ local′ out next e same room =
       by (admits (settings x (length main) (length local) w)) (ltb (length out) (longest w)) (entryOk (length (x .code)) entry) refl refl e
     where
       by : (t u v : Bool) → admits (settings x (length main) (length local) w) ≡ t → entryOk (length (x .code)) entry ≡ v → judged out t u v .answer ≡ accepted
-          → fromRecord go x w (take (judged out t u v .written) (judged out t u v .out)) main local next ≡ handedOut (go freshState (buffers main local (replicate w 0))) next
+          → fromRecord go y w (take (judged out t u v .written) (judged out t u v .out)) main′ local′ next ≡ handedOut (go freshState (buffers main′ local′ (replicate w 0))) next
       by false u v p q f = absurd (false≢true cc)
       by true true v p q f = absurd (false≢true cc)
       by true false false p q f = absurd (false≢true cc)
       by true false true p q f =
           let g = settings x (length main) (length local) w in
           let long : length (replicate {A = ℕ} w 0) ≡ w = length-replicate w 0 in
-          let small = words-small g p in
           let code = code-small g p in
           let inside = ltb-true entry (length (x .code)) (and-right (isMultipleOf4 entry) (ltb entry (length (x .code))) q) in
-          let words = fresh-words small code (omega (arith, area-inside g p, main-small g p)) (omega (arith, inside, code)) in
-          ap (λ (l : List ℕ). fromRecord go x w l main local next) (take-append-seam (recordOf freshBox) (drop (length (recordOf freshBox)) out))
-          ∙ ap (λ (k : ℕ). fromRecord go x k (recordOf freshBox) main local next) (sym long)
-          ∙ from-box go x freshBox main local next words (fresh-shaped (length (x .code)) (x .hi) entry) (fresh-well-formed x (length (x .code)) (x .hi) entry)
-          (subst (λ (k : ℕ). admits (settings x (length main) (length local) k) ≡ true) (sym long) p) (subst (λ (k : ℕ). longest k ≤ length next) (sym long) room)
+          let words = fresh-words (words-small g p) code (omega (arith, area-inside g p, main-small g p)) (omega (arith, inside, code)) in
+          ap (λ (l : List ℕ). fromRecord go y w l main′ local′ next) (take-append-seam (recordOf freshBox) (drop (length (recordOf freshBox)) out))
+          ∙ ap (λ (k : ℕ). fromRecord go y k (recordOf freshBox) main′ local′ next) (sym long)
+          ∙ from-box go y freshBox main′ local′ next words (fresh-shaped (length (x .code)) (x .hi) entry) (fresh-well-formed y (length (x .code)) (x .hi) entry)
+          (subst (λ (k : ℕ). admits (settings y (length main′) (length local′) k) ≡ true) (sym long) (ap admits same ∙ p)) (subst (λ (k : ℕ). longest k ≤ length next) (sym long) room)
 
 -- What the function for C finds out on its way: settings that are refused, no room, and what the opening over c, with W words, left as l.
 module _ (x : Setup) (w entry : ℕ) (main local out : List ℕ) where

@@ -1,4 +1,4 @@
-// The opening for C, in a library of its own: beside a second caller of what writes a record the bundles of a run get slower.
+// The opening for C, in a library of its own: in the run's archive `write_record` would have two callers, and bundles get slower.
 // Numbers and byte slices in, a number out; include/laqemdit.h declares it, docs/C.md tells how it is used.
 // Open first: OpenEntry.antt.
 ghost use mathlib.Core.Path.{_≡_};
@@ -12,7 +12,7 @@ use record::writing::longest;
 use record::writing::write_record;
 use state::State;
 
-// The fresh state goes out as its record. Of the memories only the lengths count.
+// The fresh state goes out as its record. Of code and memories only the lengths count.
 #[no_mangle]
 pub extern "C" fn laqemdit_open(
     code: &[u8],

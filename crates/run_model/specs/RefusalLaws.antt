@@ -2,12 +2,11 @@
 use Prim.Native.Nat.{ℕ, zero, suc}
 use mathlib.Core.Bool.{Bool, true, false, false≢true, not, cond, _&&_, _||_}
 use mathlib.Core.List.{List, [], _∷_, _++_}
-use mathlib.Core.Path.{_≡_, refl, sym, ap, subst, _∙_}
+use mathlib.Core.Path.{_≡_, refl, ap, subst, _∙_}
 use lib.Dec.{eqb}
 use Rattle.word.specs.BoolLaws.{and-left, and-right}
 use Rattle.answers.specs.Answer.{Returned, accepted, done, ended, spent, refused}
 use Rattle.answers.specs.Test.{Test, verdict}
-use Rattle.answers.specs.declared.Verdict.{Verdict}
 use Rattle.answers.specs.declared.Verdict.the-variants as verdict
 use Rattle.method_cache.specs.declared.Method.{Method}
 use Rattle.settings.specs.declared.Settings.{Settings}
@@ -22,8 +21,8 @@ use Rattle.bundle_model.specs.declared.Readiness.the-variants as ready
 use Rattle.bundle_model.specs.Counts.{noCounts}
 use Rattle.bundle_model.specs.Lookup.{lookups, lookupTests}
 use Rattle.bundle_model.specs.Refusal.{effectTests, slotTests, bundleTests}
-use Rattle.bundle_model.specs.Bundle.{Outcome, outcome, counted, bundle, wellFormed, readiness, readyOr, step}
-use Rattle.step_laws.specs.StepCases.{effectAt, judged, bundle-cases}
+use Rattle.bundle_model.specs.Bundle.{outcome, counted, bundle, wellFormed, readiness, readyOr, step}
+use Rattle.step_laws.specs.StepCases.{effectAt, bundle-cases}
 use Rattle.step_laws.specs.StackKept.{lent-same, step-lengths}
 use Rattle.step_laws.specs.WellLaws.{step-well-formed}
 use Rattle.run_model.specs.Run.{ifDone, run}
@@ -120,7 +119,7 @@ module _ (x : Setup) where
       go spent f h rest = step-number s b n a w h
       go (refused m) f h rest = step-number s b n a w h
 
-  -- A state that 11 describes is refused by every run, with 1 or 11, and all stays as found.
+  -- A state that 11 describes is refused by every step and run, with 1 or 11, and all stays as found.
   unready : (s : State) (g : Settings) → wellFormed x s ≡ false → readiness g x s ≡ ready.Refused (cond (admits g) 11 1)
   unfolding readiness
   unready s g w = rw w (go (admits g))
@@ -128,6 +127,10 @@ module _ (x : Setup) where
       go : (t : Bool) → cond (not t) (ready.Refused 1) (ready.Refused 11) ≡ ready.Refused (cond t 11 1)
       go true = refl
       go false = refl
+
+  pub step-refuses : (s : State) (b : Buffers) → wellFormed x s ≡ false → step x s b ≡ outcome (refused (cond (admits (lent x b)) 11 1)) s noCounts b
+  unfolding step
+  step-refuses s b w = rw (unready s (lent x b) w)
 
   pub run-refuses : (k : ℕ) (s : State) (b : Buffers) → wellFormed x s ≡ false → run x k s b ≡ outcome (refused (cond (admits (lent x b)) 11 1)) s noCounts b
   unfolding run step

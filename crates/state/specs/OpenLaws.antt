@@ -1,7 +1,7 @@
--- What an opening hands back: a state that every run takes, or, refused, one that no run takes.
+-- What an opening hands back: a state that 1 and 11 let pass, or, refused, one that every step and run refuses.
 use Prim.Native.Nat.{ℕ}
 use mathlib.Core.Bool.{Bool, true, false, false≢true, not, cond, _&&_}
-use mathlib.Core.Path.{_≡_, refl, sym, ap, _∙_}
+use mathlib.Core.Path.{_≡_, refl, ap, _∙_}
 use native.Mathlib.Omega.{arith}
 use borrow.Author.Tests.{le-leb}
 use lib.Dec.{leb}
@@ -11,11 +11,11 @@ use Rattle.method_cache.specs.MethodCache.{bytesHeld, heldGood, heldOk}
 use Rattle.settings.specs.Settings.{admits}
 use Rattle.settings.specs.Setup.{Setup, Buffers, lent}
 use Rattle.products.specs.Products.{productsOk}
-use Rattle.core_state.specs.State.{State, Shaped, predicatesOf, partsOk, fresh, blank}
+use Rattle.core_state.specs.State.{Shaped, predicatesOf, partsOk, fresh, blank}
 use Rattle.bundle_model.specs.Counts.{noCounts}
-use Rattle.bundle_model.specs.Bundle.{outcome, wellFormed}
+use Rattle.bundle_model.specs.Bundle.{Outcome, outcome, wellFormed, step}
 use Rattle.run_model.specs.Run.{run}
-use Rattle.run_model.specs.RefusalLaws.{among, bundleNumbers, run-number, run-refuses}
+use Rattle.run_model.specs.RefusalLaws.{among, bundleNumbers, run-number, step-refuses, run-refuses}
 use Rattle.state.specs.Open.{Open, openOf, entryOk, opening}
 
 -- The fresh state and the blank one have their 32 registers and 8 predicates; 11 lets the fresh one pass, and never the blank one.
@@ -38,6 +38,14 @@ fresh-well-formed x n hi entry = go (x .method .on)
 blank-ill-formed : (x : Setup) → wellFormed x blank ≡ false
 unfolding blank wellFormed partsOk
 blank-ill-formed x = refl
+
+-- Every step and run of the blank state, of any code under any settings, is refused with 1 or 11, and all stays as found.
+module _ (x : Setup) (b : Buffers) where
+  abbrev turnedAway : Outcome
+  turnedAway = outcome (refused (cond (admits (lent x b)) 11 1)) blank noCounts b
+
+  pub blank-refused : (step x blank b ≡ turnedAway) × ((k : ℕ) → run x k blank b ≡ turnedAway)
+  blank-refused = (step-refuses x blank b (blank-ill-formed x), λ k. run-refuses x k blank b (blank-ill-formed x))
 
 module _ (x : Setup) (b : Buffers) (entry : ℕ) where
   -- Accepted: 1 and 2 let settings and entry pass, and the fresh state was built.
@@ -74,7 +82,8 @@ module _ (x : Setup) (b : Buffers) (entry : ℕ) where
       go true false p q e = absurd (false≢true cc)
       go false u p q e = absurd (false≢true cc)
 
-  unopened : (n : ℕ) → opening x b entry .answer ≡ refused n → opening x b entry .state ≡ blank
+  -- Refused: what is handed back is the blank state.
+  pub unopened : (n : ℕ) → opening x b entry .answer ≡ refused n → opening x b entry .state ≡ blank
   unfolding opening
   unopened n = go (admits (lent x b)) (entryOk (length (x .code)) entry)
     where
@@ -96,12 +105,10 @@ module _ (x : Setup) (b : Buffers) (entry : ℕ) where
       go true false = blank-shaped
       go false u = blank-shaped
 
-  -- Under the settings of the opening every run from the state that was built is refused by a bundle or not at all: never with 1 or 11.
-  pub opened-runs : (k n : ℕ) (c : Buffers) → opening x b entry .answer ≡ accepted → lent x c ≡ lent x b → run x k (opening x b entry .state) c .answer ≡ refused n
+  -- Under the settings of the opening a run from the state that was built, also of code and memories that were filled later, is refused by a
+  -- bundle or not at all: never with 1 or 11.
+  pub opened-runs : (y : Setup) (c : Buffers) (k n : ℕ) → opening x b entry .answer ≡ accepted → lent y c ≡ lent x b → run y k (opening x b entry .state) c .answer ≡ refused n
       → among bundleNumbers n ≡ true
-  opened-runs k n c e same = run-number x k (opening x b entry .state) c n (ap admits same ∙ opened e .admitted) (opened-well-formed e)
-
-  -- A state that was not built is refused by every run of any code under any settings, with 1 or 11, and all stays as found.
-  pub unopened-refused : (k n : ℕ) (y : Setup) (c : Buffers) → opening x b entry .answer ≡ refused n
-      → run y k (opening x b entry .state) c ≡ outcome (refused (cond (admits (lent y c)) 11 1)) (opening x b entry .state) noCounts c
-  unopened-refused k n y c e = run-refuses y k (opening x b entry .state) c (ap (wellFormed y) (unopened n e) ∙ blank-ill-formed y)
+  opened-runs y c k n e same =
+      let well : wellFormed y (opening x b entry .state) ≡ true = ap (λ (o : Open). wellFormed y (o .state)) (opened e .built) ∙ fresh-well-formed y (length (x .code)) (x .hi) entry in
+      run-number y k (opening x b entry .state) c n (ap admits same ∙ opened e .admitted) well
