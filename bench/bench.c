@@ -1,5 +1,5 @@
-/* A bench program in C: opens a box, steps it, runs it, stops it anywhere and carries it on, hands in damaged records, and checks code; it
- * compares every answer and every byte with what docs/RECORD.md and include/laqemdit.h say.
+/* A bench program in C: opens a box, steps it, runs it, stops it anywhere and carries it on, interrupts it, hands in damaged records, lists and
+ * tables, and checks code; it compares every answer and every byte with what docs/RECORD.md and include/laqemdit.h say.
  * Use: bench. It needs nothing but the C library and the three archives, and prints the same lines every time.
  * The last line is 'bench: all N comparisons hold'; at the first difference it says what differs, and ends with status 1.
  */
@@ -80,6 +80,10 @@ static const struct counts whole = {{58, 70, 6, 6, 6, 74}};
 
 static uint8_t code[LARGE];
 static size_t code_length;
+
+/* The list and the table of the calls: none and no handlers, but where interrupts are tried. */
+static uint8_t list[256], table[256];
+static size_t list_length, table_length = 128;
 static unsigned long compared;
 
 static void differs(const char *format, ...)
@@ -125,7 +129,10 @@ static void load_code(const uint32_t *words, size_t n)
 
 /* ------------------------------------------------------------ records */
 
-/* Where section k of a record begins, its count included; k = 10 is the record's end. Only for records that are whole. */
+/* The sections of a record. */
+enum { SECTIONS = 11 };
+
+/* Where section k of a record begins, its count included; k = 11 is the record's end. Only for records that are whole. */
 static size_t section(const uint8_t *record, int k)
 {
     size_t at = 0;
@@ -134,11 +141,11 @@ static size_t section(const uint8_t *record, int k)
     return at;
 }
 
-/* The length of the record at the beginning of a buffer, or 0 where there are no ten sections in it. */
+/* The length of the record at the beginning of a buffer, or 0 where there are not so many sections in it. */
 static size_t record_length(const uint8_t *buffer, size_t room)
 {
     size_t at = 0;
-    for (int k = 0; k < 10; k++) {
+    for (int k = 0; k < SECTIONS; k++) {
         if (room - at < 4 || (room - at - 4) / 4 < word(buffer + at))
             return 0;
         at += 4 + 4 * (size_t)word(buffer + at);
@@ -183,22 +190,22 @@ static int same_box(const struct box *a, const struct box *b)
 static size_t by_hand(uint8_t *record, uint32_t entry, size_t length, const struct settings *s)
 {
     const uint32_t w = s->words, hi = s->hi;
-    const uint32_t words[12][2] = {{0, 2}, {1, entry}, {2, entry}, {3, 32}, {36, 1}, {37, 1}, {38, 8}, {41, hi}, {42, hi},
-        {44, (uint32_t)length}, {47, w}, {51 + w, 12}};
-    memset(record, 0, 4 * (65 + (size_t)w));
-    for (int i = 0; i < 12; i++)
+    const uint32_t words[13][2] = {{0, 2}, {1, entry}, {2, entry}, {3, 32}, {36, 1}, {37, 1}, {38, 8}, {41, hi}, {42, hi},
+        {44, (uint32_t)length}, {47, w}, {51 + w, 12}, {65 + w, 3}};
+    memset(record, 0, 4 * (69 + (size_t)w));
+    for (int i = 0; i < 13; i++)
         put_word(record + 4 * words[i][0], words[i][1]);
-    return 4 * (65 + (size_t)w);
+    return 4 * (69 + (size_t)w);
 }
 
 /* Whether a record is accepted: a reading of the documents of its own. */
 static int fits(const uint8_t *r, size_t length, const struct settings *s)
 {
-    static const uint32_t fixed[10] = {2, 32, 1, 8, 0, 0, 0, 0, 12, 0};
+    static const uint32_t fixed[SECTIONS] = {2, 32, 1, 8, 0, 0, 0, 0, 12, 0, 3};
     uint64_t held_bytes = 0;
     if (record_length(r, length) != length || length == 0)
         return 0;
-    for (int k = 0; k < 10; k++) {
+    for (int k = 0; k < SECTIONS; k++) {
         const uint8_t *at = r + section(r, k), *in = at + 4;
         uint32_t n = word(at);
         if (fixed[k] != 0 && n != fixed[k])
@@ -212,7 +219,7 @@ static int fits(const uint8_t *r, size_t length, const struct settings *s)
         if (k == 5 && n != 0) {
             if (n != 3 && n != 4)
                 return 0;
-            if (n == 3 ? word(in) > 1 : word(in) != 2)
+            if (n == 3 ? word(in) > 1 : word(in) != 2 && word(in) != 3)
                 return 0;
             if (word(in + 4) < 1 || word(in + 4) > 3)
                 return 0;
@@ -245,6 +252,8 @@ static int fits(const uint8_t *r, size_t length, const struct settings *s)
             if (n > 0 && held_bytes > s->bytes)
                 return 0;
         }
+        if (k == 10 && word(in) > 1)
+            return 0;
     }
     return 1;
 }
@@ -254,7 +263,7 @@ static int fits(const uint8_t *r, size_t length, const struct settings *s)
 enum { STEP = -1 };
 
 /* The buffers of a call stand in here with guards between them, which nothing may touch. */
-static uint8_t arena[4 * LARGE + 2 * ROOM + 8 * GUARD];
+static uint8_t arena[4 * LARGE + 2 * ROOM + 8 * GUARD + sizeof list + sizeof table];
 
 static uint8_t *lend(size_t *at, const uint8_t *from, size_t n)
 {
@@ -280,28 +289,32 @@ static int all(const uint8_t *at, uint8_t value, size_t n)
 static uint32_t call(int64_t budget, const struct box *box, size_t room, const struct settings *s, struct box *after, const char *what)
 {
     size_t at = 0, longest = laqemdit_longest(s->words);
-    uint8_t *record, *code_lent, *main_lent, *local_lent, *out;
+    uint8_t *record, *code_lent, *main_lent, *local_lent, *out, *list_lent, *table_lent;
     uint32_t answer;
-    memset(arena, 0x5A, box->length + code_length + MAIN + LOCAL + room + 6 * GUARD);
+    memset(arena, 0x5A, box->length + code_length + MAIN + LOCAL + room + list_length + table_length + 8 * GUARD);
     record = lend(&at, box->record, box->length);
     code_lent = lend(&at, code, code_length);
     main_lent = lend(&at, box->main, MAIN);
     local_lent = lend(&at, box->local, LOCAL);
     out = lend(&at, NULL, room);
+    list_lent = lend(&at, list, list_length);
+    table_lent = lend(&at, table, table_length);
     if (budget == STEP)
-        answer = laqemdit_step(record, box->length, code_lent, code_length, main_lent, MAIN, local_lent, LOCAL, out, room,
-            s->words, s->lo, s->hi, s->on, s->blocks, s->bytes);
+        answer = laqemdit_step(record, box->length, code_lent, code_length, main_lent, MAIN, local_lent, LOCAL, out, room, list_lent,
+            list_length, table_lent, table_length, s->words, s->lo, s->hi, s->on, s->blocks, s->bytes);
     else
-        answer = laqemdit_run(record, box->length, code_lent, code_length, main_lent, MAIN, local_lent, LOCAL, out, room,
-            (uint32_t)budget, s->words, s->lo, s->hi, s->on, s->blocks, s->bytes);
+        answer = laqemdit_run(record, box->length, code_lent, code_length, main_lent, MAIN, local_lent, LOCAL, out, room, list_lent,
+            list_length, table_lent, table_length, (uint32_t)budget, s->words, s->lo, s->hi, s->on, s->blocks, s->bytes);
     HOLDS(all(record - GUARD, 0x5A, GUARD) && all(code_lent - GUARD, 0x5A, GUARD) && all(main_lent - GUARD, 0x5A, GUARD)
-            && all(local_lent - GUARD, 0x5A, GUARD) && all(out - GUARD, 0x5A, GUARD) && all(out + room, 0x5A, GUARD),
+            && all(local_lent - GUARD, 0x5A, GUARD) && all(out - GUARD, 0x5A, GUARD) && all(out + room, 0x5A, GUARD)
+            && all(table_lent - GUARD, 0x5A, GUARD) && all(table_lent + table_length, 0x5A, GUARD),
         "%s: bytes outside the buffers were touched", what);
-    HOLDS(memcmp(record, box->record, box->length) == 0 && memcmp(code_lent, code, code_length) == 0,
-        "%s: record or code was written to", what);
+    HOLDS(memcmp(record, box->record, box->length) == 0 && memcmp(code_lent, code, code_length) == 0
+            && memcmp(list_lent, list, list_length) == 0 && memcmp(table_lent, table, table_length) == 0,
+        "%s: record, code, list or table was written to", what);
     memcpy(after->main, main_lent, MAIN);
     memcpy(after->local, local_lent, LOCAL);
-    if (answer == 1 || answer == 14) {
+    if (answer == 1 || answer == 14 || answer == 15) {
         HOLDS(all(out, 0xA5, room), "%s: answer %u, and the output was written to", what, (unsigned)answer);
         HOLDS(same_memories(after, box), "%s: answer %u, and a memory was written to", what, (unsigned)answer);
         after->length = 0;
@@ -396,7 +409,7 @@ static void try_longest(void)
 {
     for (uint32_t w = 0; w < 2100; w++) {
         int size = w == 4 || w == 8 || w == 16 || w == 32 || w == 64 || w == 128 || w == 256 || w == 512;
-        HOLDS(laqemdit_longest(w) == (size ? 4 * (93 + w) : 0), "longest %u gives %u", (unsigned)w, (unsigned)laqemdit_longest(w));
+        HOLDS(laqemdit_longest(w) == (size ? 4 * (97 + w) : 0), "longest %u gives %u", (unsigned)w, (unsigned)laqemdit_longest(w));
     }
     HOLDS(laqemdit_longest(0xFFFFFFFF) == 0 && laqemdit_longest(0x80000000) == 0, "longest of a great number");
     printf("longest: 2102 sizes, %u bytes for 4 words and %u for 512\n", (unsigned)laqemdit_longest(4), (unsigned)laqemdit_longest(512));
@@ -470,7 +483,7 @@ static void try_run(void)
     LOAD(program);
     opened(&start, 68, &settings);
     HOLDS(fits(start.record, start.length, &settings), "the record that was opened is none of a well-formed box");
-    HOLDS(start.length == 4 * 69, "a fresh record has %lu bytes", (unsigned long)start.length);
+    HOLDS(start.length == 4 * 73, "a fresh record has %lu bytes", (unsigned long)start.length);
     HOLDS(go(0, &start, &settings, &same, "budget 0") == LAQEMDIT_SPENT, "budget 0 is not spent");
     HOLDS(same_box(&same, &start), "a run of budget 0 does not give back what was opened");
     HOLDS(go(1000, &start, &settings, &end, "the whole run") == LAQEMDIT_ENDED, "the whole run does not end");
@@ -618,7 +631,7 @@ static void try_lengths(void)
         /* a section more, of no words */
         memset(b.record + length, 0, 4);
         b.length = length + 4;
-        HOLDS(!judged(&b, &settings, "an eleventh section"), "an eleventh section is taken");
+        HOLDS(!judged(&b, &settings, "a twelfth section"), "a twelfth section is taken");
     }
     printf("cut short and lengthened: %lu records refused with 14\n", refused);
 }
@@ -630,12 +643,12 @@ static void try_exchanged(void)
     unsigned long refused = 0, same = 0, taken = 0;
     char what[100];
     for (uint32_t m = 0; m <= 58; m++)
-        for (int i = 0; i < 10; i++)
-            for (int j = i + 1; j < 10; j++) {
+        for (int i = 0; i < SECTIONS; i++)
+            for (int j = i + 1; j < SECTIONS; j++) {
                 struct box b;
                 size_t at = 0;
                 b = stops[m];
-                for (int k = 0; k < 10; k++) {
+                for (int k = 0; k < SECTIONS; k++) {
                     int from = k == i ? j : k == j ? i : k;
                     size_t start = section(stops[m].record, from), end = section(stops[m].record, from + 1);
                     memcpy(b.record + at, stops[m].record + start, end - start);
@@ -701,7 +714,7 @@ static void try_sections(void)
     struct box b;
     char what[100];
     LOAD(program);
-    for (int n = 0; n < 10; n++)
+    for (int n = 0; n < SECTIONS; n++)
         for (uint32_t count = 0; count <= 40; count++)
             for (uint32_t fill = 0; fill < 6; fill++) {
                 static const uint32_t fills[5] = {0, 1, 2, 52, 0xFFFFFFFF};
@@ -824,17 +837,19 @@ static void try_places(void)
         HOLDS(go(STEP, &b, &s, &after, "a load") == LAQEMDIT_DONE && parts(&after, 6) == 0 && part(&after, 1, i) == (i == 0 ? 0 : 0xABCD1234),
             "a load to r%u", (unsigned)i);
     }
-    for (uint32_t kind = 0; kind < 3; kind++)
+    for (uint32_t kind = 0; kind < 4; kind++)
         for (uint32_t wait = 1; wait < 4; wait++, tried++) {
+            static const uint32_t active[3] = {1, 7, 9};
             words[0] = kind;
             words[1] = wait;
             words[2] = 0x1110;
             words[3] = 0x2220;
             b = start;
-            replace(&b, 5, words, kind == 2 ? 4 : 3);
+            replace(&b, 5, words, kind >= 2 ? 4 : 3);
+            replace(&b, 10, active, 3);
             HOLDS(go(STEP, &b, &s, &after, "a transfer") == LAQEMDIT_DONE, "a transfer that waits");
             if (wait > 1) {
-                HOLDS(parts(&after, 5) == (kind == 2 ? 4 : 3) && part(&after, 5, 0) == kind && part(&after, 5, 1) == wait - 1
+                HOLDS(parts(&after, 5) == (kind >= 2 ? 4 : 3) && part(&after, 5, 0) == kind && part(&after, 5, 1) == wait - 1
                         && part(&after, 5, 2) == 0x1110 && (kind < 2 || part(&after, 5, 3) == 0x2220) && part(&after, 0, 0) == 4,
                     "a transfer of kind %u that waits on", (unsigned)kind);
                 continue;
@@ -842,6 +857,7 @@ static void try_places(void)
             HOLDS(parts(&after, 5) == 0 && part(&after, 0, 0) == 0x1110, "where a transfer of kind %u goes", (unsigned)kind);
             HOLDS(part(&after, 0, 1) == (kind == 0 ? 0 : kind == 1 ? 0x1110 : 0x2220), "the base after a transfer of kind %u", (unsigned)kind);
             HOLDS(part(&after, 3, 4) == (kind == 1 ? 0 : 0x104) && part(&after, 3, 5) == (kind == 1 ? 4 : 0x105), "srb and sro");
+            HOLDS(part(&after, 10, 0) == (kind < 3) && part(&after, 10, 1) == 7 && part(&after, 10, 2) == 10, "an xret alone ends a handler");
         }
     for (uint32_t n = 1; n < 4; n++, tried++) { /* the one that lands next, the other, both */
         static const uint32_t both[6] = {1, 0x51, 0x52, 2, 0x53, 0x54};
@@ -970,7 +986,7 @@ static void try_refusals(void)
 {
     static const struct {
         uint32_t number, on, words[3];
-    } tries[] = {
+    } tries[] = { /* vector 5 has a handler, at 8; no other has one */
         {2, 0, {0x00020001, 0x00020002, 0x80400000}},  /* a pair whose second word is past the end */
         {3, 0, {0x00020001, 0x00020002, 0x05C00000}},  /* no bundle */
         {4, 0, {0x00020001, 0x04C00001, 0x04C00001}},  /* br in the delay slot of br */
@@ -978,9 +994,12 @@ static void try_refusals(void)
         {6, 0, {0x00020001, 0x02C60080, 0x02820090}},  /* swm r0 0 r1, then lwl r1 r0 16: past local memory */
         {7, 0, {0x00020001, 0x03000002, 0x03000005}},  /* sres 5 with 4 cache words */
         {8, 0, {0x00020001, 0x02C60080, 0x03100001}},  /* sens 1 at the stack area's end */
-        {10, 0, {0x00020001, 0x02C60080, 0x05800001}}, /* trap 1 */
+        {16, 0, {0x00020001, 0x05800005, 0x05800005}}, /* trap 5, and trap 5 in its handler */
+        {17, 0, {0x00020001, 0x02C60080, 0x05800001}}, /* trap 1: no handler */
+        {17, 0, {0x00020001, 0x02C60080, 0x05800025}}, /* trap 37: no vector */
         {13, 1, {0x00020001, 0x02C60080, 0x04000000}}, /* callnd 0: no block has base 0 */
     };
+    put_word(table + 4 * 5, 8);
     for (size_t i = 0; i < sizeof tries / sizeof tries[0]; i++) {
         struct settings s = settings;
         struct box b, two, ran, stepped;
@@ -997,7 +1016,149 @@ static void try_refusals(void)
         HOLDS(all(stepped.record + section(stepped.record, 8) + 4, 0, 48), "a step refused with %u counts", (unsigned)number);
         HOLDS(go(0, &two, &s, &stepped, "budget 0") == LAQEMDIT_SPENT, "spent comes after the refusal %u", (unsigned)number);
     }
-    printf("refusals of a bundle: 2 3 4 5 6 7 8 10 13, each of a run's third bundle and of a step\n");
+    put_word(table + 4 * 5, 0);
+    printf("refusals of a bundle: 2 3 4 5 6 7 8 13 16 17, each of a run's third bundle and of a step\n");
+}
+
+/* A block and two handlers, each behind its size. The mat returns at once, the photo cell late. */
+static const uint32_t interrupted[] = {
+    0x00000024, /*  0  size of the block at 4 */
+    0x00021005, /*  4  addi r1 r1 5 */
+    0x020010A0, /*  8  mul r1 r1 */
+    0x04C00003, /* 12  br 3: to 24 */
+    0x00042003, /* 16  addi r2 r2 3 */
+    0x00021001, /* 20  addi r1 r1 1 */
+    0x05800003, /* 24  trap 3: the mat */
+    0x00021001, /* 28  addi r1 r1 1 */
+    0x0480000B, /* 32  brnd 11: to 76, the end */
+    0x00400000, /* 36  subi r0 r0 0 */
+    0x0000000C, /* 40  size of the block at 44 */
+    0x02460032, /* 44  mfs r3 sl: the mat, vector 3 */
+    0x02084180, /* 48  add r4 r4 r3 */
+    0x06000001, /* 52  xretnd */
+    0x00000010, /* 56  size of the block at 60 */
+    0x06400001, /* 60  xret: the photo cell, vector 9 */
+    0x024A003A, /* 64  mfs r5 sxo */
+    0x020C6280, /* 68  add r6 r6 r5 */
+    0x000E7001, /* 72  addi r7 r7 1 */
+};
+
+/* Worked out by hand. The photo cell is taken at the start (bundles 1 to 4). After six bundles the mat is, at 12 (7 to 9): it reads the old sl,
+ * since the product of bundle 6 lands in bundle 8. The br and its two delay slots (10 to 12) keep the next one out, which is taken at 24, and
+ * then the two that are due by then, all with sxo 20: mat (13 to 15), photo cell (16 to 19 and 20 to 23). The trap is bundle 24, its handler 25
+ * to 27, and 28 and 29 lead to the end. Three xretnd and the trap take 4 cycles, brnd 3. Two blocks are held: looked up are 60 and 4 (both
+ * fetched), 44 (60 goes), 4, 44, 4, 60 (4 goes), 4 (44 goes), 60, 4, 44 (60 goes), 4. */
+enum { INTERRUPTED = 29 };
+static const struct counts interrupted_counts = {{INTERRUPTED, INTERRUPTED + 4 * 3 + 2, 0, 0, 6, 32}};
+
+static void load_interrupts(void)
+{
+    static const uint32_t records[5][2] = {{0, 9}, {6, 3}, {12, 3}, {12, 9}, {13, 9}};
+    for (size_t i = 0; i < 5; i++) {
+        put_word(list + 8 * i, records[i][0]);
+        put_word(list + 8 * i + 4, records[i][1]);
+    }
+    list_length = 8 * 5;
+    table_length = 128;
+    memset(table, 0, sizeof table);
+    put_word(table + 4 * 3, 44);
+    put_word(table + 4 * 9, 60);
+}
+
+/* The whole replay, and the boxes on its way. */
+static void try_replay(void)
+{
+    static const uint32_t registers[8] = {0, 7, 3, 25, 50, 20, 40, 3};
+    struct box now, next, ran;
+    unsigned active = 0, waiting = 0;
+    LOAD(interrupted);
+    load_interrupts();
+    opened(&now, 4, &settings);
+    stops[0] = now;
+    for (uint32_t m = 1; m <= INTERRUPTED; m++) {
+        HOLDS(go(STEP, &now, &settings, &next, "a step of a replay") == LAQEMDIT_DONE, "step %u of the replay", (unsigned)m);
+        HOLDS(go(m, &stops[0], &settings, &ran, "a replay") == (m < INTERRUPTED ? LAQEMDIT_SPENT : LAQEMDIT_ENDED), "a replay of %u bundles", (unsigned)m);
+        HOLDS(same_state(&next, &ran) && same_memories(&next, &ran), "%u steps of a replay are not a run of it", (unsigned)m);
+        HOLDS(part(&ran, 10, 2) == m, "the bundles done after %u", (unsigned)m);
+        active += part(&ran, 10, 0);
+        waiting += parts(&ran, 5) != 0 && part(&ran, 5, 0) == 3;
+        stops[m] = now = ran;
+        stop_counts[m] = counts_of(ran.record);
+    }
+    HOLDS(same_counts(counts_of(now.record), interrupted_counts), "the counts of the replay");
+    for (uint32_t i = 0; i < 8; i++)
+        HOLDS(part(&now, 1, i) == registers[i], "r%u at the replay's end is %08X", (unsigned)i, (unsigned)part(&now, 1, i));
+    HOLDS(part(&now, 0, 0) == 76 && part(&now, 0, 1) == 4 && part(&now, 3, 6) == 4 && part(&now, 3, 7) == 24, "the replay's end");
+    HOLDS(parts(&now, 9) == 2 && part(&now, 9, 0) == 4 && part(&now, 9, 1) == 44, "blocks held at the replay's end");
+    HOLDS(part(&now, 10, 0) == 0 && part(&now, 10, 1) == 5, "handler mark and place at the replay's end");
+    printf("replay: %u bundles, a handler is active after %u of them, an xret waits after %u\n", INTERRUPTED, active, waiting);
+}
+
+/* From every stop of the replay with every rest, over the same list; and over none, where no interrupt is taken. */
+static void try_replay_going_on(void)
+{
+    unsigned pairs = 0;
+    struct box end;
+    for (uint32_t m = 0; m <= INTERRUPTED; m++)
+        for (uint32_t n = 0; m + n <= INTERRUPTED + 2; n++, pairs++) {
+            uint32_t k = m + n < INTERRUPTED ? m + n : INTERRUPTED;
+            uint32_t a = go(n, &stops[m], &settings, &end, "a replay that goes on");
+            HOLDS(a == (k < INTERRUPTED ? LAQEMDIT_SPENT : LAQEMDIT_ENDED), "%u bundles after %u of the replay answer %u", (unsigned)n, (unsigned)m, (unsigned)a);
+            HOLDS(same_state(&end, &stops[k]) && same_memories(&end, &stops[k]), "%u bundles after %u of the replay", (unsigned)n, (unsigned)m);
+            HOLDS(m == 0 || same_counts(sum(stop_counts[m], counts_of(end.record)), stop_counts[k]), "the counts of a replay in parts");
+        }
+    list_length = 0;
+    HOLDS(go(99, &stops[0], &settings, &end, "no interrupts") == LAQEMDIT_ENDED && counts_of(end.record).number[0] == 11, "no interrupts");
+    HOLDS(part(&end, 10, 1) == 0 && part(&end, 10, 2) == 11, "place and bundles done without interrupts");
+    load_interrupts();
+    printf("replay stopped and carried on: %u ways of two parts\n", pairs);
+}
+
+/* Lists and tables that are refused: 15 behind 14, before ended and spent. */
+static void unlisted(const char *what)
+{
+    struct box bad = stops[3], after;
+    bad.length--;
+    HOLDS(go(STEP, &stops[3], &settings, &after, what) == 15, "a step with %s", what);
+    HOLDS(go(0, &stops[3], &settings, &after, what) == 15, "budget 0 with %s", what);
+    HOLDS(go(9, &stops[INTERRUPTED], &settings, &after, what) == 15, "an ended box with %s", what);
+    HOLDS(go(9, &bad, &settings, &after, what) == 14, "a record cut short with %s", what);
+    HOLDS(call(9, &stops[3], laqemdit_longest(settings.words) - 1, &settings, &after, what) == 14, "a short output with %s", what);
+    load_interrupts();
+}
+
+static void try_unlisted(void)
+{
+    unsigned tried = 0;
+    struct box after;
+    for (size_t n = 0; n < 48; n++)
+        if (n % 8 != 0) {
+            list_length = n;
+            unlisted("a list of a wrong length");
+            tried++;
+        }
+    for (size_t n = 0; n <= sizeof table; n++)
+        if (n != 128) {
+            table_length = n;
+            unlisted("a table of a wrong length");
+            tried++;
+        }
+    for (size_t i = 0; i < 5; i++) {
+        static const uint32_t vectors[4] = {32, 33, 256, 0xFFFFFFFF};
+        for (int k = 0; k < 4; k++, tried++) {
+            put_word(list + 8 * i + 4, vectors[k]);
+            unlisted("a vector above 31");
+        }
+        put_word(list + 8 * i, i == 4 ? 11 : 14);
+        unlisted("numbers that fall");
+        tried++;
+        put_word(list + 8 * i + 4, 31);
+        HOLDS(go(0, &stops[3], &settings, &after, "vector 31") == LAQEMDIT_SPENT, "vector 31 is refused");
+        load_interrupts();
+    }
+    printf("lists and tables: %u refused with 15\n", tried);
+    list_length = 0;
+    memset(table, 0, sizeof table);
 }
 
 static void checked(uint32_t w, uint32_t registers, uint32_t predicates, uint32_t others, uint32_t answer, uint32_t rule)
@@ -1078,6 +1239,9 @@ int main(void)
     try_settings();
     try_sizes();
     try_refusals();
+    try_replay();
+    try_replay_going_on();
+    try_unlisted();
     try_check();
     printf("bench: all %lu comparisons hold\n", compared);
     return 0;

@@ -32,9 +32,11 @@ extern "C" {
         words: u32, lo: u32, hi: u32, on: u32, blocks: u32, bytes: u32) -> u32;
     fn laqemdit_step(record: *const u8, record_len: usize, code: *const u8, code_len: usize, main: *mut u8, main_len: usize,
         local: *mut u8, local_len: usize, out: *mut u8, out_len: usize,
+        list: *const u8, list_len: usize, table: *const u8, table_len: usize,
         words: u32, lo: u32, hi: u32, on: u32, blocks: u32, bytes: u32) -> u32;
     fn laqemdit_run(record: *const u8, record_len: usize, code: *const u8, code_len: usize, main: *mut u8, main_len: usize,
-        local: *mut u8, local_len: usize, out: *mut u8, out_len: usize, budget: u32,
+        local: *mut u8, local_len: usize, out: *mut u8, out_len: usize,
+        list: *const u8, list_len: usize, table: *const u8, table_len: usize, budget: u32,
         words: u32, lo: u32, hi: u32, on: u32, blocks: u32, bytes: u32) -> u32;
     fn laqemdit_check(code: *const u8, code_len: usize, registers: u32, predicates: u32, others: u32, main_len: usize, local_len: usize,
         words: u32, lo: u32, hi: u32, on: u32, blocks: u32, bytes: u32) -> Checked;
@@ -52,10 +54,12 @@ struct Settings {
     bytes: u32,
 }
 
-/// What is handed in beside the record: code, memories, settings.
+/// What is handed in beside the record: code, memories, interrupts and handlers, settings.
 #[derive(Clone)]
 struct Given {
     code: Vec<u8>,
+    list: Vec<u8>,
+    table: Vec<u8>,
     main: Vec<u8>,
     local: Vec<u8>,
     set: Settings,
@@ -95,24 +99,32 @@ fn unguarded(g: &[u8]) -> Option<&[u8]> {
     whole.then(|| &g[GUARD..n])
 }
 
-/// The call through C; an error where bytes outside the buffers, or the record or the code, were touched.
+/// The call through C; an error where bytes outside the buffers, or of what is only read, were touched.
 fn through_c(g: &Given, record: &[u8], room: usize, call: Call) -> Result<Left, String> {
     let s = &g.set;
-    let (r, c) = (guarded(record), guarded(&g.code));
+    let (r, c, i, t) = (guarded(record), guarded(&g.code), guarded(&g.list), guarded(&g.table));
     let (mut m, mut l, mut o) = (guarded(&g.main), guarded(&g.local), guarded(&vec![OLD; room]));
-    let (rp, cp) = (r[GUARD..].as_ptr(), c[GUARD..].as_ptr());
+    let (rp, cp, ip, tp) = (r[GUARD..].as_ptr(), c[GUARD..].as_ptr(), i[GUARD..].as_ptr(), t[GUARD..].as_ptr());
     let (mp, lp, op) = (m[GUARD..].as_mut_ptr(), l[GUARD..].as_mut_ptr(), o[GUARD..].as_mut_ptr());
     let (rn, cn, mn, ln) = (record.len(), g.code.len(), g.main.len(), g.local.len());
+    let (n, tn) = (g.list.len(), g.table.len());
     // Every pointer is valid for its length, and the buffers are apart.
     let answer = unsafe {
         match call {
             Call::Open(e) => laqemdit_open(cp, cn, mp, mn, lp, ln, op, room, e, s.words, s.lo, s.hi, s.on, s.blocks, s.bytes),
-            Call::Step => laqemdit_step(rp, rn, cp, cn, mp, mn, lp, ln, op, room, s.words, s.lo, s.hi, s.on, s.blocks, s.bytes),
-            Call::Run(k) => laqemdit_run(rp, rn, cp, cn, mp, mn, lp, ln, op, room, k, s.words, s.lo, s.hi, s.on, s.blocks, s.bytes),
+            Call::Step => {
+                laqemdit_step(rp, rn, cp, cn, mp, mn, lp, ln, op, room, ip, n, tp, tn, s.words, s.lo, s.hi, s.on, s.blocks, s.bytes)
+            }
+            Call::Run(k) => {
+                laqemdit_run(rp, rn, cp, cn, mp, mn, lp, ln, op, room, ip, n, tp, tn, k, s.words, s.lo, s.hi, s.on, s.blocks, s.bytes)
+            }
         }
     };
     if unguarded(&r) != Some(record) || unguarded(&c) != Some(&g.code) {
         return Err("record or code was written to".into());
+    }
+    if unguarded(&i) != Some(&g.list) || unguarded(&t) != Some(&g.table) {
+        return Err("list or table was written to".into());
     }
     match (unguarded(&m), unguarded(&l), unguarded(&o)) {
         (Some(main), Some(local), Some(out)) => Ok(Left { answer, main: main.to_vec(), local: local.to_vec(), out: out.to_vec() }),
@@ -146,20 +158,27 @@ fn begun(g: &Given, record: &[u8], room: usize, call: Call) -> Result<Machine, u
         return Machine::open(g.code.clone(), g.main.clone(), g.local.clone(), s.words, s.lo, s.hi, method(s), entry);
     }
     let stopped = record::read(record, &under(g)).ok_or(14u32)?;
-    Ok(record::machine_of(&stopped, &g.code, &g.main, &g.local, s.lo, s.hi, method(s)))
+    let mut m = record::machine_of(&stopped, &g.code, &g.main, &g.local, s.lo, s.hi, method(s));
+    m.list.clone_from(&g.list);
+    m.table.clone_from(&g.table);
+    Ok(m)
 }
 
 /// What the call has to leave, by the second opinion.
 fn due(g: &Given, record: &[u8], room: usize, call: Call) -> Left {
+    let untouched = |answer| Left { answer, main: g.main.clone(), local: g.local.clone(), out: vec![OLD; room] };
     let mut m = match begun(g, record, room, call) {
         Ok(m) => m,
-        Err(answer) => return Left { answer, main: g.main.clone(), local: g.local.clone(), out: vec![OLD; room] },
+        Err(answer) => return untouched(answer),
     };
     let answer = match call {
         Call::Open(_) => Answer::Done,
         Call::Run(budget) => m.run(budget),
         Call::Step => m.step(),
     };
+    if answer == Answer::Refused(15) {
+        return untouched(15);
+    }
     let mut out = record::write(&record::stopped_of(&m));
     out.resize(room, OLD);
     let answer = match answer {
@@ -181,9 +200,21 @@ fn words_of(bytes: &[u8]) -> Vec<u32> {
     bytes.chunks(4).map(|b| b.iter().chain(&[0; 3]).take(4).fold(0, |w, &b| w << 8 | b as u32)).collect()
 }
 
+/// The lines of a case for list and table.
+fn replay_lines(g: &Given) -> String {
+    let mut t = String::new();
+    for record in words_of(&g.list).chunks(2) {
+        t += &format!("interrupt {} {}\n", record[0], record.get(1).unwrap_or(&0));
+    }
+    for (vector, handler) in words_of(&g.table).iter().enumerate().take(32) {
+        t += &format!("handler {} {}\n", vector, handler);
+    }
+    t + &format!("listbytes {}\ntablebytes {}\n", g.list.len(), g.table.len())
+}
+
 /// The lines of a case for what a step or a run takes beside code and settings.
 fn stopped_lines(g: &Given, record: &[u8]) -> String {
-    let mut t = String::new();
+    let mut t = replay_lines(g);
     for (name, memory) in [("main", &g.main), ("local", &g.local)] {
         for (i, b) in memory.chunks(4).enumerate() {
             if b.iter().any(|&b| b != 0) {
@@ -272,7 +303,7 @@ impl Bench {
 
     /// The record at the beginning of an output, read again.
     fn written(&self, g: &Given, l: &Left) -> Option<Stopped> {
-        if l.answer == 1 || l.answer == 14 {
+        if [1, 14, 15].contains(&l.answer) {
             return None;
         }
         let length = record_length(&l.out);
@@ -282,7 +313,7 @@ impl Bench {
 
 /// The length of the record that a buffer begins with.
 fn record_length(out: &[u8]) -> usize {
-    (0..10).fold(0, |at, _| at + 4 + 4 * words_of(&out[at..at + 4])[0] as usize)
+    (0..record::SECTIONS).fold(0, |at, _| at + 4 + 4 * words_of(&out[at..at + 4])[0] as usize)
 }
 
 // ---------------------------------------------------------------- random boxes
@@ -375,14 +406,16 @@ impl Random {
             88..=97 => {
                 let target = if bases.is_empty() || self.chance(5) { self.below(n + 1) } else { self.pick(bases) / 4 };
                 let delayed = self.below(2) << 22;
-                g | match self.below(if self.tame { 13 } else { 16 }) {
+                g | match self.below(if self.tame { 17 } else { 20 }) {
                     0..=4 => 18 << 22 | delayed | (self.below(n + 1).wrapping_sub(at) & 0x3FFFFF),
                     5..=8 => 16 << 22 | delayed | target,
                     9..=10 => 20 << 22 | delayed | target,
                     11..=12 => 24 << 22 | delayed,
-                    13 => 24 << 22 | delayed | self.register() << 12 | self.pick(&[4, 5]),
-                    14 => 24 << 22 | delayed | self.register() << 12 | self.register() << 7 | 10,
-                    _ => self.pick(&[22 << 22, 24 << 22 | 1, 25 << 22 | 1]),
+                    13..=14 => 24 << 22 | delayed | 1,
+                    15..=16 => 22 << 22 | if self.chance(95) { self.below(32) } else { self.pick(&[32, 33, 64, 0x3FFFFF]) },
+                    17 => 24 << 22 | delayed | self.register() << 12 | self.pick(&[4, 5]),
+                    18 => 24 << 22 | delayed | self.register() << 12 | self.register() << 7 | 10,
+                    _ => 23 << 22 | self.below(32),
                 }
             }
             98 => self.next() & 0x7FFFFFFF,
@@ -436,11 +469,62 @@ impl Random {
         (0..n).map(|_| if self.chance(50) { 0 } else { self.next() as u8 }).collect()
     }
 
-    /// Code, memories and settings that are accepted, and the bases of the blocks.
+    /// A list whose numbers do not fall, some of them equal.
+    fn list(&mut self) -> Vec<u8> {
+        let mut number = 0;
+        let mut words = Vec::new();
+        for _ in 0..if self.chance(25) { 0 } else { self.below(12) } {
+            number += match self.below(10) {
+                0..=2 => 0,
+                3..=8 => self.below(12),
+                _ => self.below(300),
+            };
+            words.extend([number, self.below(32)]);
+        }
+        if self.chance(5) {
+            words.extend([0xFFFFFFFF, self.below(32)]);
+        }
+        plain::bytes_of(&words)
+    }
+
+    /// A table of handlers: most of them blocks, where there are blocks, or words of the code.
+    fn table(&mut self, code: u32, bases: &[u32]) -> Vec<u8> {
+        let few = if self.tame { 2 } else { 12 };
+        let mut handler = || match self.chance(few) {
+            true => self.pick(&[0, 0, 2, 6, code, code + 4, 0xFFFFFFFC]),
+            false if bases.is_empty() => 4 + 4 * self.below(code / 4),
+            false => self.pick(bases),
+        };
+        let words: Vec<u32> = (0..32).map(|_| handler()).collect();
+        plain::bytes_of(&words)
+    }
+
+    /// A list or a table that may be refused: cut, lengthened, or with a word changed.
+    fn unlisted(&mut self, g: &Given) -> Given {
+        let mut g = g.clone();
+        let words = g.list.len() as u32 / 4;
+        match self.below(6) {
+            0 => g.list.truncate(self.below(g.list.len() as u32 + 1) as usize),
+            1 => g.list.extend((0..self.below(20)).map(|_| self.pick(&[0, 31, 255]) as u8)),
+            2 => g.table.truncate(self.pick(&[0, 4, 124, 127, 128]) as usize),
+            3 => g.table.resize(self.pick(&[129, 132, 256]) as usize, 0),
+            _ if words > 0 => {
+                let at = 4 * self.below(words) as usize;
+                let value = if self.chance(50) { self.pick(&[0, 31, 32, 33, 0xFFFFFFFF]) } else { self.below(40) };
+                g.list[at..at + 4].copy_from_slice(&value.to_be_bytes());
+            }
+            _ => {}
+        }
+        g
+    }
+
+    /// Code, memories, interrupts and settings that are accepted, and the bases of the blocks.
     fn given(&mut self) -> (Given, Vec<u32>) {
         let on = self.chance(50);
         let words = if self.chance(85) { self.pick(&[4, 4, 8, 16]) } else { self.pick(&[32, 64, 128, 256, 512]) };
         let (code, bases) = self.code(on, words);
+        let list = self.list();
+        let table = self.table(4 * code.len() as u32, &bases);
         let main = self.memory();
         let local = self.memory();
         let most = main.len() as u32 / 4;
@@ -454,7 +538,15 @@ impl Random {
             blocks: if on { 1 + if self.chance(80) { self.below(4) } else { self.below(16) } } else { self.next() },
             bytes: if on { 64 + if self.chance(80) { self.below(100) } else { self.below(16321) } } else { self.next() },
         };
-        (Given { code: plain::bytes_of(&code), main, local, set }, bases)
+        (Given { code: plain::bytes_of(&code), list, table, main, local, set }, bases)
+    }
+
+    /// Handler mark, list place and bundles done of a box.
+    fn replay(&mut self, g: &Given) -> [u32; 3] {
+        let records = g.list.len() as u32 / 8;
+        let place = if self.chance(90) { self.below(records + 2) } else { self.pick(&[0x7FFFFFFF, 0x80000000, 0xFFFFFFFF]) };
+        let done = if self.chance(90) { self.below(100) } else { 0xFFFFFFFF - self.below(4) };
+        [self.chance(30) as u32, place, done]
     }
 
     /// A box that is well formed, with any counts.
@@ -482,6 +574,8 @@ impl Random {
         if self.chance(70) && !bases.is_empty() {
             specials[4] = self.pick(bases);
             specials[5] = 4 * self.below(12);
+            specials[6] = self.pick(bases);
+            specials[7] = 4 * self.below(12);
         }
         let mut stopped = Stopped {
             fetch,
@@ -495,12 +589,13 @@ impl Random {
             products: vec![],
             counts: [0; 6],
             held: vec![],
+            replay: self.replay(g),
         };
         if self.chance(25) {
-            let kind = self.below(3);
+            let kind = self.below(4);
             let target = if bases.is_empty() { place(self) } else { self.pick(bases) };
             stopped.transfer = vec![kind, 1 + self.below(3), target];
-            if kind == 2 {
+            if kind >= 2 {
                 stopped.transfer.push(self.value(code));
             }
         }
@@ -550,9 +645,10 @@ impl Random {
                 // The tail of the record, where things are absent or there: a word changed, put in or taken out, its section's count with it.
                 _ => {
                     let Some(mut all) = record::sections(&r) else { continue };
-                    match self.below(8) {
+                    let some = record::SECTIONS as u32;
+                    match self.below(9) {
                         0 => {
-                            let (i, j) = (self.below(10) as usize, self.below(10) as usize);
+                            let (i, j) = (self.below(some) as usize, self.below(some) as usize);
                             all.swap(i, j);
                         }
                         k @ 1..=2 => all[k as usize].iter_mut().take(1).for_each(|w| *w = value),
@@ -564,8 +660,9 @@ impl Random {
                             let again = if n > 0 && self.chance(30) { all[9][self.below(n) as usize] } else { 4 * self.below(code / 4 + 2) };
                             all[9].insert(self.below(n + 1) as usize, again);
                         }
+                        7 => all[10] = (0..self.pick(&[0, 1, 2, 3, 3, 3, 3, 4])).map(|_| self.pick(&[0, 1, 2, 256, value])).collect(),
                         _ => {
-                            let i = self.below(10) as usize;
+                            let i = self.below(some) as usize;
                             let n = all[i].len() as u32;
                             let any = self.below(40);
                             let length = self.pick(&[n + 1, n.saturating_sub(1), 2 * n, n / 2, any]);
@@ -600,7 +697,7 @@ impl Random {
         match self.below(4) {
             0 => longest + self.below(40) as usize,
             1 => longest + 1 - self.below(3) as usize,
-            2 => 4 * (65 + words as usize) + self.below(5) as usize,
+            2 => 4 * (69 + words as usize) + self.below(5) as usize,
             _ => self.below(longest as u32) as usize,
         }
     }
@@ -758,6 +855,11 @@ fn program(b: &mut Bench, r: &mut Random) {
         let bad = r.unsettled(&g);
         let given = if r.chance(70) { record.clone() } else { r.damaged(&record, code) };
         b.call(&bad, &given, 8192, if r.chance(50) { Call::Step } else { Call::Run(m) });
+        // Lists and tables that may be refused, over a good record and a damaged one.
+        let listed = r.unlisted(&g);
+        b.call(&listed, &given, longest, if r.chance(50) { Call::Step } else { Call::Run(m) });
+        let listed = r.unlisted(&g);
+        b.call(&listed, &now, longest, Call::Run(r.below(3)));
         check(b, r, &g);
         check(b, r, &bad);
     }

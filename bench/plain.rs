@@ -1,13 +1,15 @@
-//! A plain interpreter of the Patmos core of document 01, with the late products and the method cache of document 02 (ii) and (iii),
-//! to compare speed with.
+//! A plain interpreter of the Patmos core of document 01, with the late products, the method cache and the interrupts of document 02
+//! (ii), (iii) and (vi), to compare speed with.
 //! Build: rustc -O plain.rs        Use: plain WORKLOAD BUDGET MAINLEN W
 //! compare.rs has it as a module: what is pub is what that program sets and reads.
-//! WORKLOAD is loop, calls, memory, products, methods or all.
+//! WORKLOAD is loop, calls, memory, products, methods, interrupts or all.
 //!
 //! Settings of a workload: the code words below, main memory of MAINLEN bytes, local
 //! memory of 1024 bytes, stack area from (MAINLEN / 2) to MAINLEN, both rounded down to
 //! a multiple of 4, all memory zero, fresh state. methods: entry 4 and a method cache of
-//! 4 blocks and 96 bytes; the others: entry 0, and the method cache is off.
+//! 4 blocks and 96 bytes; the others: entry 0, and the method cache is off. interrupts: a
+//! list of 131,072 records, one for every hundred bundles, with two handlers; the others:
+//! an empty list and no handlers.
 #![allow(dead_code)]
 
 const LOOP: &[u32] = &[
@@ -50,6 +52,28 @@ const METHODS: &[u32] = &[
     0x00400000, 0x00000008, 0x022B5A01, 0x06000000,
 ];
 
+// A loop that is interrupted every hundred bundles: vector 1 (the mat) at 48, vector 2 (the photo cell) at 72.
+const INTERRUPTS: &[u32] = &[
+    0x87C20000, 0x12345678, 0x00040001, 0x02063082, 0x00042001, 0x0108101F, 0x0202120C, 0x820A5180,
+    0x020C6082, 0x04FFFFFA, 0x020E7280, 0x02108382, 0x00294001, 0x026A003A, 0x06400001, 0x022D6A8C,
+    0x02C20A00, 0x022F7082, 0x02B00080, 0x02339102, 0x0235AC00, 0x06000001,
+];
+const INTERRUPT_RECORDS: u32 = 131_072;
+
+/// The list of the workload interrupts: numbers 100, 200, .. and vectors 1, 2, 1, 2, ..
+fn interrupt_list() -> Vec<u8> {
+    let record = |i: u32| [100 * (i + 1), 1 + i % 2];
+    bytes_of(&(0..INTERRUPT_RECORDS).flat_map(record).collect::<Vec<_>>())
+}
+
+/// Its table of handlers.
+fn interrupt_table() -> Vec<u8> {
+    let mut table = [0; 32];
+    table[1] = 48;
+    table[2] = 72;
+    bytes_of(&table)
+}
+
 // ---------------------------------------------------------------- machine
 
 #[derive(Clone, Copy, PartialEq)]
@@ -64,6 +88,9 @@ pub enum Due {
     Br,
     Call,
     Block(u32),
+    /// A trap, which never waits: its target is the handler.
+    Trap,
+    Xret(u32),
 }
 
 #[derive(Clone, Copy, PartialEq, Debug)]
@@ -99,9 +126,23 @@ pub struct Method {
     pub bytes: u32,
 }
 
+/// What taking a record changes, as it was before: it comes back where the bundle is refused.
+#[derive(Clone, Default)]
+pub struct Before {
+    fetch: u32,
+    base: u32,
+    sxb: u32,
+    sxo: u32,
+    held: Vec<u32>,
+    counts: Counts,
+}
+
 #[derive(Clone)]
 pub struct Machine {
     pub code: Vec<u8>,
+    /// The interrupts to be replayed, two words each, and the table of 32 handlers.
+    pub list: Vec<u8>,
+    pub table: Vec<u8>,
     pub main: Vec<u8>,
     pub local: Vec<u8>,
     pub cache: Vec<u32>,
@@ -127,6 +168,14 @@ pub struct Machine {
     pub later: Option<(u32, u32)>,
     /// The bases of the blocks in the method cache, oldest first.
     pub held: Vec<u32>,
+    /// Whether a handler is active, the records taken, and the bundles done in the replay.
+    pub active: bool,
+    pub taken: u32,
+    pub replayed: u32,
+    /// The number of the record that comes next, which no bundle count reaches where none is left. A step and a run look it up when
+    /// they begin.
+    pub next: u64,
+    pub before: Before,
     pub counts: Counts,
 }
 
@@ -249,6 +298,8 @@ impl Machine {
         let sro = code.len() as u32;
         Ok(Machine {
             code,
+            list: vec![],
+            table: vec![0; 128],
             main,
             local,
             cache: vec![0; w as usize],
@@ -272,6 +323,11 @@ impl Machine {
             soon: None,
             later: None,
             held: Vec::with_capacity(16),
+            active: false,
+            taken: 0,
+            replayed: 0,
+            next: u64::MAX,
+            before: Before::default(),
             counts: Counts::default(),
         })
     }
@@ -317,13 +373,79 @@ impl Machine {
         self.held.iter().map(|&b| self.size_at(b)).sum()
     }
 
-    /// The lookup of a call, brcf or ret, by its new base: none where it goes to the code's end.
+    /// Whether list and table can be replayed: 15 where they cannot.
+    fn replay_ok(&self) -> bool {
+        let mut least = 0;
+        self.list.len() % 8 == 0
+            && self.table.len() == 128
+            && self.list.chunks_exact(8).all(|r| {
+                let (number, vector) = (read_be(r, 0, 4), read_be(r, 4, 4));
+                let fine = number >= least && vector <= 31;
+                least = number;
+                fine
+            })
+    }
+
+    /// The number of the record that comes next.
+    fn next_number(&self) -> u64 {
+        match self.list.get(8 * self.taken as usize..) {
+            Some(rest) if !rest.is_empty() => read_be(rest, 0, 4) as u64,
+            _ => u64::MAX,
+        }
+    }
+
+    fn handler(&self, vector: u32) -> u32 {
+        read_be(&self.table, 4 * vector as usize, 4)
+    }
+
+    /// The record that is due is taken: 17 and 13 are judged, and nothing is changed then.
+    #[cold]
+    fn take(&mut self) -> Result<(), u32> {
+        let handler = self.handler(read_be(&self.list, 8 * self.taken as usize + 4, 4));
+        if handler == 0 {
+            return Err(17);
+        }
+        self.before.held.clone_from(&self.held);
+        self.before.counts = self.counts;
+        if self.method.on {
+            self.look_up(Waiting { due: Due::Call, target: handler, wait: 0 })?;
+        }
+        (self.before.fetch, self.before.base) = (self.fetch, self.base);
+        (self.before.sxb, self.before.sxo) = (self.sxb, self.sxo);
+        self.enter(handler, self.fetch);
+        self.taken += 1;
+        self.next = self.next_number();
+        Ok(())
+    }
+
+    /// The bundle was refused, and so is the taking.
+    #[cold]
+    fn put_back(&mut self) {
+        (self.fetch, self.base) = (self.before.fetch, self.before.base);
+        (self.sxb, self.sxo) = (self.before.sxb, self.before.sxo);
+        self.held.clone_from(&self.before.held);
+        self.counts = self.before.counts;
+        self.active = false;
+        self.taken -= 1;
+        self.next = self.next_number();
+    }
+
+    /// A handler becomes active; xret will lead back to an address.
+    fn enter(&mut self, handler: u32, back: u32) {
+        self.sxb = self.base;
+        self.sxo = back.wrapping_sub(self.base);
+        self.base = handler;
+        self.fetch = handler;
+        self.active = true;
+    }
+
+    /// The lookup of a call, brcf, ret, trap or xret, or of a handler, by its new base: none where it goes to the code's end.
     #[inline]
     fn look_up(&mut self, t: Waiting) -> Result<(), u32> {
         let base = match t.due {
             Due::Br => return Ok(()),
-            Due::Call => t.target,
-            Due::Block(b) => b,
+            Due::Call | Due::Trap => t.target,
+            Due::Block(b) | Due::Xret(b) => b,
         };
         if t.target as usize == self.code.len() {
             return Ok(());
@@ -710,8 +832,7 @@ impl Machine {
     fn control_flow(&mut self, w: u32, go: bool) -> Result<Option<Waiting>, u32> {
         let delayed = w >> 22 & 1 == 1;
         let imm = w & 0x3FFFFF;
-        let trap = Waiting { due: Due::Br, target: 0, wait: 0 };
-        let t = if w >> 25 & 3 == 0b10 {
+        let mut t = if w >> 25 & 3 == 0b10 {
             match w >> 23 & 3 {
                 0 => Waiting { due: Due::Call, target: imm << 2, wait: 3 },
                 1 => {
@@ -720,12 +841,12 @@ impl Machine {
                 }
                 2 => Waiting { due: Due::Block(imm << 2), target: imm << 2, wait: 3 },
                 _ if delayed => return Err(3),
-                _ => trap,
+                _ => Waiting { due: Due::Trap, target: 0, wait: 3 },
             }
         } else {
             match w & 15 {
                 0 => Waiting { due: Due::Block(self.srb), target: self.srb.wrapping_add(self.sro), wait: 3 },
-                1 => trap,
+                1 => Waiting { due: Due::Xret(self.sxb), target: self.sxb.wrapping_add(self.sxo), wait: 3 },
                 4 => Waiting { due: Due::Call, target: self.regs[rs1(w)], wait: 3 },
                 5 => Waiting { due: Due::Br, target: self.regs[rs1(w)], wait: 2 },
                 10 => {
@@ -739,8 +860,8 @@ impl Machine {
             self.land();
             return Ok(None);
         }
-        if t.wait == 0 {
-            return Err(10);
+        if t.due == Due::Trap {
+            t.target = self.trap(imm)?;
         }
         if self.transfer.is_some() {
             return Err(4);
@@ -756,6 +877,17 @@ impl Machine {
         Ok(Some(t))
     }
 
+    /// Where a trap goes, judged.
+    fn trap(&self, vector: u32) -> Result<u32, u32> {
+        if self.active {
+            return Err(16);
+        }
+        if vector > 31 || self.handler(vector) == 0 {
+            return Err(17);
+        }
+        Ok(self.handler(vector))
+    }
+
     #[inline]
     fn carry_out(&mut self, w: Waiting, following: u32) {
         match w.due {
@@ -766,11 +898,30 @@ impl Machine {
                 self.base = w.target;
             }
             Due::Block(b) => self.base = b,
+            Due::Trap => self.enter(w.target, following),
+            Due::Xret(b) => {
+                self.base = b;
+                self.active = false;
+            }
         }
         self.fetch = w.target;
     }
 
-    /// One bundle of a well formed state that has not ended.
+    /// The next bundle of a well formed state that has not ended, in a replay: a record that is due is taken as part of it.
+    #[inline]
+    fn attempt(&mut self) -> Result<(), u32> {
+        let due = self.replayed as u64 >= self.next && self.transfer.is_none() && !self.active;
+        if due {
+            self.take()?;
+        }
+        let done = self.bundle();
+        if due && done.is_err() {
+            self.put_back();
+        }
+        done
+    }
+
+    /// One bundle at the fetch address.
     #[inline]
     fn bundle(&mut self) -> Result<(), u32> {
         if self.fetch % 4 != 0 {
@@ -820,29 +971,41 @@ impl Machine {
                 self.transfer = Some(Waiting { wait: t.wait - 1, ..t });
             }
         }
+        self.replayed = self.replayed.saturating_add(1);
         self.counts.bundles += 1;
         self.counts.cycles += cycles;
         Ok(())
     }
 
-    pub fn step(&mut self) -> Answer {
+    /// What a step or a run begins with: 11 and 15 are judged once.
+    fn begin(&mut self) -> Result<(), u32> {
         self.counts = Counts::default();
         if !self.well_formed() {
-            return Answer::Refused(11);
+            return Err(11);
+        }
+        if !self.replay_ok() {
+            return Err(15);
+        }
+        self.next = self.next_number();
+        Ok(())
+    }
+
+    pub fn step(&mut self) -> Answer {
+        if let Err(k) = self.begin() {
+            return Answer::Refused(k);
         }
         if self.ended() {
             return Answer::Ended;
         }
-        match self.bundle() {
+        match self.attempt() {
             Ok(()) => Answer::Done,
             Err(k) => Answer::Refused(k),
         }
     }
 
     pub fn run(&mut self, budget: u32) -> Answer {
-        self.counts = Counts::default();
-        if !self.well_formed() {
-            return Answer::Refused(11);
+        if let Err(k) = self.begin() {
+            return Answer::Refused(k);
         }
         loop {
             if self.ended() {
@@ -851,7 +1014,7 @@ impl Machine {
             if self.counts.bundles == budget as u64 {
                 return Answer::Spent;
             }
-            if let Err(k) = self.bundle() {
+            if let Err(k) = self.attempt() {
                 return Answer::Refused(k);
             }
         }
@@ -886,6 +1049,10 @@ fn workload(name: &str, code: &[u32], entry: u32, method: Method, budget: u32, m
             return;
         }
     };
+    if name == "interrupts" {
+        m.list = interrupt_list();
+        m.table = interrupt_table();
+    }
     let a = m.run(budget);
     print!(
         "{} {} bundles {} cycles {} spilled {} filled {}",
@@ -912,6 +1079,7 @@ fn main() {
         ("memory", MEMORY, 0, off),
         ("products", PRODUCTS, 0, off),
         ("methods", METHODS, 4, on),
+        ("interrupts", INTERRUPTS, 0, off),
     ];
     let parsed = if args.len() == 5 {
         match (args[2].parse::<u32>(), args[3].parse::<usize>(), args[4].parse::<u32>()) {
@@ -922,7 +1090,7 @@ fn main() {
         None
     };
     let Some((budget, mainlen, w)) = parsed else {
-        eprintln!("usage: plain loop|calls|memory|products|methods|all BUDGET MAINLEN W");
+        eprintln!("usage: plain loop|calls|memory|products|methods|interrupts|all BUDGET MAINLEN W");
         std::process::exit(2);
     };
     for (name, code, entry, method) in all {

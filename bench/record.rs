@@ -1,7 +1,7 @@
 //! The record of a stopped box, read and written from the documents alone: a second opinion on the library's.
-//! Document 02 (iv) gives the sections and their order, docs/RECORD.md what stands inside them.
+//! Document 02 (iv) and (vi) give the sections and their order, docs/RECORD.md what stands inside them.
 
-use crate::plain::{Counts, Due, Machine, Method, Waiting};
+use crate::plain::{Before, Counts, Due, Machine, Method, Waiting};
 
 /// A box and the counts of its last run, as a record has them: any values.
 #[derive(Clone, PartialEq, Debug)]
@@ -14,7 +14,7 @@ pub struct Stopped {
     /// sl, sh, ss, st, srb, sro, sxb, sxo.
     pub specials: [u32; 8],
     pub cache: Vec<u32>,
-    /// Nothing; 0, wait, target of a br; 1, wait, target of a call; 2, wait, target, base of a brcf or ret.
+    /// Nothing; 0, wait, target of a br; 1, wait, target of a call; 2, wait, target, base of a brcf or ret; 3 and the same of an xret.
     pub transfer: Vec<u32>,
     /// Register and value.
     pub load: Option<(u32, u32)>,
@@ -24,6 +24,8 @@ pub struct Stopped {
     pub counts: [u64; 6],
     /// Bases, the oldest first.
     pub held: Vec<u32>,
+    /// 1 where a handler is active, the list place, the bundles done in the replay.
+    pub replay: [u32; 3],
 }
 
 /// What a record is judged under beside its own words.
@@ -37,7 +39,7 @@ pub struct Under<'a> {
 
 /// The bytes of the longest record: a transfer with its base, a load, two products and 16 blocks held.
 pub fn longest(words: usize) -> usize {
-    let sections = [2, 32, 1, 8, words, 4, 2, 6, 12, 16];
+    let sections = [2, 32, 1, 8, words, 4, 2, 6, 12, 16, 3];
     4 * (sections.len() + sections.iter().sum::<usize>())
 }
 
@@ -53,6 +55,7 @@ pub fn write(s: &Stopped) -> Vec<u8> {
     sections.push(s.products.iter().flatten().copied().collect());
     sections.push(s.counts.iter().flat_map(|&c| [(c >> 32) as u32, c as u32]).collect());
     sections.push(s.held.clone());
+    sections.push(s.replay.to_vec());
     let mut bytes = Vec::new();
     for section in &sections {
         bytes.extend((section.len() as u32).to_be_bytes());
@@ -63,14 +66,17 @@ pub fn write(s: &Stopped) -> Vec<u8> {
     bytes
 }
 
-/// The ten sections of a record, if its bytes are ten sections and nothing more.
+/// The sections of a record.
+pub const SECTIONS: usize = 11;
+
+/// The sections of a record, if its bytes are so many sections and nothing more.
 pub fn sections(bytes: &[u8]) -> Option<Vec<Vec<u32>>> {
     if bytes.len() % 4 != 0 {
         return None;
     }
     let mut words = bytes.chunks(4).map(|b| u32::from_be_bytes([b[0], b[1], b[2], b[3]]));
     let mut all = Vec::new();
-    for _ in 0..10 {
+    for _ in 0..SECTIONS {
         let n = words.next()?;
         if n as usize > words.len() {
             return None;
@@ -86,19 +92,20 @@ pub fn sections(bytes: &[u8]) -> Option<Vec<Vec<u32>>> {
 /// What a record holds, or nothing where 14 describes it.
 pub fn read(bytes: &[u8], under: &Under) -> Option<Stopped> {
     let all = sections(bytes)?;
-    let [place, regs, preds, specials, cache, transfer, load, products, counts, held] = &all[..] else { return None };
+    let [place, regs, preds, specials, cache, transfer, load, products, counts, held, replay] = &all[..] else { return None };
     let lengths = place.len() == 2
         && regs.len() == 32
         && preds.len() == 1
         && specials.len() == 8
         && cache.len() == under.words
-        && counts.len() == 12;
-    if !lengths || regs[0] != 0 || preds[0] > 255 || preds[0] % 2 == 0 {
+        && counts.len() == 12
+        && replay.len() == 3;
+    if !lengths || regs[0] != 0 || preds[0] > 255 || preds[0] % 2 == 0 || replay[0] > 1 {
         return None;
     }
     match transfer[..] {
         [] => {}
-        [0 | 1, wait, _] | [2, wait, _, _] if wait >= 1 && wait <= 3 => {}
+        [0 | 1, wait, _] | [2 | 3, wait, _, _] if wait >= 1 && wait <= 3 => {}
         _ => return None,
     }
     let load = match load[..] {
@@ -132,6 +139,7 @@ pub fn read(bytes: &[u8], under: &Under) -> Option<Stopped> {
         products,
         counts: numbers,
         held: held.clone(),
+        replay: replay[..].try_into().ok()?,
     })
 }
 
@@ -157,7 +165,7 @@ fn held_fit(held: &[u32], under: &Under) -> bool {
     held.len() as u64 <= under.blocks as u64 && total <= under.bytes as u64
 }
 
-/// The plain interpreter's machine with this box in it; the record was read, so its values are a state's.
+/// The plain interpreter's machine with this box in it, to replay an empty list; the record was read, so its values are a state's.
 pub fn machine_of(s: &Stopped, code: &[u8], main: &[u8], local: &[u8], lo: u32, hi: u32, method: Method) -> Machine {
     let mut preds = [false; 8];
     for (i, p) in preds.iter_mut().enumerate() {
@@ -167,6 +175,8 @@ pub fn machine_of(s: &Stopped, code: &[u8], main: &[u8], local: &[u8], lo: u32, 
     let [sl, sh, ss, st, srb, sro, sxb, sxo] = s.specials;
     Machine {
         code: code.to_vec(),
+        list: vec![],
+        table: vec![0; 128],
         main: main.to_vec(),
         local: local.to_vec(),
         cache: s.cache.clone(),
@@ -189,12 +199,18 @@ pub fn machine_of(s: &Stopped, code: &[u8], main: &[u8], local: &[u8], lo: u32, 
             [0, wait, target] => Some(Waiting { due: Due::Br, target, wait }),
             [1, wait, target] => Some(Waiting { due: Due::Call, target, wait }),
             [2, wait, target, base] => Some(Waiting { due: Due::Block(base), target, wait }),
+            [3, wait, target, base] => Some(Waiting { due: Due::Xret(base), target, wait }),
             _ => None,
         },
         load: s.load,
         soon: product(1),
         later: product(2),
         held: s.held.clone(),
+        active: s.replay[0] == 1,
+        taken: s.replay[1],
+        replayed: s.replay[2],
+        next: 0,
+        before: Before::default(),
         counts: Counts::default(),
     }
 }
@@ -205,6 +221,8 @@ pub fn stopped_of(m: &Machine) -> Stopped {
         Due::Br => vec![0, t.wait, t.target],
         Due::Call => vec![1, t.wait, t.target],
         Due::Block(b) => vec![2, t.wait, t.target, b],
+        Due::Xret(b) => vec![3, t.wait, t.target, b],
+        Due::Trap => unreachable!("a trap never waits"),
     });
     let under_way = [(1, m.soon), (2, m.later)];
     Stopped {
@@ -219,5 +237,6 @@ pub fn stopped_of(m: &Machine) -> Stopped {
         products: under_way.iter().filter_map(|&(w, p)| p.map(|(low, high)| [w, low, high])).collect(),
         counts: [c.bundles, c.cycles, c.spilled, c.filled, c.misses, c.fetched],
         held: m.held.clone(),
+        replay: [m.active as u32, m.taken, m.replayed],
     }
 }

@@ -1,6 +1,7 @@
 /* Measures the run entry from C on a workload, whose code words it reads from standard input.
  * Use: speed WORKLOAD BUDGET MAINLEN W TIMES < WORDS. The settings are those of bench/run: local memory of 1024 bytes, the stack area in the
- * upper half of main memory, all memory zero; methods has entry 4 and a method cache of 4 blocks and 96 bytes.
+ * upper half of main memory, all memory zero; methods has entry 4 and a method cache of 4 blocks and 96 bytes; interrupts has a list of
+ * 131,072 records, the others an empty one.
  * It prints what came of the run in the form of the program speed, and the least processor time a bundle of TIMES calls, each with its record
  * read and written once.
  */
@@ -11,7 +12,9 @@
 
 #include "laqemdit.h"
 
-static uint8_t record[8192], out[8192], code[65536], main_memory[65536], local_memory[1024];
+enum { RECORDS = 131072 };
+
+static uint8_t record[8192], out[8192], code[65536], main_memory[65536], local_memory[1024], list[8 * RECORDS], table[128];
 
 static void put_word(uint8_t *at, uint32_t w)
 {
@@ -26,10 +29,22 @@ static uint32_t word(const uint8_t *at)
     return (uint32_t)at[0] << 24 | (uint32_t)at[1] << 16 | (uint32_t)at[2] << 8 | at[3];
 }
 
+/* The interrupts of the workload interrupts, one for every hundred bundles, and its two handlers. */
+static size_t interrupts(void)
+{
+    for (uint32_t i = 0; i < RECORDS; i++) {
+        put_word(list + 8 * i, 100 * (i + 1));
+        put_word(list + 8 * i + 4, 1 + i % 2);
+    }
+    put_word(table + 4 * 1, 48);
+    put_word(table + 4 * 2, 72);
+    return sizeof list;
+}
+
 int main(int argc, char **argv)
 {
     uint32_t budget, words, lo, hi, entry = 0, on = 0, answer, sum = 0, w;
-    size_t code_length = 0, main_length;
+    size_t code_length = 0, main_length, list_length = 0;
     double least = 1e9;
     const uint8_t *at;
     int times;
@@ -55,6 +70,8 @@ int main(int argc, char **argv)
         entry = 4;
         on = 1;
     }
+    if (strcmp(argv[1], "interrupts") == 0)
+        list_length = interrupts();
     answer = laqemdit_open(code, code_length, main_memory, main_length, local_memory, sizeof local_memory, record, sizeof record, entry,
         words, lo, hi, on, 4, 96);
     if (answer != LAQEMDIT_OPENED) {
@@ -67,12 +84,12 @@ int main(int argc, char **argv)
         memset(main_memory, 0, sizeof main_memory);
         memset(local_memory, 0, sizeof local_memory);
         start = clock();
-        answer = laqemdit_run(record, 4 * (65 + (size_t)words), code, code_length, main_memory, main_length, local_memory,
-            sizeof local_memory, out, sizeof out, budget, words, lo, hi, on, 4, 96);
+        answer = laqemdit_run(record, 4 * (69 + (size_t)words), code, code_length, main_memory, main_length, local_memory,
+            sizeof local_memory, out, sizeof out, list, list_length, table, sizeof table, budget, words, lo, hi, on, 4, 96);
         took = (double)(clock() - start) / CLOCKS_PER_SEC;
         least = took < least ? took : least;
     }
-    if (answer == 1 || answer == 14) {
+    if (answer == 1 || answer == 14 || answer == 15) {
         fprintf(stderr, "speed: the run is refused with %u\n", (unsigned)answer);
         return 1;
     }

@@ -10,7 +10,7 @@
  * - A pointer stands before its length in bytes, and is valid for so many bytes. It has to be valid for length 0 too: not a null pointer.
  * - No two of the buffers of a call share a byte, `record` and `out` included.
  *
- * A box travels as a record: big-endian words in ten sections, each behind its count of words. docs/RECORD.md has the layout. The length of
+ * A box travels as a record: big-endian words in eleven sections, each behind its count of words. docs/RECORD.md has the layout. The length of
  * a record that was written is not given back, since it follows from the counts of its sections.
  */
 #ifndef LAQEMDIT_H
@@ -48,10 +48,11 @@ enum {
 uint32_t laqemdit_longest(uint32_t words);
 
 /* The fresh box at `entry`, written into `out` as a record: fetch address and base are the entry, p0 is true, ss and st are hi, sro is
- * code_len. All else is 0, the cache words and the counts too; nothing waits, no product is under way, no block is held.
+ * code_len. All else is 0, the cache words and the counts too; nothing waits, no product is under way, no block is held, no handler is
+ * active, and the replay is at its list's beginning.
  *
  *   answer  meaning                                                out
- *   0       the box was opened                                     its record, 4 * (65 + words) bytes
+ *   0       the box was opened                                     its record, 4 * (69 + words) bytes
  *   1       settings outside the limits above                      as found
  *   14      out_len is below laqemdit_longest(words)               as found
  *   2       `entry` is not a multiple of 4, or not below code_len  as found
@@ -67,6 +68,10 @@ uint32_t laqemdit_open(const uint8_t *code, size_t code_len, const uint8_t *main
 /* One bundle (step), or as many as `budget` (run), from the box in `record`, over this code and these memories. The box that is left is
  * written into `out` as a record, with the counts of this call alone: they start at 0, whatever the counts in `record` are.
  *
+ *   list   the interrupts of the replay, each two big-endian words: the number of bundles done in the replay before it is taken, and its
+ *          vector, 0 to 31. Numbers do not fall. The box has its own place in the list, and goes on from there. An empty list is fine
+ *   table  the addresses of the 32 handlers, big-endian words: 128 bytes, also with an empty list; 0 where a vector has no handler
+ *
  *   answer         meaning                                    out                                             main, local
  *   0              step: the bundle was done                  the box behind it, with its counts              as the bundle left them
  *   256            step: the box had ended, nothing was done  the same box, counts 0                          as found
@@ -76,18 +81,23 @@ uint32_t laqemdit_open(const uint8_t *code, size_t code_len, const uint8_t *main
  *   14             `record` is no record of a well-formed     as found                                        as found
  *                  box under these settings and this code, or
  *                  out_len is below laqemdit_longest(words)
- *   2 to 8, 10, 13 the next bundle is refused                 the box before that bundle, with the counts     as the bundle before
- *                                                             so far (step: counts 0)                         left them
+ *   15             list_len is no multiple of 8, table_len    as found                                        as found
+ *                  is not 128, a number falls, or a vector is
+ *                  above 31
+ *   2 to 8, 13,    the next bundle is refused                 the box before that bundle, with the counts     as the bundle before
+ *   16, 17                                                    so far (step: counts 0)                         left them
  *
- * 1 is judged first, then 14, then whether the box has ended, then the budget, then the bundle. Past the record `out` keeps its bytes.
- * `record` and `code` are only read.
+ * 1 is judged first, then 14, then 15, then whether the box has ended, then the budget, then the bundle. Past the record `out` keeps its bytes.
+ * `record`, `code`, `list` and `table` are only read.
  */
 uint32_t laqemdit_step(const uint8_t *record, size_t record_len, const uint8_t *code, size_t code_len, uint8_t *main, size_t main_len,
-    uint8_t *local, size_t local_len, uint8_t *out, size_t out_len,
+    uint8_t *local, size_t local_len, uint8_t *out, size_t out_len, const uint8_t *list, size_t list_len, const uint8_t *table,
+    size_t table_len,
     uint32_t words, uint32_t lo, uint32_t hi, uint32_t on, uint32_t blocks, uint32_t bytes);
 
 uint32_t laqemdit_run(const uint8_t *record, size_t record_len, const uint8_t *code, size_t code_len, uint8_t *main, size_t main_len,
-    uint8_t *local, size_t local_len, uint8_t *out, size_t out_len, uint32_t budget,
+    uint8_t *local, size_t local_len, uint8_t *out, size_t out_len, const uint8_t *list, size_t list_len, const uint8_t *table,
+    size_t table_len, uint32_t budget,
     uint32_t words, uint32_t lo, uint32_t hi, uint32_t on, uint32_t blocks, uint32_t bytes);
 
 /* What the check found. */

@@ -1,12 +1,12 @@
-// Bundles one after the other. Settings and state are judged once before the first.
+// Bundles one after the other. Settings, state, list and table are judged once before the first.
 ghost use mathlib.Core.Path.{_≡_};
 ghost use mathlib.Core.Bool.{true};
 ghost use Rattle.settings.specs.Settings.{admits};
-ghost use Rattle.settings.specs.Setup.{buffers, found, left, lent, setup, setupOf};
+ghost use Rattle.settings.specs.Setup.{buffers, found, left, lent, replaying, setup, setupOf};
 ghost use Rattle.bundle_model.specs.Counts.{noCounts, countsIn};
 ghost use Rattle.bundle_model.specs.Execute.{foundWhole, handedBack, advancedBack, Kept};
 ghost use Rattle.run_model.specs.Loop.{goesOn, advanced};
-use crate::fetched::bundle;
+use crate::attempt::attempt;
 use bundle_model::Advanced;
 use bundle_model::Answer;
 use bundle_model::Bundled;
@@ -25,16 +25,19 @@ fn bundles(
     registers: &mut [u32; 32],
     predicates: &mut [bool; 8],
     held: &mut [u32; 17],
+    blocks: &mut [u32; 17],
     counts: &mut [u64; 6],
     g: Settings,
     code: &[u8],
+    list: &[u8],
+    table: &[u8],
     main: &mut [u8],
     local: &mut [u8],
     cache: &mut [u32],
     budget: u32,
 ) -> Bundled
     requires { ⌜ (admits g ≡ true) × (g ≡ lent (setupOf (now code) g) (buffers (now main) (now local) (now cache))) × (countsIn (now counts) ≡ noCounts) ⌝ }
-    ensures { λ r. ⌜ Kept (handedBack registers predicates held counts r (left main local cache) ≡ goesOn (setupOf (now (code .entry)) g) budget (foundWhole registers predicates held start) (found main local cache)) start (r .core) (now (held .entry)) (now (held .exit)) ⌝ }
+    ensures { λ r. ⌜ Kept (handedBack registers predicates held counts r (left main local cache) ≡ goesOn (replaying (now (list .entry)) (now (table .entry)) (setupOf (now (code .entry)) g)) budget (foundWhole registers predicates held start) (found main local cache)) start (r .core) (now (held .entry)) (now (held .exit)) ⌝ }
 {
     let mut core = start;
     let mut left = budget;
@@ -45,14 +48,17 @@ fn bundles(
                 core,
             };
         }
-        let r = bundle(
+        let r = attempt(
             core,
             &mut *registers,
             &mut *predicates,
             &mut *held,
+            &mut *blocks,
             &mut *counts,
             g,
             code,
+            list,
+            table,
             &mut *main,
             &mut *local,
             &mut *cache,
@@ -78,15 +84,26 @@ pub fn advance(
     held: &mut [u32; 17],
     config: Config,
     code: &[u8],
+    list: &[u8],
+    table: &[u8],
     main: &mut [u8],
     local: &mut [u8],
     cache: &mut [u32],
     budget: u32,
 ) -> Advanced
-    ensures { λ r. ⌜ Kept (advancedBack registers predicates held r (left main local cache) ≡ advanced (setup (now (code .entry)) config) budget (foundWhole registers predicates held core) (found main local cache)) core (r .core) (now (held .entry)) (now (held .exit)) ⌝ }
+    ensures { λ r. ⌜ Kept (advancedBack registers predicates held r (left main local cache) ≡ advanced (replaying (now (list .entry)) (now (table .entry)) (setup (now (code .entry)) config)) budget (foundWhole registers predicates held core) (found main local cache)) core (r .core) (now (held .entry)) (now (held .exit)) ⌝ }
 {
     let g = config.settings(code, main.len(), local.len(), cache.len());
-    match readiness(core, &*registers, &*predicates, &*held, code, g) {
+    match readiness(
+        core,
+        &*registers,
+        &*predicates,
+        &*held,
+        code,
+        list,
+        table,
+        g,
+    ) {
         Readiness::Refused(n) => Advanced {
             answer: Answer::Refused(n),
             core,
@@ -99,14 +116,18 @@ pub fn advance(
         },
         Readiness::Ready => {
             let mut counts = [0u64; 6];
+            let mut blocks = [0u32; 17];
             let r = bundles(
                 core,
                 &mut *registers,
                 &mut *predicates,
                 &mut *held,
+                &mut blocks,
                 &mut counts,
                 g,
                 code,
+                list,
+                table,
                 &mut *main,
                 &mut *local,
                 &mut *cache,

@@ -1,9 +1,11 @@
 // One bundle: what stands at the fetch address, done or refused.
 ghost use mathlib.Core.Path.{_≡_};
 ghost use mathlib.Core.Bool.{true};
+ghost use mathlib.Core.List.{List};
+ghost use Prim.Native.Nat.{ℕ};
 ghost use lib.ListN.{length};
 ghost use Rattle.settings.specs.Settings.{admits};
-ghost use Rattle.settings.specs.Setup.{found, left, setupOf};
+ghost use Rattle.settings.specs.Setup.{found, left, replaying, setupOf};
 ghost use Rattle.bundle_model.specs.Counts.{Few, countsIn};
 ghost use Rattle.bundle_model.specs.Bundle.{counted, bundle};
 ghost use Rattle.bundle_model.specs.Execute.{foundWhole, handedBack, Kept};
@@ -26,19 +28,20 @@ pub(crate) fn bundle(
     counts: &mut [u64; 6],
     g: Settings,
     code: &[u8],
+    table: &[u8],
     main: &mut [u8],
     local: &mut [u8],
     cache: &mut [u32],
 ) -> Bundled
     requires { ⌜ (admits g ≡ true) × (g .main ≡ length (now main)) × (g .code ≡ length (now code)) × Few 4294967294 (countsIn (now counts)) ⌝ }
-    ensures { λ r. ⌜ Kept (handedBack registers predicates held counts r (left main local cache) ≡ counted (countsIn (now (counts .entry))) (bundle g (setupOf (now (code .entry)) g) (foundWhole registers predicates held core) (found main local cache))) core (r .core) (now (held .entry)) (now (held .exit)) ⌝ }
+    ensures { λ r. ⌜ Kept ((list : List ℕ) → handedBack registers predicates held counts r (left main local cache) ≡ counted (countsIn (now (counts .entry))) (bundle g (replaying list (now (table .entry)) (setupOf (now (code .entry)) g)) (foundWhole registers predicates held core) (found main local cache))) core (r .core) (now (held .entry)) (now (held .exit)) ⌝ }
 {
     let at = core.fetch;
     match fetch(code, at) {
         Fetched::Refused(n) => refused(core, n),
         Fetched::Found { bundle, following } => {
             let specials = core.specials;
-            let one = slot_one(&*registers, &*predicates, specials, at, bundle);
+            let one = slot_one(&*registers, &*predicates, specials, at, table, bundle);
             let two = slot_two(&*registers, &*predicates, bundle);
             execute(
                 core,

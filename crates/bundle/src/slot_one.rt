@@ -10,6 +10,7 @@ ghost use Rattle.bundle_model.specs.Counts.{Few, countsIn};
 ghost use Rattle.bundle_model.specs.Execute.{holding, CarriesOut};
 use crate::stack_moves::do_stack;
 use crate::transfers::do_transfer;
+use crate::transfers::do_trap;
 use bundle_model::Carried;
 use bundle_model::outcome::nothing;
 use bundle_writes::slot_one::do_load;
@@ -82,7 +83,15 @@ pub(crate) fn carry_out(
             delayed,
             transfer,
         ),
-        Effect::Exception => Carried::Refused(10),
+        Effect::Trap { vector, handler } => do_trap(
+            core,
+            &mut *held,
+            &mut *counts,
+            g,
+            code,
+            vector,
+            handler,
+        ),
         _ => nothing(),
     }
 }

@@ -1,4 +1,4 @@
-// Transfers: judged, looked up in the method cache, and counted. Where they go is written with the rest of the state.
+// Transfers and traps: judged, looked up in the method cache, and counted. Where they go is written with the rest of the state.
 ghost use mathlib.Core.Path.{_≡_};
 ghost use mathlib.Core.Bool.{Bool, true};
 ghost use mathlib.Core.List.{List};
@@ -8,12 +8,14 @@ ghost use Rattle.settings.specs.Setup.{Buffers, setupOf};
 ghost use Rattle.bundle_model.specs.Counts.{Few, countsIn};
 ghost use Rattle.bundle_model.specs.Execute.{holding, CarriesOut};
 use crate::counting::add;
+use answers::Verdict;
 use bundle_model::Carried;
 use bundle_model::Counts;
 use bundle_model::outcome::nothing;
 use bundle_writes::extra_cycles;
 use bundle_writes::lookup::look_up_transfer;
 use bundle_writes::slot_one::judge_transfer;
+use bundle_writes::slot_one::judge_trap;
 use core_state::Core;
 use effects::Effect;
 use effects::Transfer;
@@ -49,4 +51,24 @@ pub(crate) fn do_transfer(
         },
     );
     nothing()
+}
+
+// A trap that neither 16 nor 17 refuses is judged, looked up and counted as a call of its handler.
+pub(crate) fn do_trap(
+    core: Core,
+    held: &mut [u32; 17],
+    counts: &mut [u64; 6],
+    g: Settings,
+    code: &[u8],
+    vector: u32,
+    handler: u32,
+) -> Carried
+    requires { ⌜ (admits g ≡ true) × Few 4294967294 (countsIn (now counts)) ⌝ }
+    ensures { λ r. ⌜ ((rs : List ℕ) (ps : List Bool) (b : Buffers) → CarriesOut g (setupOf (now (code .entry)) g) (holding rs ps core held) (Effect.Trap vector handler) r b b held counts) ⌝ }
+{
+    if let Verdict::Refused(n) = judge_trap(core, vector, handler) {
+        return Carried::Refused(n);
+    }
+    let call = Transfer::Call { target: handler };
+    do_transfer(core, &mut *held, &mut *counts, g, code, false, call)
 }

@@ -44,14 +44,15 @@ plus-plus c d e =
       fetched = add-assoc (c .fetched) (d .fetched) (e .fetched) i;
     }
 
--- Counts of at most n bundles: a bundle has 4 cycles, moves 512 words each way, and misses once and fetches 4,096 words at most.
+-- Counts of at most n bundles: a bundle has 4 cycles, moves 512 words each way, and misses twice, for an interrupt and for slot one, and
+-- fetches 8,192 words at most.
 pub record Few (n : ℕ) (c : Counts) : Type 0 where
   pub bundles : c .bundles ≤ n
   pub cycles : c .cycles ≤ 4 * n
   pub spilled : c .spilled ≤ 512 * n
   pub filled : c .filled ≤ 512 * n
-  pub misses : c .misses ≤ n
-  pub fetched : c .fetched ≤ 4096 * n
+  pub misses : c .misses ≤ 2 * n
+  pub fetched : c .fetched ≤ 8192 * n
 
 pub few-none : (n : ℕ) → Few n noCounts
 few-none n = record { bundles = omega arith; cycles = omega arith; spilled = omega arith; filled = omega arith; misses = omega arith; fetched = omega arith }

@@ -93,13 +93,13 @@ loadedBy b (effect.Load k w r a) = loadedValue b k w a
 loadedBy b (effect.Store k w a v) = 0
 loadedBy b (effect.Stack c n m) = 0
 loadedBy b (effect.Transfer d t) = 0
-loadedBy b effect.Exception = 0
+loadedBy b (effect.Trap n handler) = 0
 
 abbrev pub topBy : State → Effect → ℕ
-topBy s = onEffect 0 (λ c n m. topAfter c (s .specials .st) n) (λ d t. 0)
+topBy s = onEffect 0 (λ c n m. topAfter c (s .specials .st) n) (λ d t. 0) (λ n handler. 0)
 
 abbrev pub spillBy : Settings → State → Effect → ℕ
-spillBy g s = onEffect 0 (λ c n m. spillAfter c (g .words) (s .specials .st) (s .specials .ss) n) (λ d t. 0)
+spillBy g s = onEffect 0 (λ c n m. spillAfter c (g .words) (s .specials .st) (s .specials .ss) n) (λ d t. 0) (λ n handler. 0)
 
 unfoldable pub carriedOut : Settings → Setup → State → Effect → Buffers → CarriedOut
 carriedOut g x s one b =
@@ -107,7 +107,7 @@ carriedOut g x s one b =
 
 -- What slot one counts beside the one cycle that every bundle has.
 abbrev pub extraCycles : Effect → ℕ
-extraCycles = onEffect 0 (λ c n m. 0) (λ d t. cond d 0 (undelayedCycles t - 1))
+extraCycles = onEffect 0 (λ c n m. 0) (λ d t. cond d 0 (undelayedCycles t - 1)) (λ n handler. 3)
 
 abbrev pub extraOf : Settings → Setup → State → Effect → Counts
 extraOf g x s e =
@@ -149,7 +149,7 @@ writeDone (effect.Load k w r a) loaded st ss onto = withLoad onto (load.Waits r 
 writeDone (effect.Store k w a v) loaded st ss onto = onto
 writeDone (effect.Stack c n m) loaded st ss onto = withStack onto st ss
 writeDone (effect.Transfer d t) loaded st ss onto = onto
-writeDone effect.Exception loaded st ss onto = onto
+writeDone (effect.Trap n handler) loaded st ss onto = onto
 
 -- The buffers after a number of words below ss were spilled and a number from ss up were filled.
 pub record Moved (lo hi ss j k : ℕ) (main cache main′ cache′ : List ℕ) : Type 0 where

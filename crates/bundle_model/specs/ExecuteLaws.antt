@@ -17,21 +17,21 @@ use Rattle.settings.specs.declared.Settings.{Settings}
 use Rattle.isa.specs.declared.AccessKind.{AccessKind}
 use Rattle.isa.specs.declared.LoadWidth.{LoadWidth}
 use Rattle.isa.specs.declared.StoreWidth.{StoreWidth}
-use Rattle.memory.specs.Access.{storeScale, loadedValue, stored, loadTests, storeTests}
+use Rattle.memory.specs.Access.{storeScale, loadedValue, stored, mainOpen, loadTests, storeTests}
 use Rattle.core_state.specs.State.{State, withHeld, landed, arrived}
 use Rattle.alu_effects.specs.declared.AluEffect.{AluEffect}
 use Rattle.effects.specs.declared.Transfer.{Transfer}
-use Rattle.effects.specs.declared.Transfer.the-variants.{Br, Call, Block}
+use Rattle.effects.specs.declared.Transfer.the-variants.{Br, Call, Block, Xret}
 use Rattle.effects.specs.declared.Effect.{Effect}
 use Rattle.effects.specs.declared.Effect.the-variants as effect
 use Rattle.answers.specs.declared.Verdict.{Verdict}
 use Rattle.answers.specs.declared.Verdict.the-variants.{Fine, Refused}
 use Rattle.answers.specs.Answer.{done, refused}
 use Rattle.answers.specs.Test.{Test, verdict}
-use Rattle.settings.specs.Setup.{Setup, Buffers, buffers}
+use Rattle.settings.specs.Setup.{Setup, replaying, Buffers, buffers}
 use Rattle.bundle_model.specs.declared.Carried.the-variants as carried
 use Rattle.bundle_model.specs.declared.Counts.{Counts}
-use Rattle.bundle_model.specs.Lookup.{lookups, lookupTests, heldBy}
+use Rattle.bundle_model.specs.Lookup.{basesOf, lookups, lookupTests, heldBy}
 use Rattle.bundle_model.specs.Refusal.{effectTests, slotTests}
 use Rattle.bundle_model.specs.Counts.{noCounts, plus, plus-plus}
 use Rattle.core_state.specs.Writes.{writeAlu}
@@ -105,7 +105,7 @@ write-done g b s onto (effect.Load k w r a) = refl
 write-done g b s onto (effect.Store k w a v) = refl
 write-done g b s onto (effect.Stack c n m) = refl
 write-done g b s onto (effect.Transfer d t) = refl
-write-done g b s onto effect.Exception = refl
+write-done g b s onto (effect.Trap n handler) = refl
 
 -- What slot one counts, with the one cycle of every bundle, is what the bundle counts.
 extra-one : (g : Settings) (x : Setup) (s : State) (e : Effect) → plus (extraOf g x s e) oneCycle ≡ countsOf g x s e
@@ -123,6 +123,7 @@ extra-one g x s e =
     undelayed (Br target) = refl
     undelayed (Call target) = refl
     undelayed (Block target base) = refl
+    undelayed (Xret target base) = refl
 
     transferring : (d : Bool) (t : Transfer) → cond d 0 (undelayedCycles t - 1) + 1 ≡ cond d 1 (undelayedCycles t)
     transferring true t = refl
@@ -136,7 +137,7 @@ extra-one g x s e =
     cycles (effect.Store k w a v) = refl
     cycles (effect.Stack c n m) = refl
     cycles (effect.Transfer d t) = transferring d t
-    cycles effect.Exception = refl
+    cycles (effect.Trap n handler) = refl
 
 pub counted-one : (g : Settings) (x : Setup) (s : State) (e : Effect) (c m : Counts) → m ≡ plus c (extraOf g x s e) → plus m oneCycle ≡ plus c (countsOf g x s e)
 counted-one g x s e c m p = ap (λ (y : Counts). plus y oneCycle) p ∙ plus-plus c (extraOf g x s e) oneCycle ∙ ap (plus c) (extra-one g x s e)
@@ -146,6 +147,7 @@ extra-few true t = omega arith
 extra-few false (Br target) = omega arith
 extra-few false (Call target) = omega arith
 extra-few false (Block target base) = omega arith
+extra-few false (Xret target base) = omega arith
 
 -- a bundle by what its slot one was carried out as: refused, or done. The blocks that it finds held are put into a state s.
 module _ (g : Settings) (x : Setup) (t : State) (h : List ℕ) (one : Effect) (two : AluEffect) (following : ℕ) (b b′ : Buffers) where
@@ -205,6 +207,22 @@ module _ (g : Settings) (x : Setup) (t : State) (h : List ℕ) (one : Effect) (t
       ∙ (λ i. outcome done (withHeld (w i) (r i)) (k i) (f .4 i))
       ∙ ap (λ (y : State). outcome done (withHeld y (heldBy x s one)) (plus c (countsOf g x s one)) (buffersAfter g x s one b)) (sym (written-held h g b t one two following))
       ∙ sym (ap (λ (w : Verdict). counted c (refusedOr w s b (outcome done (stateDone g x b s one two following) (countsOf g x s one) (buffersAfter g x s one b)))) (f .0))
+
+-- What is replayed is read before: of a decoded bundle nothing depends on it.
+pub executed-replay : (list table : List ℕ) (g : Settings) (x : Setup) (s : State) (one : Effect) (two : AluEffect) (following : ℕ) (b : Buffers)
+    → executed g x s one two following b ≡ executed g (replaying list table x) s one two following b
+unfolding executed slotTests basesOf buffersAfter stackMoved mainOpen
+executed-replay list table g x s (effect.Alu a) two following b = refl
+executed-replay list table g x s (effect.Special d v) two following b = refl
+executed-replay list table g x s (effect.Product l h) two following b = refl
+executed-replay list table g x s (effect.Load k w r a) two following b = refl
+executed-replay list table g x s (effect.Store k w a v) two following b = refl
+executed-replay list table g x s (effect.Stack c n m) two following b = refl
+executed-replay list table g x s (effect.Transfer d (Br target)) two following b = refl
+executed-replay list table g x s (effect.Transfer d (Call target)) two following b = refl
+executed-replay list table g x s (effect.Transfer d (Block target base)) two following b = refl
+executed-replay list table g x s (effect.Transfer d (Xret target base)) two following b = refl
+executed-replay list table g x s (effect.Trap n handler) two following b = refl
 
 -- What a stack instruction counts, of its plan.
 pub stack-counted : (g : Settings) (x : Setup) (s : State) (c : StackControl) (n : ℕ) (m : Bool) (st′ ss′ j k : ℕ)

@@ -70,13 +70,13 @@ module _ (g : Settings) (x : Setup) (rs : List ℕ) (ps : List Bool) (core : Cor
       ∙ sym (ap (counted (countsIn c)) (bundle-refused g x (withHeld (joined rs ps core) (heldIn w)) b n e))
 
   pub handed-read : (i : Bundle) (following : ℕ) (one : Effect) (two : AluEffect) (o : Outcome) → fetched (x .code) (core .fetch) ≡ fetch.Found i following
-      → one ≡ slotOne (startOf (joined rs ps core)) i → two ≡ slotTwo (startOf (joined rs ps core)) i
+      → one ≡ slotOne (startOf (x .table) (joined rs ps core)) i → two ≡ slotTwo (startOf (x .table) (joined rs ps core)) i
       → o ≡ counted (countsIn c) (executed g x (withHeld (joined rs ps core) (heldIn w)) one two following b)
       → o ≡ counted (countsIn c) (bundle g x (withHeld (joined rs ps core) (heldIn w)) b)
   handed-read i following one two o e p q h =
       h
       ∙ ap (λ (y : Effect). counted (countsIn c) (executed g x (withHeld (joined rs ps core) (heldIn w)) y two following b)) p
-      ∙ ap (λ (y : AluEffect). counted (countsIn c) (executed g x (withHeld (joined rs ps core) (heldIn w)) (slotOne (startOf (joined rs ps core)) i) y following b)) q
+      ∙ ap (λ (y : AluEffect). counted (countsIn c) (executed g x (withHeld (joined rs ps core) (heldIn w)) (slotOne (startOf (x .table) (joined rs ps core)) i) y following b)) q
       ∙ sym (ap (counted (countsIn c)) (bundle-found g x (withHeld (joined rs ps core) (heldIn w)) b i following e))
 
 -- An outcome by equal counts.

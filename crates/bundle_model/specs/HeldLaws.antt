@@ -12,7 +12,7 @@ use Rattle.settings.specs.Setup.{Buffers}
 use Rattle.alu_effects.specs.declared.AluEffect.{AluEffect}
 use Rattle.alu_effects.specs.declared.AluEffect.the-variants as alu
 use Rattle.effects.specs.declared.Transfer.{Transfer}
-use Rattle.effects.specs.declared.Transfer.the-variants.{Br, Call, Block}
+use Rattle.effects.specs.declared.Transfer.the-variants.{Br, Call, Block, Xret}
 use Rattle.effects.specs.declared.Effect.{Effect}
 use Rattle.effects.specs.declared.Effect.the-variants as effect
 use Rattle.products.specs.declared.Product.{Product}
@@ -21,7 +21,7 @@ use Rattle.core_state.specs.declared.WaitingTransfer.{WaitingTransfer}
 use Rattle.core_state.specs.declared.WaitingTransfer.the-variants as transfer
 use Rattle.core_state.specs.declared.WaitingLoad.{WaitingLoad}
 use Rattle.core_state.specs.declared.WaitingLoad.the-variants as load
-use Rattle.core_state.specs.State.{State, withRegister, withPredicate, withSpecial, withHeld, withProducts, withArrival, landing, landed, arrived, goingOn, transferred}
+use Rattle.core_state.specs.State.{State, withRegister, withPredicate, withSpecial, withHeld, withProducts, withArrival, landing, landed, arrived, goingOn, transferred, entered}
 use Rattle.core_state.specs.Writes.{writeAlu, nearer, begun}
 use Rattle.bundle_model.specs.Bundle.{writeOne, onward, written}
 
@@ -70,13 +70,18 @@ module _ (h : List ℕ) where
   one-held g b from (effect.Store k w a v) onto = refl
   one-held g b from (effect.Stack c n m) onto = refl
   one-held g b from (effect.Transfer d t) onto = refl
-  one-held g b from effect.Exception onto = refl
+  one-held g b from (effect.Trap n handler) onto = refl
 
   transferred-held : (s : State) (t : Transfer) (following : ℕ) → transferred (withHeld s h) t following ≡ withHeld (transferred s t following) h
   unfolding transferred
   transferred-held s (Br target) following = refl
   transferred-held s (Call target) following = refl
   transferred-held s (Block target base) following = refl
+  transferred-held s (Xret target base) following = refl
+
+  entered-held : (s : State) (handler back : ℕ) → entered (withHeld s h) handler back ≡ withHeld (entered s handler back) h
+  unfolding entered
+  entered-held s handler back = refl
 
   nearer-held : (w : WaitingTransfer) (following : ℕ) (s : State) → nearer w following (withHeld s h) ≡ withHeld (nearer w following s) h
   nearer-held transfer.Nothing following s = refl
@@ -99,7 +104,7 @@ module _ (h : List ℕ) where
   onward-held (effect.Store k z a v) w following s = nearer-held w following s
   onward-held (effect.Stack c n m) w following s = nearer-held w following s
   onward-held (effect.Transfer d t) w following s = begun-held d t following s
-  onward-held effect.Exception w following s = nearer-held w following s
+  onward-held (effect.Trap n handler) w following s = entered-held s handler following
 
   -- What a bundle writes onto a state that holds these blocks.
   pub written-held : (g : Settings) (b : Buffers) (s : State) (one : Effect) (two : AluEffect) (following : ℕ)

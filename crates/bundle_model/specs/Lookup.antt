@@ -9,7 +9,7 @@ use Rattle.method_cache.specs.declared.Method.{Method}
 use Rattle.method_cache.specs.MethodCache.{badBlock, heldAfter, misses, wordsFetched}
 use Rattle.settings.specs.Setup.{Setup}
 use Rattle.effects.specs.declared.Transfer.{Transfer}
-use Rattle.effects.specs.declared.Transfer.the-variants.{Br, Call, Block}
+use Rattle.effects.specs.declared.Transfer.the-variants.{Br, Call, Block, Xret}
 use Rattle.effects.specs.declared.Effect.{Effect}
 use Rattle.effects.specs.Effect.{onEffect}
 use Rattle.core_state.specs.State.{State}
@@ -18,15 +18,17 @@ use Rattle.core_state.specs.State.{State}
 abbrev pub lookedUp : Setup → ℕ → ℕ → List ℕ
 lookedUp x target base = cond (x .method .on && not (eqb target (length (x .code)))) (base ∷ []) []
 
--- The base is the new one: of a call its target, of brcf its base operand, of ret the srb that it read. br looks nothing up.
+-- The base is the new one: of a call its target, of brcf its base operand, of ret the srb and of xret the sxb that it read. br looks
+-- nothing up.
 unfoldable pub basesOf : Setup → Transfer → List ℕ
 basesOf x (Br target) = []
 basesOf x (Call target) = lookedUp x target target
 basesOf x (Block target base) = lookedUp x target base
+basesOf x (Xret target base) = lookedUp x target base
 
--- What slot one looks up, in its own bundle: a transfer that is executed, delayed or not.
+-- What slot one looks up, in its own bundle: a transfer that is executed, delayed or not, and a trap its handler as a call its target.
 abbrev pub lookups : Setup → Effect → List ℕ
-lookups x = onEffect [] (λ c n m. []) (λ d t. basesOf x t)
+lookups x = onEffect [] (λ c n m. []) (λ d t. basesOf x t) (λ n handler. basesOf x (Call handler))
 
 -- 13 of each base that is looked up.
 unfoldable pub lookupTests : Method → List ℕ → List ℕ → List Test

@@ -12,14 +12,14 @@ use Rattle.method_cache.specs.Words.{heldIn, wordsAfter, FixedHeld}
 use Rattle.method_cache.specs.WordLaws.{held-few, looked-back, looked-fixed}
 use Rattle.settings.specs.Setup.{Setup}
 use Rattle.effects.specs.declared.Transfer.{Transfer}
-use Rattle.effects.specs.declared.Transfer.the-variants.{Br, Call, Block}
+use Rattle.effects.specs.declared.Transfer.the-variants.{Br, Call, Block, Xret}
 use Rattle.effects.specs.declared.Effect.{Effect}
 use Rattle.effects.specs.declared.Effect.the-variants as effect
 use Rattle.bundle_model.specs.Lookup.{lookedUp, basesOf, lookups}
 
 -- What holds of no base, and of one while the cache is on, holds of what slot one looks up.
 module _ (P : List ℕ → Type 0) (x : Setup) (none : P []) (one : (base : ℕ) → x .method .on ≡ true → P (base ∷ [])) where
-  looked-cases : (target base : ℕ) → P (lookedUp x target base)
+  pub looked-cases : (target base : ℕ) → P (lookedUp x target base)
   looked-cases target base = go (x .method .on && not (eqb target (length (x .code)))) refl
     where
       go : (t : Bool) → x .method .on && not (eqb target (length (x .code))) ≡ t → P (cond t (base ∷ []) [])
@@ -31,6 +31,7 @@ module _ (P : List ℕ → Type 0) (x : Setup) (none : P []) (one : (base : ℕ)
   bases-cases (Br target) = none
   bases-cases (Call target) = looked-cases target target
   bases-cases (Block target base) = looked-cases target base
+  bases-cases (Xret target base) = looked-cases target base
 
   pub lookups-cases : (e : Effect) → P (lookups x e)
   lookups-cases (effect.Alu a) = none
@@ -40,7 +41,7 @@ module _ (P : List ℕ → Type 0) (x : Setup) (none : P []) (one : (base : ℕ)
   lookups-cases (effect.Store k w a v) = none
   lookups-cases (effect.Stack c n m) = none
   lookups-cases (effect.Transfer d t) = bases-cases t
-  lookups-cases effect.Exception = none
+  lookups-cases (effect.Trap n handler) = bases-cases (Call handler)
 
 -- The words of the blocks held say what is held after a transfer's lookups, and keep their one form.
 module _ (x : Setup) (w : List ℕ) (ok : capacityOk (x .method) ≡ true) (long : length w ≡ 17) (t : Transfer) where

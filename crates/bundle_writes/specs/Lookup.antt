@@ -14,7 +14,7 @@ use Rattle.method_cache.specs.Words.{heldIn, FixedHeld, lookedWords, wordsAfter
 use Rattle.settings.specs.declared.Settings.{Settings}
 use Rattle.settings.specs.Setup.{setupOf}
 use Rattle.effects.specs.declared.Transfer.{Transfer}
-use Rattle.effects.specs.declared.Transfer.the-variants.{Br, Call, Block}
+use Rattle.effects.specs.declared.Transfer.the-variants.{Br, Call, Block, Xret}
 use Rattle.core_state.specs.declared.WaitingTransfer.{WaitingTransfer}
 use Rattle.core_state.specs.State.{noneWaits}
 use Rattle.bundle_model.specs.declared.Carried.{Carried}
@@ -28,6 +28,7 @@ abbrev pub newBase : Transfer → ℕ
 newBase (Br target) = 0
 newBase (Call target) = target
 newBase (Block target base) = base
+newBase (Xret target base) = base
 
 -- A transfer that is judged has nothing else to tell.
 abbrev pub judgedAs : Verdict → Carried

@@ -1,23 +1,27 @@
--- A transfer carried out: judged by 4 and 13, looked up, and counted.
+-- A transfer and a trap carried out: judged, looked up, and counted.
 use Prim.Native.Nat.{ℕ}
-use mathlib.Core.Bool.{Bool, true, not}
-use mathlib.Core.List.{List, _∷_}
+use mathlib.Core.Bool.{Bool, true, false, not}
+use mathlib.Core.List.{List, [], _∷_}
 use mathlib.Core.Path.{_≡_, refl, sym, ap, subst, _∙_}
 use Rattle.answers.specs.declared.Verdict.{Verdict}
 use Rattle.answers.specs.declared.Verdict.the-variants.{Fine, Refused}
-use Rattle.answers.specs.Test.{test, verdict}
+use Rattle.answers.specs.Test.{Test, test, verdict}
+use Rattle.answers.specs.TestLaws.{andThen, verdict-append}
 use Rattle.method_cache.specs.declared.Looked.{Looked}
 use Rattle.method_cache.specs.MethodCache.{capacityOk}
 use Rattle.method_cache.specs.Words.{heldIn}
 use Rattle.settings.specs.declared.Settings.{Settings}
 use Rattle.settings.specs.Setup.{Setup, Buffers, setupOf}
 use Rattle.effects.specs.declared.Transfer.{Transfer}
+use Rattle.effects.specs.declared.Transfer.the-variants.{Call}
+use Rattle.effects.specs.declared.Effect.{Effect}
 use Rattle.effects.specs.declared.Effect.the-variants as effect
 use Rattle.core_state.specs.State.{State, withHeld, noneWaits}
 use Rattle.bundle_model.specs.declared.Carried.{Carried}
+use Rattle.bundle_model.specs.declared.Carried.the-variants as carried
 use Rattle.bundle_model.specs.declared.Counts.{Counts}
 use Rattle.bundle_model.specs.Lookup.{basesOf, lookupTests}
-use Rattle.bundle_model.specs.Refusal.{slotTests}
+use Rattle.bundle_model.specs.Refusal.{noHandler, slotTests}
 use Rattle.bundle_model.specs.Counts.{plus, countsIn}
 use Rattle.bundle_model.specs.Bundle.{buffersAfter}
 use Rattle.bundle_model.specs.Execute.{plainly, carriedAs, unlessRefused, carriedOut, extraCycles, Tallied}
@@ -48,3 +52,23 @@ transfer-tallied g code s delayed t w v c d r cycles looked e ok l p q =
       counts = q ∙ (λ i. plus (countsIn c) (record { bundles = 0; cycles = p i; spilled = 0; filled = 0; misses = l .misses i; fetched = l .fetched i }));
       fixed = l .fixed ok;
     })
+
+-- A trap: refused by 16 or 17, or carried out as a call of its handler, whose tests come behind those two.
+module _ (g : Settings) (x : Setup) (s : State) (vector handler : ℕ) (b : Buffers) where
+  abbrev own : List Test
+  own = test 16 (s .further .replay .active) ∷ test 17 (noHandler vector handler) ∷ []
+
+  abbrev call : Effect
+  call = effect.Transfer false (Call handler)
+
+  judged : verdict (slotTests g x s (effect.Trap vector handler)) ≡ andThen (verdict own) (verdict (slotTests g x s call))
+  unfolding slotTests
+  judged = verdict-append own (slotTests g x s call)
+
+  pub trap-refused : (n : ℕ) → verdict own ≡ Refused n → carriedAs (carried.Refused n) b ≡ carriedOut g x s (effect.Trap vector handler) b
+  unfolding carriedOut buffersAfter
+  trap-refused n e = sym (ap (λ (v : Verdict). unlessRefused v b (carriedAs plainly b)) (judged ∙ ap (λ (v : Verdict). andThen v (verdict (slotTests g x s call))) e))
+
+  pub trap-carried : verdict own ≡ Fine → carriedOut g x s call b ≡ carriedOut g x s (effect.Trap vector handler) b
+  unfolding carriedOut buffersAfter
+  trap-carried e = sym (ap (λ (v : Verdict). unlessRefused v b (carriedAs plainly b)) (judged ∙ ap (λ (v : Verdict). andThen v (verdict (slotTests g x s call))) e))

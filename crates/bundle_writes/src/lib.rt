@@ -53,14 +53,15 @@ fn write_one(
     }
 }
 
-// The end of a bundle: its own transfer begins, or one that waits comes nearer.
+// The end of a bundle: its own transfer begins, its trap enters the handler, or a transfer that waits comes nearer.
 fn onward(core: Core, one: Effect, waiting: TransferWords, following: u32) -> Core
     ensures { λ r. ⌜ Written ((rs : List ℕ) (ps : List Bool) → joined rs ps r ≡ onward one (waitingTransfer waiting) following (joined rs ps core)) r (onwardWords one waiting) (core .load) (core .products) ⌝ }
 {
-    if let Effect::Transfer { delayed, transfer } = one {
-        return core.begin(delayed, transfer, following);
+    match one {
+        Effect::Transfer { delayed, transfer } => core.begin(delayed, transfer, following),
+        Effect::Trap { vector: _, handler } => core.enter(handler, following),
+        _ => core.nearer(waiting, following),
     }
-    core.nearer(waiting, following)
 }
 
 // The order of the writes: the load that waited, the product that falls due, slot one, slot two, and a transfer that falls due.
@@ -95,5 +96,6 @@ pub fn extra_cycles(delayed: bool, t: Transfer) -> u64
         Transfer::Br { target: _ } => 2,
         Transfer::Call { target: _ } => 3,
         Transfer::Block { target: _, base: _ } => 3,
+        Transfer::Xret { target: _, base: _ } => 3,
     }
 }

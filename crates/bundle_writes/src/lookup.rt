@@ -22,10 +22,11 @@ fn new_base(t: Transfer) -> u32
         Transfer::Br { target: _ } => 0,
         Transfer::Call { target } => target,
         Transfer::Block { target: _, base } => base,
+        Transfer::Xret { target: _, base } => base,
     }
 }
 
-// Whether a transfer looks up a block: while the cache is on, a call or a block transfer whose target is not the code's end.
+// Whether a transfer looks up a block: while the cache is on, each but br whose target is not the code's end.
 fn looks_up(g: Settings, code: &[u8], t: Transfer) -> bool
     ensures { λ r. ⌜ cond r (newBase t ∷ []) [] ≡ basesOf (setupOf (now (code .entry)) g) t ⌝ }
 {
@@ -34,11 +35,12 @@ fn looks_up(g: Settings, code: &[u8], t: Transfer) -> bool
         Transfer::Br { target: _ } => false,
         Transfer::Call { target } => method.on & (target as usize != code.len()),
         Transfer::Block { target, base: _ } => method.on & (target as usize != code.len()),
+        Transfer::Xret { target, base: _ } => method.on & (target as usize != code.len()),
     }
 }
 
 // 13 of what a transfer looks up.
-pub(crate) fn judge_lookup(g: Settings, code: &[u8], t: Transfer) -> Verdict
+pub fn judge_lookup(g: Settings, code: &[u8], t: Transfer) -> Verdict
     ensures { λ r. ⌜ r ≡ verdict (lookupTests (g .method) (now (code .entry)) (basesOf (setupOf (now (code .entry)) g) t)) ⌝ }
 {
     let method = g.method;

@@ -1,10 +1,11 @@
 // Slot one carried out on the stores, stack instructions aside: judged whole, and then done.
 ghost use mathlib.Core.Path.{_≡_};
 ghost use mathlib.Core.Bool.{not};
-ghost use mathlib.Core.List.{List, _∷_};
+ghost use mathlib.Core.List.{List, [], _∷_};
 ghost use Prim.Native.Nat.{ℕ, _^_};
 ghost use Rattle.answers.specs.Test.{test, verdict};
 ghost use Rattle.bundle_model.specs.Lookup.{basesOf, lookupTests};
+ghost use Rattle.bundle_model.specs.Refusal.{noHandler};
 ghost use Rattle.bundle_writes.specs.Lookup.{judgedAs};
 ghost use Rattle.settings.specs.Setup.{found, left, setupOf};
 ghost use Rattle.memory.specs.Access.{storeScale, loadedValue, loadTests, stored, storeTests};
@@ -77,6 +78,19 @@ pub fn do_store(
         value,
     );
     nothing()
+}
+
+// A trap is refused while a handler is active, and then where it has no handler.
+pub fn judge_trap(core: Core, vector: u32, handler: u32) -> Verdict
+    ensures { λ r. ⌜ r ≡ verdict (test 16 (core .replay .active) ∷ test 17 (noHandler vector handler) ∷ []) ⌝ }
+{
+    if core.replay.active {
+        return Verdict::Refused(16);
+    }
+    if (31 < vector) | (handler == 0) {
+        return Verdict::Refused(17);
+    }
+    Verdict::Fine
 }
 
 // A transfer is refused while one waits, and then by what its lookup asks.

@@ -20,7 +20,11 @@ use Rattle.case_file.specs.declared.Line.the-variants as Line
 use Rattle.case_file.specs.declared.Resumption.{Resumption}
 use Rattle.case_file.specs.declared.Resumption.the-variants as Resumption
 use Rattle.case_file.specs.declared.Room.the-variants as Room
+use Rattle.case_file.specs.declared.Reason.{Reason}
 use Rattle.case_file.specs.declared.Reason.the-variants as Reason
+use Rattle.case_file.specs.declared.ReplayLine.the-variants as ReplayLine
+use Rattle.case_file.specs.declared.ThreeNumbers.{ThreeNumbers}
+use Rattle.case_file.specs.declared.ThreeNumbers.the-variants as ThreeNumbers
 use Rattle.case_file.specs.declared.TwoNumbers.{TwoNumbers}
 use Rattle.case_file.specs.declared.TwoNumbers.the-variants as TwoNumbers
 use Rattle.case_words.specs.Names.{keywordOf, transferKindOf, specialNameOf, isSpecial}
@@ -83,6 +87,11 @@ withRoom asked n = recordRoom n (Line.Resume asked (Room.Bytes n))
 abbrev pub roomAfter : List ℕ → ℕ → Resumption → Line
 roomAfter line at asked = cond (isEnd line at) (Line.Resume asked Room.Longest) (number line at (λ n at. end line at (withRoom asked n)))
 
+-- What a line says whose number has a greatest value. There are 32 vectors; only `handler` is held to that here, since a list with
+-- another one is refused by the machine. What is handed in of the list has at most 65,536 bytes, and of the table 256.
+abbrev pub within : ℕ → ℕ → Reason → Line → Line
+within most n otherwise said = cond (leb n most) said (Line.Mistake otherwise)
+
 -- The lines of one number.
 abbrev pub ofNumber : OneNumber → ℕ → Line
 ofNumber OneNumber.Main bytes = Line.Main bytes
@@ -92,6 +101,10 @@ ofNumber OneNumber.Fetch address = Line.Fetch address
 ofNumber OneNumber.Base address = Line.Base address
 ofNumber OneNumber.Run budget = Line.Run budget
 ofNumber OneNumber.RecordBytes n = recordBytes n
+ofNumber OneNumber.ListBytes n = within 65536 n Reason.TooMuchReplay (Line.Replay (ReplayLine.ListBytes n))
+ofNumber OneNumber.TableBytes n = within 256 n Reason.TooMuchReplay (Line.Replay (ReplayLine.TableBytes n))
+ofNumber OneNumber.Place n = Line.Replay (ReplayLine.Place n)
+ofNumber OneNumber.Replayed n = Line.Replay (ReplayLine.Done n)
 
 -- The lines of a number and a word. Whether a place is inside its memory is judged at the case's first operation.
 abbrev pub ofWord : NumberAndWord → ℕ → ℕ → Line
@@ -107,12 +120,21 @@ ofTwo TwoNumbers.Pred n bit = pred n bit
 ofTwo TwoNumbers.Br target wait = Line.Br target wait
 ofTwo TwoNumbers.Call target wait = Line.Call target wait
 ofTwo TwoNumbers.Method blocks bytes = Line.Method blocks bytes
+ofTwo TwoNumbers.Interrupt n vector = Line.Replay (ReplayLine.Interrupt n vector)
+ofTwo TwoNumbers.Handler vector address = within 31 vector Reason.NoSuchVector (Line.Replay (ReplayLine.Handler vector address))
+
+-- The lines of three numbers.
+abbrev pub ofThree : ThreeNumbers → ℕ → ℕ → ℕ → Line
+ofThree ThreeNumbers.Stack words lo hi = Line.Stack words lo hi
+ofThree ThreeNumbers.Block target base wait = Line.Block target base wait
+ofThree ThreeNumbers.Xret target base wait = Line.Xret target base wait
 
 -- The waiting transfer, by its kind: TARGET and WAIT, or TARGET, BASE and WAIT.
 unfoldable pub transfer : List ℕ → ℕ → TransferKind → Line
 transfer line at TransferKind.Br = twoNumbers line at (ofTwo TwoNumbers.Br)
 transfer line at TransferKind.Call = twoNumbers line at (ofTwo TwoNumbers.Call)
 transfer line at TransferKind.Block = threeNumbers line at Line.Block
+transfer line at TransferKind.Xret = threeNumbers line at Line.Xret
 transfer line at TransferKind.Unknown = Line.Mistake Reason.NoSuchTransfer
 
 -- What a line says by the fields after its keyword.
@@ -142,6 +164,9 @@ lineAfter line at Keyword.Record = list line at (Line.Record at)
 lineAfter line at Keyword.Save = end line at Line.Save
 lineAfter line at Keyword.Resume = number line at (λ budget at. roomAfter line at (Resumption.Run budget))
 lineAfter line at Keyword.Restep = roomAfter line at Resumption.Step
+lineAfter line at Keyword.Interrupt = twoNumbers line at (ofTwo TwoNumbers.Interrupt)
+lineAfter line at Keyword.Handler = twoNumbers line at (ofTwo TwoNumbers.Handler)
+lineAfter line at Keyword.Active = end line at (Line.Replay ReplayLine.Active)
 lineAfter line at Keyword.Unknown = Line.Mistake Reason.UnknownWord
 
 -- What a line says: nothing, or by its first field.

@@ -4,9 +4,10 @@ use mathlib.Core.List.{List, [], _∷_}
 use mathlib.Core.Path.{_≡_, refl}
 use Prim.Native.String as Text
 use Rattle.case_file.specs.declared.Line.{Line}
-use Rattle.case_file.specs.declared.Line.the-variants.{Empty, Mistake, Case, Code, Private, Main, Local, Stack, Entry, Fetch, Base, Reg, Pred, Special, Br, Call, Block, Load, MainWord, LocalWord, CacheWord, Run, Step, Check, Write, Listing, Product, Method, Held, Record, RecordBytes, Save, Resume}
+use Rattle.case_file.specs.declared.Line.the-variants.{Empty, Mistake, Case, Code, Private, Main, Local, Stack, Entry, Fetch, Base, Reg, Pred, Special, Br, Call, Block, Load, MainWord, LocalWord, CacheWord, Run, Step, Check, Write, Listing, Product, Method, Held, Record, RecordBytes, Save, Resume, Xret, Replay}
 use Rattle.case_words.specs.declared.SpecialName.the-variants.{Sro}
 use Rattle.case_file.specs.declared.Resumption.the-variants as Resumption
+use Rattle.case_file.specs.declared.ReplayLine.the-variants as ReplayLine
 use Rattle.case_file.specs.declared.Room.the-variants as Room
 use Rattle.case_file.specs.declared.Reason.the-variants as Reason
 use Rattle.text.specs.Field.{spaces, fieldLength, fieldFrom, sameBytes, isNameByte, areNameBytes, isName}
@@ -63,6 +64,14 @@ rows =
     ∷ ("resume 4294967295 388", Resume (Resumption.Run 4294967295) (Room.Bytes 388))
     ∷ ("restep", Resume Resumption.Step Room.Longest)
     ∷ ("restep 0", Resume Resumption.Step (Room.Bytes 0))
+    ∷ ("transfer xret 16 8 3", Xret 16 8 3)
+    ∷ ("interrupt 4294967295 32", Replay (ReplayLine.Interrupt 4294967295 32))
+    ∷ ("handler 31 20", Replay (ReplayLine.Handler 31 20))
+    ∷ ("listbytes 65536", Replay (ReplayLine.ListBytes 65536))
+    ∷ ("tablebytes 256", Replay (ReplayLine.TableBytes 256))
+    ∷ ("active", Replay ReplayLine.Active)
+    ∷ ("place 4294967295", Replay (ReplayLine.Place 4294967295))
+    ∷ ("replayed 7", Replay (ReplayLine.Done 7))
     ∷ []
 
 -- Spaces, comments, and what has no meaning.
@@ -96,6 +105,11 @@ others =
     ∷ ("resume", Mistake Reason.FieldMissing)
     ∷ ("resume 5 8193", Mistake Reason.TooMuchRecord)
     ∷ ("restep 388 5", Mistake Reason.FieldTooMany)
+    ∷ ("transfer xret 16 3", Mistake Reason.FieldMissing)
+    ∷ ("handler 32 20", Mistake Reason.NoSuchVector)
+    ∷ ("listbytes 65537", Mistake Reason.TooMuchReplay)
+    ∷ ("tablebytes 257", Mistake Reason.TooMuchReplay)
+    ∷ ("active 1", Mistake Reason.FieldTooMany)
     ∷ []
 
 pub rows-read : saysOf rows ≡ expected rows

@@ -1,6 +1,7 @@
 // Case files: what a line says. Nothing here does what a line asks.
 pub mod arguments;
 pub mod lines;
+mod number_lines;
 mod record_lines;
 
 use case_words::Item;
@@ -62,6 +63,20 @@ pub enum Line {
     RecordBytes(u32),
     Save,
     Resume { asked: Resumption, room: Room },
+    Xret { target: u32, base: u32, wait: u32 },
+    Replay(ReplayLine),
+}
+
+// What a line says of the replay: a record of the list; an entry of the table; how many bytes of either are handed in; and of the first
+// state that a handler is active, the list place, and the bundles done.
+pub enum ReplayLine {
+    Interrupt { number: u32, vector: u32 },
+    Handler { vector: u32, address: u32 },
+    ListBytes(u32),
+    TableBytes(u32),
+    Active,
+    Place(u32),
+    Done(u32),
 }
 
 // What goes on from a record: a run with a budget, or one step.
@@ -82,6 +97,15 @@ pub enum TwoNumbers {
     Br,
     Call,
     Method,
+    Interrupt,
+    Handler,
+}
+
+// The lines of three numbers.
+pub enum ThreeNumbers {
+    Stack,
+    Block,
+    Xret,
 }
 
 // Why a line is a mistake.
@@ -114,4 +138,7 @@ pub enum Reason {
     TooManyProducts,
     TooManyHeld,
     TooMuchRecord,
+    NoSuchVector,
+    TooManyInterrupts,
+    TooMuchReplay,
 }

@@ -1,21 +1,23 @@
 // What a line of a case file says.
 ghost use mathlib.Core.Path.{_≡_};
-ghost use mathlib.Core.Bool.{cond};
-ghost use Rattle.case_file.specs.Line.{end, list, twoNumbers, threeNumbers, reg, pred, ofNumber, ofWord, ofTwo, lineAfter, lineOf};
+ghost use Rattle.case_file.specs.Line.{end, list, reg, ofWord, lineAfter, lineOf};
 use crate::Argument;
 use crate::Line;
 use crate::Reason;
+use crate::ReplayLine;
 use crate::Resumption;
+use crate::ThreeNumbers;
 use crate::TwoNumbers;
 use crate::arguments::ended;
 use crate::arguments::number_field;
 use crate::arguments::word_field;
-use crate::record_lines::record_bytes;
+use crate::number_lines::number_line;
+use crate::number_lines::three_numbers;
+use crate::number_lines::two_numbers;
 use crate::record_lines::resume_line;
 use crate::record_lines::room_line;
 use case_words::Keyword;
 use case_words::NumberAndWord;
-use case_words::OneNumber;
 use case_words::SpecialName;
 use case_words::TransferKind;
 use case_words::first_word;
@@ -59,29 +61,6 @@ fn list_line(line: &[u8], at: usize, said: Line) -> Line
     said
 }
 
-fn of_number(k: OneNumber, n: u32) -> Line
-    ensures { λ r. ⌜ r ≡ ofNumber k n ⌝ }
-{
-    match k {
-        OneNumber::Main => Line::Main(n),
-        OneNumber::Local => Line::Local(n),
-        OneNumber::Entry => Line::Entry(n),
-        OneNumber::Fetch => Line::Fetch(n),
-        OneNumber::Base => Line::Base(n),
-        OneNumber::Run => Line::Run(n),
-        OneNumber::RecordBytes => record_bytes(n),
-    }
-}
-
-fn number_line(line: &[u8], at: usize, k: OneNumber) -> Line
-    ensures { λ r. ⌜ r ≡ lineAfter (now (line .entry)) at (Keyword.OneNumber k) ⌝ }
-{
-    match number_field(line, at) {
-        Argument::Mistake(r) => Line::Mistake(r),
-        Argument::Value { value, next } => whole(line, next, of_number(k, value)),
-    }
-}
-
 fn reg(number: u32, word: u32) -> Line
     ensures { λ r. ⌜ r ≡ reg number word ⌝ }
 {
@@ -118,21 +97,6 @@ fn word_line(line: &[u8], at: usize, k: NumberAndWord) -> Line
     }
 }
 
-fn pred(number: u32, bit: u32) -> Line
-    ensures { λ r. ⌜ r ≡ pred number bit ⌝ }
-{
-    if 7 < number {
-        return Line::Mistake(Reason::NoSuchPredicate);
-    }
-    if 1 < bit {
-        return Line::Mistake(Reason::NotABit);
-    }
-    Line::Pred {
-        number,
-        value: bit == 1,
-    }
-}
-
 fn special_line(line: &[u8], at: usize) -> Line
     ensures { λ r. ⌜ r ≡ lineAfter (now (line .entry)) at Keyword.Special ⌝ }
 {
@@ -152,65 +116,6 @@ fn special_line(line: &[u8], at: usize) -> Line
     }
 }
 
-fn of_three(stack: bool, a: u32, b: u32, c: u32) -> Line
-    ensures { λ r. ⌜ r ≡ cond stack (Line.Stack a b c) (Line.Block a b c) ⌝ }
-{
-    if stack {
-        return Line::Stack {
-            words: a,
-            lo: b,
-            hi: c,
-        };
-    }
-    Line::Block {
-        target: a,
-        base: b,
-        wait: c,
-    }
-}
-
-// The stack line, and a transfer of kind block: three numbers.
-fn three_numbers(line: &[u8], at: usize, stack: bool) -> Line
-    ensures { λ r. ⌜ r ≡ threeNumbers (now (line .entry)) at (λ a b c. cond stack (Line.Stack a b c) (Line.Block a b c)) ⌝ }
-{
-    match number_field(line, at) {
-        Argument::Mistake(r) => Line::Mistake(r),
-        Argument::Value { value: a, next } => match number_field(line, next) {
-            Argument::Mistake(r) => Line::Mistake(r),
-            Argument::Value { value: b, next } => match number_field(line, next) {
-                Argument::Mistake(r) => Line::Mistake(r),
-                Argument::Value { value: c, next } => whole(line, next, of_three(stack, a, b, c)),
-            },
-        },
-    }
-}
-
-fn of_two(k: TwoNumbers, a: u32, b: u32) -> Line
-    ensures { λ r. ⌜ r ≡ ofTwo k a b ⌝ }
-{
-    match k {
-        TwoNumbers::Pred => pred(a, b),
-        TwoNumbers::Br => Line::Br { target: a, wait: b },
-        TwoNumbers::Call => Line::Call { target: a, wait: b },
-        TwoNumbers::Method => Line::Method {
-            blocks: a,
-            bytes: b,
-        },
-    }
-}
-
-fn two_numbers(line: &[u8], at: usize, k: TwoNumbers) -> Line
-    ensures { λ r. ⌜ r ≡ twoNumbers (now (line .entry)) at (ofTwo k) ⌝ }
-{
-    match number_field(line, at) {
-        Argument::Mistake(r) => Line::Mistake(r),
-        Argument::Value { value: a, next } => match number_field(line, next) {
-            Argument::Mistake(r) => Line::Mistake(r),
-            Argument::Value { value: b, next } => whole(line, next, of_two(k, a, b)),
-        },
-    }
-}
-
 fn transfer_line(line: &[u8], at: usize) -> Line
     ensures { λ r. ⌜ r ≡ lineAfter (now (line .entry)) at Keyword.Transfer ⌝ }
 {
@@ -223,7 +128,8 @@ fn transfer_line(line: &[u8], at: usize) -> Line
     match transfer_kind(&line[start..end]) {
         TransferKind::Br => two_numbers(line, end, TwoNumbers::Br),
         TransferKind::Call => two_numbers(line, end, TwoNumbers::Call),
-        TransferKind::Block => three_numbers(line, end, false),
+        TransferKind::Block => three_numbers(line, end, ThreeNumbers::Block),
+        TransferKind::Xret => three_numbers(line, end, ThreeNumbers::Xret),
         TransferKind::Unknown => Line::Mistake(Reason::NoSuchTransfer),
     }
 }
@@ -255,7 +161,7 @@ fn after_keyword(line: &[u8], at: usize, k: Keyword) -> Line
         Keyword::Case => case_line(line, at),
         Keyword::Code => list_line(line, at, Line::Code { list: at }),
         Keyword::OneNumber(k) => number_line(line, at, k),
-        Keyword::Stack => three_numbers(line, at, true),
+        Keyword::Stack => three_numbers(line, at, ThreeNumbers::Stack),
         Keyword::Private => list_line(line, at, Line::Private { list: at }),
         Keyword::NumberAndWord(k) => word_line(line, at, k),
         Keyword::Pred => two_numbers(line, at, TwoNumbers::Pred),
@@ -272,6 +178,9 @@ fn after_keyword(line: &[u8], at: usize, k: Keyword) -> Line
         Keyword::Save => whole(line, at, Line::Save),
         Keyword::Resume => resume_line(line, at),
         Keyword::Restep => room_line(line, at, Resumption::Step),
+        Keyword::Interrupt => two_numbers(line, at, TwoNumbers::Interrupt),
+        Keyword::Handler => two_numbers(line, at, TwoNumbers::Handler),
+        Keyword::Active => whole(line, at, Line::Replay(ReplayLine::Active)),
         Keyword::Unknown => Line::Mistake(Reason::UnknownWord),
     }
 }

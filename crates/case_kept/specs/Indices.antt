@@ -1,12 +1,12 @@
 -- Where each of the kept numbers stands, under the names of the code, with `-` for `_`.
 use Prim.Native.Nat.{ℕ}
 
--- How many numbers are kept, and where those end that are cleared for a new case.
+-- How many numbers are kept, and where those end that are cleared for a new case. Of those behind only INTERRUPTS is.
 abbrev pub ALL : ℕ
-ALL = 152400
+ALL = 160600
 
 abbrev pub CASE-END : ℕ
-CASE-END = 281
+CASE-END = 301
 
 -- The lengths of code and memories, the stack cache's words, the stack area, and the entry.
 abbrev pub CODE : ℕ
@@ -53,6 +53,9 @@ CALL = 2
 
 abbrev pub BLOCK : ℕ
 BLOCK = 3
+
+abbrev pub XRET : ℕ
+XRET = 4
 
 abbrev pub TARGET : ℕ
 TARGET = 18
@@ -124,7 +127,34 @@ abbrev pub RECORD-BYTES : ℕ
 RECORD-BYTES = 208
 
 abbrev pub RECORD : ℕ
-RECORD = 280
+RECORD = 300
+
+-- The replay: whether a line says something of it; of the state whether a handler is active, the list place and the bundles done; how
+-- many bytes of the list and of the table are handed in; the table's 32 addresses. Of the list how many numbers it has, two for each
+-- record, and behind that the numbers.
+abbrev pub REPLAYS : ℕ
+REPLAYS = 215
+
+abbrev pub ACTIVE : ℕ
+ACTIVE = 216
+
+abbrev pub PLACE : ℕ
+PLACE = 217
+
+abbrev pub DONE : ℕ
+DONE = 218
+
+abbrev pub LIST-BYTES : ℕ
+LIST-BYTES = 219
+
+abbrev pub TABLE-BYTES : ℕ
+TABLE-BYTES = 220
+
+abbrev pub TABLE : ℕ
+TABLE = 224
+
+abbrev pub INTERRUPTS : ℕ
+INTERRUPTS = 152400
 
 -- How far the places of each store reach, how many are noted, the number of the line, the phase, and the notes.
 abbrev pub REACH : ℕ
@@ -134,10 +164,10 @@ abbrev pub NOTED : ℕ
 NOTED = 179
 
 abbrev pub LINE : ℕ
-LINE = 2330
+LINE = 2350
 
 abbrev pub PHASE : ℕ
-PHASE = 2331
+PHASE = 2351
 
 -- The phase of a report that has ended.
 abbrev pub STOPPED : ℕ

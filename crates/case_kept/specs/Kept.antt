@@ -4,7 +4,7 @@ use mathlib.Core.Bool.{Bool, true, false, not, cond}
 use mathlib.Core.List.{List, [], _∷_, _++_}
 use lib.ListN.{getD, set}
 use lib.Dec.{eqb, ltb}
-use Rattle.case_kept.specs.Indices.{ALL, CASE-END, WORDS, PREDICATES}
+use Rattle.case_kept.specs.Indices.{ALL, CASE-END, WORDS, PREDICATES, INTERRUPTS}
 
 -- There are ALL numbers. At another index nothing is read or written.
 abbrev pub keptNumber : List ℕ → ℕ → ℕ
@@ -45,4 +45,4 @@ putEach first (suc n) f kept = put (putEach first n f kept) (first + n) (f n)
 
 -- A case that nothing is said of: without a stack line its cache has 16 words, and p0 of a fresh state is true.
 unfoldable pub forgotten : List ℕ → List ℕ
-forgotten kept = put (put (putEach 0 CASE-END (λ i. 0) kept) WORDS 16) PREDICATES 1
+forgotten kept = put (put (put (putEach 0 CASE-END (λ i. 0) kept) WORDS 16) PREDICATES 1) INTERRUPTS 0

@@ -24,6 +24,13 @@ pub type Record = [u8; 8192];
 
 pub const RECORD_ROOM: usize = 8192;
 
+// The list of interrupts as bytes, which is as long as a memory may be, and the table of handlers.
+pub const LIST_ROOM: usize = 65536;
+
+pub type Table = [u8; 256];
+
+pub const TABLE_ROOM: usize = 256;
+
 // What a line of the file has to report, before it is written out. The longest report is that of an operation which changes every
 // word of both memories and of the stack cache: some 683,000 bytes.
 pub type Report = [u8; 1048576];

@@ -4,9 +4,9 @@ ghost use mathlib.Core.Path.{_≡_};
 ghost use Prim.Native.Nat.{_+_};
 ghost use Rattle.case_kept.specs.Kept.{keptNumber, keptWord, isSet, put, flag as flagOf, keptFlags, forgotten};
 
-pub const ALL: usize = 152400;
+pub const ALL: usize = 160600;
 
-pub type Kept = [u64; 152400];
+pub type Kept = [u64; 160600];
 
 // Lengths are in bytes, WORDS is the number of stack cache words.
 pub const CODE: usize = 0;
@@ -40,6 +40,8 @@ pub const BR: u64 = 1;
 pub const CALL: u64 = 2;
 
 pub const BLOCK: u64 = 3;
+
+pub const XRET: u64 = 4;
 
 pub const TARGET: usize = 18;
 
@@ -98,18 +100,41 @@ pub const RECORD_BYTES: usize = 208;
 // The six counts of the last run or step, in the order of the report.
 pub const COUNTS: usize = 209;
 
+// Whether a line says something of the replay. The numbers of the state behind it are changed by operations, and do not tell that.
+pub const REPLAYS: usize = 215;
+
+// Whether a handler is active, the list place, and the bundles done in the replay.
+pub const ACTIVE: usize = 216;
+
+pub const PLACE: usize = 217;
+
+pub const DONE: usize = 218;
+
+// How many bytes of the list and of the table are handed in, if a line gives that. Where GIVEN tells it of ACTIVE to TABLE_BYTES, from
+// index 280 on, nothing else stands.
+pub const LIST_BYTES: usize = 219;
+
+pub const TABLE_BYTES: usize = 220;
+
+// The addresses of the 32 handlers.
+pub const TABLE: usize = 224;
+
 // How many words the record has, and behind that up to 2,048 words. Words past that number are never read, so they are not cleared.
-pub const RECORD: usize = 280;
+pub const RECORD: usize = 300;
 
 // The case's numbers that are cleared end here. The line and the phase outlast a case.
-pub const CASE_END: usize = 281;
+pub const CASE_END: usize = 301;
 
-pub const LINE: usize = 2330;
+pub const LINE: usize = 2350;
 
-pub const PHASE: usize = 2331;
+pub const PHASE: usize = 2351;
 
 // The notes, three numbers each. There is room in front of them for numbers to come.
 pub const NOTES: usize = 2400;
+
+// How many numbers the list of interrupts has, two for each record, and behind that up to 8,192 numbers. This one is cleared for a case,
+// and the numbers past it are never read.
+pub const INTERRUPTS: usize = 152400;
 
 // No case has started; a case is described; its state is open; its opening was refused; the report has ended; its places are judged,
 // and its state is not yet open.
@@ -220,4 +245,5 @@ pub fn forget_case(kept: &mut Kept)
     }
     kept[WORDS] = 16;
     kept[PREDICATES] = 1;
+    kept[INTERRUPTS] = 0;
 }

@@ -8,7 +8,7 @@ use Rattle.case_file.specs.declared.Line.the-variants as Line
 use Rattle.case_file.specs.declared.Reason.the-variants as Reason
 use Rattle.case_words.specs.declared.SpecialName.{SpecialName}
 use Rattle.case_words.specs.declared.SpecialName.the-variants as SpecialName
-use Rattle.case_kept.specs.Indices.{MAIN, LOCAL, WORDS, LO, HI, ENTRY, FETCH, BASE, SPECIALS, TRANSFER, BR, CALL, BLOCK, LOAD, REGISTERS, PREDICATES, GIVEN, PRODUCTS, PRODUCT, METHOD, BLOCKS, BYTES, RECORD-BYTES}
+use Rattle.case_kept.specs.Indices.{MAIN, LOCAL, WORDS, LO, HI, ENTRY, FETCH, BASE, SPECIALS, TRANSFER, BR, CALL, BLOCK, XRET, LOAD, REGISTERS, PREDICATES, GIVEN, PRODUCTS, PRODUCT, METHOD, BLOCKS, BYTES, RECORD-BYTES}
 use Rattle.case_kept.specs.Kept.{keptNumber, isSet, put, flag}
 use Rattle.case_notes.specs.Waiting.{withTransfer, withLoad, withProduct}
 use Rattle.case_notes.specs.declared.Judged.{Judged}
@@ -67,8 +67,8 @@ specialIndex SpecialName.Sxo = 7
 specialIndex SpecialName.Unknown = 8
 
 -- Lines that may come again: for one number the last one counts.
-abbrev pub register : List ℕ → ℕ → ℕ → Noted
-register kept r w = fine (cond (ltb r 32) (put kept (REGISTERS + r) w) kept)
+abbrev pub oneOf32 : List ℕ → ℕ → ℕ → ℕ → Noted
+oneOf32 kept first n w = fine (cond (ltb n 32) (put kept (first + n) w) kept)
 
 abbrev pub predicate : List ℕ → ℕ → Bool → Noted
 predicate kept p v = fine (cond (ltb p 8) (put kept (PREDICATES + p) (flag v)) kept)
@@ -101,7 +101,7 @@ given (Line.Stack words lo hi) kept = once kept WORDS (fine (put (put (give kept
 given (Line.Entry address) kept = numberOnce kept ENTRY address
 given (Line.Fetch address) kept = numberOnce kept FETCH address
 given (Line.Base address) kept = numberOnce kept BASE address
-given (Line.Reg r w) kept = register kept r w
+given (Line.Reg r w) kept = oneOf32 kept REGISTERS r w
 given (Line.Pred p v) kept = predicate kept p v
 given (Line.Special name w) kept = special kept name w
 given (Line.Br target wait) kept = transferOnce kept BR target wait 0
@@ -128,3 +128,5 @@ given (Line.Record list) kept = fine kept
 given (Line.RecordBytes n) kept = numberOnce kept RECORD-BYTES n
 given Line.Save kept = fine kept
 given (Line.Resume asked room) kept = fine kept
+given (Line.Xret target base wait) kept = transferOnce kept XRET target base wait
+given (Line.Replay r) kept = fine kept

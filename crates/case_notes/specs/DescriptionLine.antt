@@ -22,6 +22,7 @@ use Rattle.case_notes.specs.Marking.{markItems}
 use Rattle.case_notes.specs.declared.Listed.the-variants as Listed
 use Rattle.case_notes.specs.Lists.{taken}
 use Rattle.case_notes.specs.Held.{holdBases}
+use Rattle.case_notes.specs.Replay.{ofReplay}
 use Rattle.case_kept.specs.Places.{lastByte, notePlace}
 use Rattle.case_kept.specs.Clearing.{COPY, putInCopy}
 
@@ -109,6 +110,7 @@ module _ (line code main local cache kept : List ℕ) where
   describedBy (Line.Private list) = inKept (markItems line list kept)
   describedBy (Line.Held list) = inKept (holdBases line list kept)
   describedBy (Line.Record list) = inKept (taken Listed.Record line list kept)
+  describedBy (Line.Replay r) = inKept (ofReplay r kept)
   describedBy (Line.MainWord address w) = inMain (memoryWord kept Store.Main address w main)
   describedBy (Line.LocalWord address w) = inLocal (memoryWord kept Store.Local address w local)
   describedBy (Line.CacheWord place w) = inCache (cacheWord kept place w cache)
@@ -138,3 +140,4 @@ module _ (line code main local cache kept : List ℕ) where
   describedBy (Line.RecordBytes n) = inKept (given (Line.RecordBytes n) kept)
   describedBy Line.Save = inKept (given Line.Save kept)
   describedBy (Line.Resume asked room) = inKept (given (Line.Resume asked room) kept)
+  describedBy (Line.Xret target base wait) = inKept (given (Line.Xret target base wait) kept)

@@ -8,5 +8,7 @@ pub mod ListsLaws
 pub mod Held
 pub mod Record
 pub mod RecordLaws
+pub mod Replay
+pub mod ReplayLaws
 pub mod DescriptionLine
 pub mod DescriptionLineLaws

@@ -1,6 +1,6 @@
 // What the description lines of a case say of its numbers, gathered in any order. Each function answers whether the line is a mistake.
 ghost use mathlib.Core.Path.{_≡_};
-ghost use Rattle.case_notes.specs.Description.{noted, isGiven, markGiven, give as giveAt, numberOnce, lengthOnce, transferOnce, specialIndex, register, predicate, special, productMore, methodOnce, given};
+ghost use Rattle.case_notes.specs.Description.{noted, isGiven, markGiven, give as giveAt, numberOnce, lengthOnce, transferOnce, specialIndex, oneOf32, predicate, special, productMore, methodOnce, given};
 use crate::Judged;
 use crate::waiting::keep_load;
 use crate::waiting::keep_product;
@@ -31,6 +31,7 @@ use case_kept::kept::REGISTERS;
 use case_kept::kept::SPECIALS;
 use case_kept::kept::TRANSFER;
 use case_kept::kept::WORDS;
+use case_kept::kept::XRET;
 use case_kept::kept::is_set;
 use case_kept::kept::is_set_after;
 use case_kept::kept::keep_after;
@@ -62,7 +63,7 @@ fn give_number(kept: &mut Kept, index: usize, n: u32)
 }
 
 // A number that a case gives once.
-fn give_once(kept: &mut Kept, index: usize, n: u32) -> Judged
+pub(crate) fn give_once(kept: &mut Kept, index: usize, n: u32) -> Judged
     ensures { λ r. ⌜ noted r (now (kept .exit)) ≡ numberOnce (now (kept .entry)) index n ⌝ }
 {
     if is_given(&*kept, index) {
@@ -98,11 +99,12 @@ fn give_stack(kept: &mut Kept, words: u32, lo: u32, hi: u32) -> Judged
     Judged::Fine
 }
 
-fn give_register(kept: &mut Kept, r: u32, w: u32) -> Judged
-    ensures { λ n. ⌜ noted n (now (kept .exit)) ≡ register (now (kept .entry)) r w ⌝ }
+// One of 32 numbers from an index on.
+pub(crate) fn give_one_of_32(kept: &mut Kept, first: usize, n: u32, w: u32) -> Judged
+    ensures { λ r. ⌜ noted r (now (kept .exit)) ≡ oneOf32 (now (kept .entry)) first n w ⌝ }
 {
-    if r < 32 {
-        keep_word(&mut *kept, REGISTERS + (r as usize), w);
+    if n < 32 {
+        keep_after(&mut *kept, first, n as usize, w as u64);
         return Judged::Fine;
     }
     Judged::Fine
@@ -225,7 +227,7 @@ pub fn give(kept: &mut Kept, said: Line) -> Judged
         Line::Entry(a) => give_once(&mut *kept, ENTRY, a),
         Line::Fetch(a) => give_once(&mut *kept, FETCH, a),
         Line::Base(a) => give_once(&mut *kept, BASE, a),
-        Line::Reg { number, word } => give_register(&mut *kept, number, word),
+        Line::Reg { number, word } => give_one_of_32(&mut *kept, REGISTERS, number, word),
         Line::Pred { number, value } => give_predicate(&mut *kept, number, value),
         Line::Special { name, word } => give_special(&mut *kept, name, word),
         Line::Br { target, wait } => give_transfer(&mut *kept, BR, target, wait, 0),
@@ -237,6 +239,7 @@ pub fn give(kept: &mut Kept, said: Line) -> Judged
         Line::Product { wait, low, high } => give_product(&mut *kept, wait, low, high),
         Line::Method { blocks, bytes } => give_method(&mut *kept, blocks, bytes),
         Line::RecordBytes(n) => give_once(&mut *kept, RECORD_BYTES, n),
+        Line::Xret { target, base, wait } => give_transfer(&mut *kept, XRET, target, base, wait),
         _ => Judged::Fine,
     }
 }

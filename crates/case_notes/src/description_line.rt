@@ -7,6 +7,7 @@ use crate::description::give;
 use crate::held::hold_bases;
 use crate::lists::take_list;
 use crate::marked::mark_items;
+use crate::replay::give_replay;
 use big_endian::write_word;
 use case_file::CodeEntry;
 use case_file::Line;
@@ -111,6 +112,7 @@ pub fn describe(
         Line::Private { list } => mark_items(&mut *kept, line, list),
         Line::Held { list } => hold_bases(&mut *kept, line, list),
         Line::Record { list } => take_list(&mut *kept, Listed::Record, line, list),
+        Line::Replay(r) => give_replay(&mut *kept, r),
         Line::MainWord { address, word } => {
             memory_word(&mut *kept, Store::Main, address, word, &mut *main)
         }

@@ -5,6 +5,7 @@ pub mod held;
 mod lists;
 pub mod marked;
 pub mod record;
+pub mod replay;
 pub mod waiting;
 
 use case_file::Reason;

@@ -30,7 +30,7 @@ fn next_entry(l: Listed, line: &[u8], at: usize) -> CodeEntry
 }
 
 // One entry more behind those of the list at an index, or the mistake that it has the most already.
-fn append(kept: &mut Kept, first: usize, most: u64, full: Reason, n: u32) -> Judged
+pub(crate) fn append(kept: &mut Kept, first: usize, most: u64, full: Reason, n: u32) -> Judged
     ensures { λ r. ⌜ noted r (now (kept .exit)) ≡ behind (now (kept .entry)) first most full n ⌝ }
 {
     let count = number(&*kept, first);

@@ -1,13 +1,17 @@
 // What waits in a case, among the kept numbers.
 ghost use mathlib.Core.Path.{_≡_};
-ghost use Rattle.case_notes.specs.Waiting.{withTransfer, withLoad, withProduct};
+ghost use Rattle.case_notes.specs.Waiting.{withTransfer, withLoad, withProduct, withReplay};
+use case_kept::kept::ACTIVE;
+use case_kept::kept::DONE;
 use case_kept::kept::Kept;
 use case_kept::kept::LOAD;
 use case_kept::kept::LOADED;
+use case_kept::kept::PLACE;
 use case_kept::kept::TARGET;
 use case_kept::kept::TRANSFER;
 use case_kept::kept::keep;
 use case_kept::kept::keep_after;
+use case_kept::kept::keep_flag;
 
 // A waiting transfer by the number of its kind, with the numbers of its line.
 pub fn keep_transfer(kept: &mut Kept, kind: u64, a: u32, b: u32, c: u32)
@@ -34,4 +38,13 @@ pub fn keep_product(kept: &mut Kept, first: usize, wait: u64, low: u64, high: u6
     keep(&mut *kept, first, wait);
     keep_after(&mut *kept, first, 1, low);
     keep_after(&mut *kept, first, 2, high);
+}
+
+// What a state has of a replay.
+pub fn keep_replay(kept: &mut Kept, active: bool, place: u32, done: u32)
+    ensures { λ _. ⌜ now (kept .exit) ≡ withReplay (now (kept .entry)) active place done ⌝ }
+{
+    keep_flag(&mut *kept, ACTIVE, active);
+    kept[PLACE] = place as u64;
+    kept[DONE] = done as u64;
 }

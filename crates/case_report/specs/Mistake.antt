@@ -20,7 +20,7 @@ inWords Reason.NotABit = "a predicate is 0 or 1"
 inWords Reason.NoSuchRegister = "registers are 0 to 31"
 inWords Reason.NoSuchPredicate = "predicates are 0 to 7"
 inWords Reason.NoSuchSpecial = "specials are sl, sh, ss, st, srb, sro, sxb and sxo"
-inWords Reason.NoSuchTransfer = "transfers are br, call and block"
+inWords Reason.NoSuchTransfer = "transfers are br, call, block and xret"
 inWords Reason.NoSuchItem = "items are r0 to r31, p0 to p7, sl, sh, main, local and stack"
 inWords Reason.LineTooLong = "the line is longer than 4000 bytes"
 inWords Reason.BeforeFirstCase = "no case has started"
@@ -38,6 +38,9 @@ inWords Reason.NotAnOffset = "a decimal number from -2147483648 to 2147483647 is
 inWords Reason.TooManyProducts = "a case has at most two product lines"
 inWords Reason.TooManyHeld = "a case has at most 16 held blocks"
 inWords Reason.TooMuchRecord = "a record and the room for one are at most 8192 bytes long"
+inWords Reason.NoSuchVector = "vectors of handlers are 0 to 31"
+inWords Reason.TooManyInterrupts = "a case has at most 4096 interrupts"
+inWords Reason.TooMuchReplay = "a list is at most 65536 bytes long, and a table 256"
 
 unfoldable pub reasonText : Reason → List ℕ
 reasonText r = bytes (inWords r)

@@ -37,3 +37,6 @@ reason-row Reason.NotAnOffset = refl
 reason-row Reason.TooManyProducts = refl
 reason-row Reason.TooManyHeld = refl
 reason-row Reason.TooMuchRecord = refl
+reason-row Reason.NoSuchVector = refl
+reason-row Reason.TooManyInterrupts = refl
+reason-row Reason.TooMuchReplay = refl

@@ -35,6 +35,9 @@ numberOf Reason.NotAnOffset = 24
 numberOf Reason.TooManyProducts = 25
 numberOf Reason.TooManyHeld = 26
 numberOf Reason.TooMuchRecord = 27
+numberOf Reason.NoSuchVector = 28
+numberOf Reason.TooManyInterrupts = 29
+numberOf Reason.TooMuchReplay = 30
 
 -- All reasons, in the order of their rows.
 unfoldable pub reasons : List Reason
@@ -67,6 +70,9 @@ reasons =
     ∷ Reason.TooManyProducts
     ∷ Reason.TooManyHeld
     ∷ Reason.TooMuchRecord
+    ∷ Reason.NoSuchVector
+    ∷ Reason.TooManyInterrupts
+    ∷ Reason.TooMuchReplay
     ∷ []
 
 unfoldable pub texts : List Reason → List (List ℕ)

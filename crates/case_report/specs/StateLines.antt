@@ -6,7 +6,7 @@ use mathlib.Core.List.{List, [], _∷_, _++_}
 use lib.ListN.{take, drop}
 use lib.Dec.{eqb}
 use Rattle.case_words.specs.Names.{bytes}
-use Rattle.case_kept.specs.Indices.{FETCH, REGISTERS, PREDICATES, SPECIALS, TRANSFER, BR, CALL, BLOCK, TARGET, LOAD, LOADED, PRODUCTS, PRODUCT, METHOD, HOLDS, HELD}
+use Rattle.case_kept.specs.Indices.{FETCH, REGISTERS, PREDICATES, SPECIALS, TRANSFER, BR, CALL, BLOCK, XRET, TARGET, LOAD, LOADED, PRODUCTS, PRODUCT, METHOD, HOLDS, HELD, REPLAYS, ACTIVE, PLACE}
 use Rattle.case_kept.specs.Kept.{keptNumber, isSet}
 use Rattle.case_report.specs.Form.{filled}
 
@@ -16,7 +16,8 @@ transferLine kept =
     cond (eqb (keptNumber kept TRANSFER) BR) (filled (bytes "transfer br % %\n") (drop TARGET kept))
     (cond (eqb (keptNumber kept TRANSFER) CALL) (filled (bytes "transfer call % %\n") (drop TARGET kept))
     (cond (eqb (keptNumber kept TRANSFER) BLOCK) (filled (bytes "transfer block % % %\n") (drop TARGET kept))
-    (bytes "transfer none\n")))
+    (cond (eqb (keptNumber kept TRANSFER) XRET) (filled (bytes "transfer xret % % %\n") (drop TARGET kept))
+    (bytes "transfer none\n"))))
 
 unfoldable pub loadLine : List ℕ → List ℕ
 loadLine kept = cond (isSet kept LOAD) (filled (bytes "load % #\n") (drop LOADED kept)) (bytes "load none\n")
@@ -38,9 +39,16 @@ heldBases kept n =
 unfoldable pub heldLine : List ℕ → List ℕ
 heldLine kept = cond (isSet kept METHOD || isSet kept HOLDS) (heldBases kept (min (keptNumber kept HELD) 16)) []
 
--- What waits, what is under way, and what is held.
+-- The list place and the bundles done in the replay. There is a line while a handler is active, and in a case that says something of
+-- the replay.
+unfoldable pub replayLine : List ℕ → List ℕ
+replayLine kept =
+    cond (isSet kept ACTIVE) (filled (bytes "replay active place % done %\n") (drop PLACE kept))
+    (cond (isSet kept REPLAYS) (filled (bytes "replay idle place % done %\n") (drop PLACE kept)) [])
+
+-- What waits, what is under way, what is held, and where the replay is.
 unfoldable pub waitingText : List ℕ → List ℕ
-waitingText kept = transferLine kept ++ (loadLine kept ++ (productsLine kept ++ heldLine kept))
+waitingText kept = transferLine kept ++ (loadLine kept ++ (productsLine kept ++ (heldLine kept ++ replayLine kept)))
 
 -- All lines on the state, each with the numbers that are kept from an index on.
 unfoldable pub stateText : List ℕ → List ℕ

@@ -39,6 +39,9 @@ fn number_of(r: Reason) -> usize
         Reason::TooManyProducts => 25,
         Reason::TooManyHeld => 26,
         Reason::TooMuchRecord => 27,
+        Reason::NoSuchVector => 28,
+        Reason::TooManyInterrupts => 29,
+        Reason::TooMuchReplay => 30,
     }
 }
 
@@ -58,7 +61,7 @@ a predicate is 0 or 1\n\
 registers are 0 to 31\n\
 predicates are 0 to 7\n\
 specials are sl, sh, ss, st, srb, sro, sxb and sxo\n\
-transfers are br, call and block\n\
+transfers are br, call, block and xret\n\
 items are r0 to r31, p0 to p7, sl, sh, main, local and stack\n\
 the line is longer than 4000 bytes\n\
 no case has started\n\
@@ -75,7 +78,10 @@ a special register is expected: s0, sl, sh, ss, st, srb, sro, sxb or sxo\n\
 a decimal number from -2147483648 to 2147483647 is expected\n\
 a case has at most two product lines\n\
 a case has at most 16 held blocks\n\
-a record and the room for one are at most 8192 bytes long\n",
+a record and the room for one are at most 8192 bytes long\n\
+vectors of handlers are 0 to 31\n\
+a case has at most 4096 interrupts\n\
+a list is at most 65536 bytes long, and a table 256\n",
         number_of(r),
     )
 }

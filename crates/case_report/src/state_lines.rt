@@ -5,9 +5,10 @@ ghost use lib.ListN.{length, take, drop};
 ghost use Rattle.text.specs.Page.{page, withText};
 ghost use Rattle.case_kept.specs.Indices.{HELD};
 ghost use Rattle.case_report.specs.Form.{filled};
-ghost use Rattle.case_report.specs.StateLines.{transferLine, loadLine, productsLine, heldBases, heldLine, waitingText, stateText};
+ghost use Rattle.case_report.specs.StateLines.{transferLine, loadLine, productsLine, heldBases, heldLine, replayLine, waitingText, stateText};
 use crate::form::say_kept;
 use case_kept::buffers::least;
+use case_kept::kept::ACTIVE;
 use case_kept::kept::BLOCK;
 use case_kept::kept::BR;
 use case_kept::kept::CALL;
@@ -18,13 +19,16 @@ use case_kept::kept::Kept;
 use case_kept::kept::LOAD;
 use case_kept::kept::LOADED;
 use case_kept::kept::METHOD;
+use case_kept::kept::PLACE;
 use case_kept::kept::PREDICATES;
 use case_kept::kept::PRODUCT;
 use case_kept::kept::PRODUCTS;
 use case_kept::kept::REGISTERS;
+use case_kept::kept::REPLAYS;
 use case_kept::kept::SPECIALS;
 use case_kept::kept::TARGET;
 use case_kept::kept::TRANSFER;
+use case_kept::kept::XRET;
 use case_kept::kept::is_set;
 use case_kept::kept::number;
 use text::page::put;
@@ -38,6 +42,7 @@ fn put_transfer(out: &mut [u8], used: usize, kept: &Kept) -> usize
         BR => say_kept(&mut *out, used, b"transfer br % %\n", kept, TARGET),
         CALL => say_kept(&mut *out, used, b"transfer call % %\n", kept, TARGET),
         BLOCK => say_kept(&mut *out, used, b"transfer block % % %\n", kept, TARGET),
+        XRET => say_kept(&mut *out, used, b"transfer xret % % %\n", kept, TARGET),
         _ => put(&mut *out, used, b"transfer none\n"),
     }
 }
@@ -102,14 +107,40 @@ fn put_held(out: &mut [u8], used: usize, kept: &Kept) -> usize
     used
 }
 
-// What waits, what is under way, and what is held.
+// An active handler is told in every case, and that there is none where a line says something of the replay.
+fn put_replay(out: &mut [u8], used: usize, kept: &Kept) -> usize
+    ensures { λ r. ⌜ page r (now (out .exit)) ≡ withText (page used (now (out .entry))) (replayLine (now (kept .entry))) ⌝ }
+{
+    if is_set(kept, ACTIVE) {
+        return say_kept(
+            &mut *out,
+            used,
+            b"replay active place % done %\n",
+            kept,
+            PLACE,
+        );
+    }
+    if is_set(kept, REPLAYS) {
+        return say_kept(
+            &mut *out,
+            used,
+            b"replay idle place % done %\n",
+            kept,
+            PLACE,
+        );
+    }
+    used
+}
+
+// What waits, what is under way, what is held, and where the replay is.
 fn put_waiting(out: &mut [u8], used: usize, kept: &Kept) -> usize
     ensures { λ r. ⌜ page r (now (out .exit)) ≡ withText (page used (now (out .entry))) (waitingText (now (kept .entry))) ⌝ }
 {
     let a = put_transfer(&mut *out, used, kept);
     let b = put_load(&mut *out, a, kept);
     let c = put_products(&mut *out, b, kept);
-    put_held(&mut *out, c, kept)
+    let d = put_held(&mut *out, c, kept);
+    put_replay(&mut *out, d, kept)
 }
 
 // The state lines, all of them.

@@ -15,7 +15,7 @@ use Rattle.core_state.specs.declared.WaitingTransfer.{WaitingTransfer}
 use Rattle.core_state.specs.declared.WaitingTransfer.the-variants as WaitingTransfer
 use Rattle.core_state.specs.declared.WaitingLoad.{WaitingLoad}
 use Rattle.core_state.specs.declared.WaitingLoad.the-variants as WaitingLoad
-use Rattle.case_kept.specs.Indices.{SPECIALS, TRANSFER, TARGET, BR, CALL, BLOCK, LOAD, LOADED, REGISTERS, PREDICATES, PRODUCTS, PRODUCT, HELD}
+use Rattle.case_kept.specs.Indices.{SPECIALS, TRANSFER, TARGET, BR, CALL, BLOCK, XRET, LOAD, LOADED, REGISTERS, PREDICATES, PRODUCTS, PRODUCT, HELD}
 use Rattle.case_kept.specs.Kept.{keptNumber, keptWord, isSet, put, flag, keptWords, putEach}
 use Rattle.case_notes.specs.Waiting.{withTransfer, withLoad, withProduct}
 
@@ -52,7 +52,8 @@ unfoldable pub transferWith : ℕ → ℕ → ℕ → ℕ → WaitingTransfer
 transferWith kind a b c =
     cond (eqb kind BR) (WaitingTransfer.Waits (Transfer.Br a) b)
     (cond (eqb kind CALL) (WaitingTransfer.Waits (Transfer.Call a) b)
-    (cond (eqb kind BLOCK) (WaitingTransfer.Waits (Transfer.Block a b) c) WaitingTransfer.Nothing))
+    (cond (eqb kind BLOCK) (WaitingTransfer.Waits (Transfer.Block a b) c)
+    (cond (eqb kind XRET) (WaitingTransfer.Waits (Transfer.Xret a b) c) WaitingTransfer.Nothing)))
 
 abbrev pub transferOf : List ℕ → WaitingTransfer
 transferOf kept = transferWith (keptNumber kept TRANSFER) (keptWord kept TARGET) (keptWord kept (TARGET + 1)) (keptWord kept (TARGET + 2))
@@ -83,6 +84,7 @@ abbrev pub withTarget : List ℕ → Transfer → ℕ → List ℕ
 withTarget kept (Transfer.Br target) wait = withTransfer kept BR target wait 0
 withTarget kept (Transfer.Call target) wait = withTransfer kept CALL target wait 0
 withTarget kept (Transfer.Block target base) wait = withTransfer kept BLOCK target base wait
+withTarget kept (Transfer.Xret target base) wait = withTransfer kept XRET target base wait
 
 -- Where nothing waits only the kind says so.
 abbrev pub withWaiting : List ℕ → WaitingTransfer → List ℕ

@@ -18,6 +18,7 @@ use case_kept::kept::REGISTERS;
 use case_kept::kept::SPECIALS;
 use case_kept::kept::TARGET;
 use case_kept::kept::TRANSFER;
+use case_kept::kept::XRET;
 use case_kept::kept::is_set;
 use case_kept::kept::keep_after;
 use case_kept::kept::keep_flag;
@@ -124,6 +125,10 @@ fn transfer_with(kind: u64, a: u32, b: u32, c: u32) -> WaitingTransfer
             transfer: Transfer::Block { target: a, base: b },
             wait: c,
         },
+        XRET => WaitingTransfer::Waits {
+            transfer: Transfer::Xret { target: a, base: b },
+            wait: c,
+        },
         _ => WaitingTransfer::Nothing,
     }
 }
@@ -159,6 +164,7 @@ fn keep_target(kept: &mut Kept, t: Transfer, wait: u32)
         Transfer::Br { target } => keep_transfer(&mut *kept, BR, target, wait, 0),
         Transfer::Call { target } => keep_transfer(&mut *kept, CALL, target, wait, 0),
         Transfer::Block { target, base } => keep_transfer(&mut *kept, BLOCK, target, base, wait),
+        Transfer::Xret { target, base } => keep_transfer(&mut *kept, XRET, target, base, wait),
     }
 }
 

@@ -80,13 +80,20 @@ keywords =
     ∷ ("save", Keyword.Save)
     ∷ ("resume", Keyword.Resume)
     ∷ ("restep", Keyword.Restep)
+    ∷ ("interrupt", Keyword.Interrupt)
+    ∷ ("handler", Keyword.Handler)
+    ∷ ("listbytes", Keyword.OneNumber OneNumber.ListBytes)
+    ∷ ("tablebytes", Keyword.OneNumber OneNumber.TableBytes)
+    ∷ ("active", Keyword.Active)
+    ∷ ("place", Keyword.OneNumber OneNumber.Place)
+    ∷ ("replayed", Keyword.OneNumber OneNumber.Replayed)
     ∷ []
 
 abbrev pub keywordOf : List ℕ → Keyword
 keywordOf = lookUp keywords Keyword.Unknown
 
 unfoldable pub transferKinds : List (Text.String × TransferKind)
-transferKinds = ("br", TransferKind.Br) ∷ ("call", TransferKind.Call) ∷ ("block", TransferKind.Block) ∷ []
+transferKinds = ("br", TransferKind.Br) ∷ ("call", TransferKind.Call) ∷ ("block", TransferKind.Block) ∷ ("xret", TransferKind.Xret) ∷ []
 
 abbrev pub transferKindOf : List ℕ → TransferKind
 transferKindOf = lookUp transferKinds TransferKind.Unknown

@@ -28,6 +28,9 @@ pub enum Keyword {
     Save,
     Resume,
     Restep,
+    Interrupt,
+    Handler,
+    Active,
     Unknown,
 }
 
@@ -40,6 +43,10 @@ pub enum OneNumber {
     Base,
     Run,
     RecordBytes,
+    ListBytes,
+    TableBytes,
+    Place,
+    Replayed,
 }
 
 // The keywords that a number and a word follow.
@@ -56,6 +63,7 @@ pub enum TransferKind {
     Br,
     Call,
     Block,
+    Xret,
     Unknown,
 }
 
@@ -119,6 +127,13 @@ fn keyword_at(row: usize) -> Keyword
         27 => Keyword::Save,
         28 => Keyword::Resume,
         29 => Keyword::Restep,
+        30 => Keyword::Interrupt,
+        31 => Keyword::Handler,
+        32 => Keyword::OneNumber(OneNumber::ListBytes),
+        33 => Keyword::OneNumber(OneNumber::TableBytes),
+        34 => Keyword::Active,
+        35 => Keyword::OneNumber(OneNumber::Place),
+        36 => Keyword::OneNumber(OneNumber::Replayed),
         _ => Keyword::Unknown,
     }
 }
@@ -130,7 +145,8 @@ pub fn first_word(s: &[u8]) -> Keyword
         b"case\ncode\nmain\nlocal\nstack\nprivate\n\
 entry\nfetch\nbase\nreg\npred\nspecial\ntransfer\nload\n\
 mainword\nlocalword\ncacheword\nrun\nstep\ncheck\nwrite\nlist\nproduct\n\
-method\nheld\nrecord\nrecordbytes\nsave\nresume\nrestep\n",
+method\nheld\nrecord\nrecordbytes\nsave\nresume\nrestep\n\
+interrupt\nhandler\nlistbytes\ntablebytes\nactive\nplace\nreplayed\n",
         s,
     ))
 }
@@ -142,6 +158,7 @@ fn transfer_kind_at(row: usize) -> TransferKind
         0 => TransferKind::Br,
         1 => TransferKind::Call,
         2 => TransferKind::Block,
+        3 => TransferKind::Xret,
         _ => TransferKind::Unknown,
     }
 }
@@ -149,7 +166,7 @@ fn transfer_kind_at(row: usize) -> TransferKind
 pub fn transfer_kind(s: &[u8]) -> TransferKind
     ensures { λ r. ⌜ r ≡ transferKindOf (now (s .entry)) ⌝ }
 {
-    transfer_kind_at(row_of(b"br\ncall\nblock\n", s))
+    transfer_kind_at(row_of(b"br\ncall\nblock\nxret\n", s))
 }
 
 fn special_name_at(row: usize) -> SpecialName

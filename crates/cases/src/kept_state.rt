@@ -1,13 +1,16 @@
 // The state of a case among the kept numbers, and what a run is given beside it.
 use bundle_model::Counts;
 use case_kept::extent::Extents;
+use case_kept::kept::ACTIVE;
 use case_kept::kept::BASE;
 use case_kept::kept::BLOCKS;
 use case_kept::kept::BYTES;
 use case_kept::kept::COUNTS;
+use case_kept::kept::DONE;
 use case_kept::kept::FETCH;
 use case_kept::kept::Kept;
 use case_kept::kept::METHOD;
+use case_kept::kept::PLACE;
 use case_kept::kept::PREDICATES;
 use case_kept::kept::REGISTERS;
 use case_kept::kept::SPECIALS;
@@ -15,6 +18,7 @@ use case_kept::kept::flags_of;
 use case_kept::kept::is_set;
 use case_kept::kept::number;
 use case_kept::kept::word;
+use case_notes::waiting::keep_replay;
 use case_state::held_of;
 use case_state::keep_held;
 use case_state::keep_predicates;
@@ -29,6 +33,7 @@ use case_state::registers_of;
 use case_state::specials_of;
 use case_state::transfer_of;
 use method_cache::Method;
+use replay::Replay;
 use settings::Config;
 use state::State;
 
@@ -54,6 +59,11 @@ pub(crate) fn state_of(kept: &Kept) -> State {
     let load = load_of(kept);
     let products = products_of(kept);
     let held = held_of(kept);
+    let replay = Replay {
+        active: is_set(kept, ACTIVE),
+        place: word(kept, PLACE),
+        done: word(kept, DONE),
+    };
     State {
         registers,
         predicates,
@@ -64,7 +74,12 @@ pub(crate) fn state_of(kept: &Kept) -> State {
         load,
         products,
         held,
+        replay,
     }
+}
+
+fn keep_registers(kept: &mut Kept, registers: [u32; 32]) {
+    keep_words(&mut *kept, REGISTERS, &registers);
 }
 
 pub(crate) fn keep_state(kept: &mut Kept, s: State) {
@@ -78,12 +93,17 @@ pub(crate) fn keep_state(kept: &mut Kept, s: State) {
     kept[FETCH] = s.fetch as u64;
     kept[BASE] = s.base as u64;
     keep_words(&mut *kept, SPECIALS, &specials);
-    keep_words(&mut *kept, REGISTERS, &registers);
+    keep_registers(&mut *kept, registers);
     keep_predicates(&mut *kept, predicates);
     keep_waiting(&mut *kept, transfer);
     keep_waiting_load(&mut *kept, load);
     keep_products(&mut *kept, products);
     keep_held(&mut *kept, held);
+}
+
+// How far the replay is, of a state that is kept.
+pub(crate) fn keep_far(kept: &mut Kept, r: Replay) {
+    keep_replay(&mut *kept, r.active, r.place, r.done);
 }
 
 // The counts of the last run or step: a record of the state has them.

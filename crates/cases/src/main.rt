@@ -51,7 +51,7 @@ fn read_cases(fd: i32, path: &[u8]) {
     let mut main = [0u8; 131072];
     let mut local = [0u8; 131072];
     let mut cache = [0u32; 1026];
-    let mut kept = [0u64; 152400];
+    let mut kept = [0u64; 160600];
     let mut out = [0u8; 1048576];
     read_all(
         fd,

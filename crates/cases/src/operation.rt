@@ -8,6 +8,7 @@ use crate::answer_lines::put_counts;
 use crate::answer_lines::put_reply;
 use crate::kept_state::config_of;
 use crate::kept_state::keep_counts;
+use crate::kept_state::keep_far;
 use crate::kept_state::keep_state;
 use crate::kept_state::state_of;
 use bundle_model::Answer;
@@ -22,6 +23,10 @@ use case_kept::kept::COUNTS;
 use case_kept::kept::Kept;
 use case_kept::kept::METHOD;
 use case_kept::kept::is_set;
+use case_notes::replay::lay_list;
+use case_notes::replay::lay_table;
+use case_notes::replay::list_length;
+use case_notes::replay::table_length;
 use case_report::changes::put_changes;
 use case_report::state_lines::put_state;
 use resume::Reply;
@@ -51,7 +56,9 @@ fn keep_step(r: Stepped, kept: &mut Kept) -> Reply {
     let answer = r.answer;
     let counts = r.counts;
     let state = r.state;
+    let replay = state.replay;
     keep_state(&mut *kept, state);
+    keep_far(&mut *kept, replay);
     keep_counts(&mut *kept, counts);
     step_reply(answer)
 }
@@ -60,7 +67,9 @@ fn keep_run(r: Ran, kept: &mut Kept) -> Reply {
     let answer = r.answer;
     let counts = r.counts;
     let state = r.state;
+    let replay = state.replay;
     keep_state(&mut *kept, state);
+    keep_far(&mut *kept, replay);
     keep_counts(&mut *kept, counts);
     run_reply(answer)
 }
@@ -68,6 +77,8 @@ fn keep_run(r: Ran, kept: &mut Kept) -> Reply {
 fn operate(
     asked: Asked,
     code: &[u8],
+    list: &[u8],
+    table: &[u8],
     main: &mut [u8],
     local: &mut [u8],
     cache: &mut [u32],
@@ -77,17 +88,22 @@ fn operate(
     let s = state_of(&*kept);
     match asked {
         Asked::Run(budget) => keep_run(
-            run::run(s, code, main, local, cache, config, budget),
+            run::run(s, code, list, table, main, local, cache, config, budget),
             &mut *kept,
         ),
-        _ => keep_step(s.step(code, main, local, cache, config), &mut *kept),
+        _ => keep_step(
+            s.step(code, list, table, main, local, cache, config),
+            &mut *kept,
+        ),
     }
 }
 
-// The operation on what the case has of each buffer.
+// The operation on what the case has of each buffer, and on its list and table.
 fn operate_on(
     asked: Asked,
     code: &[u8],
+    list: &[u8],
+    table: &[u8],
     main: &mut [u8],
     local: &mut [u8],
     cache: &mut [u32],
@@ -104,10 +120,39 @@ fn operate_on(
     operate(
         asked,
         &code[0..c],
+        list,
+        table,
         &mut main[0..m],
         &mut local[0..l],
         &mut cache[0..w],
         config,
+        &mut *kept,
+    )
+}
+
+// The operation on the list and the table of the case, which are laid as bytes.
+fn replay_on(
+    asked: Asked,
+    code: &Bytes,
+    main: &mut Memory,
+    local: &mut Memory,
+    cache: &mut Cache,
+    kept: &mut Kept,
+) -> Reply {
+    let mut list = [0u8; 65536];
+    let mut table = [0u8; 256];
+    lay_list(&*kept, &mut list);
+    lay_table(&*kept, &mut table);
+    let n = list_length(&*kept);
+    let k = table_length(&*kept);
+    operate_on(
+        asked,
+        code,
+        &list[0..n],
+        &table[0..k],
+        &mut *main,
+        &mut *local,
+        &mut *cache,
         &mut *kept,
     )
 }
@@ -172,7 +217,7 @@ pub(crate) fn do_operation(
     kept: &mut Kept,
     out: &mut Report,
 ) -> usize {
-    let r = operate_on(
+    let r = replay_on(
         asked,
         code,
         &mut *main,

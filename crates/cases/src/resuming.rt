@@ -25,6 +25,10 @@ use case_kept::kept::METHOD;
 use case_kept::kept::is_set;
 use case_notes::record::lay_record;
 use case_notes::record::record_length;
+use case_notes::replay::lay_list;
+use case_notes::replay::lay_table;
+use case_notes::replay::list_length;
+use case_notes::replay::table_length;
 use case_report::form::say;
 use case_report::record_lines::FILL;
 use case_report::record_lines::put_record;
@@ -70,6 +74,8 @@ fn go_on(
     main: &mut [u8],
     local: &mut [u8],
     out: &mut [u8],
+    list: &[u8],
+    table: &[u8],
     words: usize,
     config: Config,
 ) -> Resumed {
@@ -80,11 +86,23 @@ fn go_on(
             main,
             local,
             out,
+            list,
+            table,
             words,
             config,
             budget,
         ),
-        Resumption::Step => resume::restep(record, code, main, local, out, words, config),
+        Resumption::Step => resume::restep(
+            record,
+            code,
+            main,
+            local,
+            out,
+            list,
+            table,
+            words,
+            config,
+        ),
     }
 }
 
@@ -96,6 +114,8 @@ fn go_on_from(
     local: &mut [u8],
     kept: &Kept,
     out: &mut [u8],
+    list: &[u8],
+    table: &[u8],
 ) -> Resumed
     requires { ⌜ (65536 ≤ length (now code)) × (65536 ≤ length (now main)) × (65536 ≤ length (now local)) ⌝ }
 {
@@ -114,8 +134,37 @@ fn go_on_from(
         &mut main[0..m],
         &mut local[0..l],
         out,
+        list,
+        table,
         e.words,
         config,
+    )
+}
+
+// The same with the list and the table of the case, which are laid as bytes.
+fn replay_from(
+    asked: Resumption,
+    code: &Bytes,
+    main: &mut Memory,
+    local: &mut Memory,
+    kept: &Kept,
+    out: &mut [u8],
+) -> Resumed {
+    let mut list = [0u8; 65536];
+    let mut table = [0u8; 256];
+    lay_list(kept, &mut list);
+    lay_table(kept, &mut table);
+    let n = list_length(kept);
+    let k = table_length(kept);
+    go_on_from(
+        asked,
+        code,
+        &mut *main,
+        &mut *local,
+        kept,
+        out,
+        &list[0..n],
+        &table[0..k],
     )
 }
 
@@ -179,7 +228,7 @@ pub(crate) fn do_resume(
     let mut bytes = [FILL; 8192];
     let e = extents_of(kept);
     let n = room_of(room, e.words);
-    let r = go_on_from(asked, code, &mut *main, &mut *local, kept, &mut bytes[0..n]);
+    let r = replay_from(asked, code, &mut *main, &mut *local, kept, &mut bytes[0..n]);
     let used = put_resumed(&mut *out, asked, r, is_set(kept, METHOD), &bytes, n);
     report_changes(&mut *out, used, &mut *main, &mut *local, cache, kept)
 }

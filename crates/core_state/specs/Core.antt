@@ -7,7 +7,7 @@ use denote.Ref.{RefT, now}
 use denote.Triple.Both.{Both}
 use lib.Dec.{eqb, leb}
 use Rattle.effects.specs.declared.Transfer.{Transfer}
-use Rattle.effects.specs.declared.Transfer.the-variants.{Br, Call, Block}
+use Rattle.effects.specs.declared.Transfer.the-variants.{Br, Call, Block, Xret}
 use Rattle.products.specs.declared.ProductWords.{ProductWords}
 use Rattle.products.specs.Words.{productsIn, FixedProducts}
 use Rattle.core_state.specs.declared.TransferWords.{TransferWords}
@@ -22,7 +22,10 @@ use Rattle.core_state.specs.declared.Core.{Core}
 
 -- What waits, of its words.
 unfoldable pub transferIn : TransferWords → Transfer
-transferIn w = cond (eqb (w .kind) 1) (Br (w .target)) (cond (eqb (w .kind) 2) (Call (w .target)) (Block (w .target) (w .base)))
+transferIn w =
+    cond (eqb (w .kind) 1) (Br (w .target))
+    (cond (eqb (w .kind) 2) (Call (w .target))
+    (cond (eqb (w .kind) 3) (Block (w .target) (w .base)) (Xret (w .target) (w .base))))
 
 unfoldable pub waitingTransfer : TransferWords → WaitingTransfer
 waitingTransfer w = cond (eqb (w .kind) 0) transfer.Nothing (transfer.Waits (transferIn w) (w .wait))
@@ -30,7 +33,7 @@ waitingTransfer w = cond (eqb (w .kind) 0) transfer.Nothing (transfer.Waits (tra
 unfoldable pub waitingLoad : LoadWords → WaitingLoad
 waitingLoad l = cond (eqb (l .waits) 0) load.Nothing (load.Waits (l .register) (l .value))
 
--- The words of what waits. Other words mean the same, since any kind from 3 on is a block and beside a kind of 0 no word counts: a
+-- The words of what waits. Other words mean the same, since any kind from 4 on is an xret and beside a kind of 0 no word counts: a
 -- contract that named only the meaning would leave the words open.
 abbrev pub fourWords : ℕ → ℕ → ℕ → ℕ → TransferWords
 fourWords kind target base wait = record { kind = kind; target = target; base = base; wait = wait }
@@ -40,6 +43,7 @@ transferWords transfer.Nothing = fourWords 0 0 0 0
 transferWords (transfer.Waits (Br target) wait) = fourWords 1 target 0 wait
 transferWords (transfer.Waits (Call target) wait) = fourWords 2 target 0 wait
 transferWords (transfer.Waits (Block target base) wait) = fourWords 3 target base wait
+transferWords (transfer.Waits (Xret target base) wait) = fourWords 4 target base wait
 
 unfoldable pub loadWords : WaitingLoad → LoadWords
 loadWords load.Nothing = record { waits = 0; register = 0; value = 0 }
@@ -71,7 +75,7 @@ pub record Canonical (c : Core) : Type 0 where
 -- A state of its registers, its predicates and the rest, which holds no block: what is held is lent beside it, and put in by `withHeld`.
 abbrev pub joined : List ℕ → List Bool → Core → State
 joined rs ps c =
-    state rs ps (c .specials) (c .fetch) (c .base) (waitingTransfer (c .transfer)) (waitingLoad (c .load)) (further (productsIn (c .products)) [])
+    state rs ps (c .specials) (c .fetch) (c .base) (waitingTransfer (c .transfer)) (waitingLoad (c .load)) (further (productsIn (c .products)) [] (c .replay))
 
 -- In contracts, the state of the registers and predicates that a function is lent, when it is called and when it returns, and of the rest.
 abbrev pub Registers : Type 0

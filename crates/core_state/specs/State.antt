@@ -12,8 +12,10 @@ use Rattle.isa.specs.declared.Special.{Special}
 use Rattle.isa.specs.declared.Special.the-variants.{S0, Sl, Sh, Ss, St, Srb, Sro, Sxb, Sxo}
 use Rattle.alu_effects.specs.declared.Specials.{Specials}
 use Rattle.effects.specs.declared.Transfer.{Transfer}
-use Rattle.effects.specs.declared.Transfer.the-variants.{Br, Call, Block}
+use Rattle.effects.specs.declared.Transfer.the-variants.{Br, Call, Block, Xret}
 use Rattle.effects.specs.Effect.{Start, start}
+use Rattle.replay.specs.declared.Replay.{Replay}
+use Rattle.replay.specs.Replay.{replay, notBegun, oneMore}
 use Rattle.products.specs.declared.Product.{Product}
 use Rattle.products.specs.declared.Products.{Products}
 use Rattle.products.specs.declared.Products.the-variants as products
@@ -23,14 +25,15 @@ use Rattle.core_state.specs.declared.WaitingTransfer.the-variants as tra
 use Rattle.core_state.specs.declared.WaitingLoad.{WaitingLoad}
 use Rattle.core_state.specs.declared.WaitingLoad.the-variants as load
 
--- What the requests of document 02 add to the state: the products under way, and the blocks that the method cache holds, by their
--- bases, the oldest first.
+-- What the requests of document 02 add to the state: the products under way, the blocks that the method cache holds, by their bases, the
+-- oldest first, and how far the replay is.
 pub record Further : Type 0 where
   pub products : Products
   pub held : List ℕ
+  pub replay : Replay
 
-abbrev pub further : Products → List ℕ → Further
-further products held = record { products = products; held = held }
+abbrev pub further : Products → List ℕ → Replay → Further
+further products held replay = record { products = products; held = held; replay = replay }
 
 -- The state: registers, predicates, special registers, the fetch address, the base, what waits, and what is added to it.
 pub record State : Type 0 where
@@ -56,9 +59,9 @@ pub record Shaped (s : State) : Type 0 where
 abbrev pub specials : ℕ → ℕ → ℕ → ℕ → ℕ → ℕ → ℕ → ℕ → Specials
 specials sl sh ss st srb sro sxb sxo = record { sl = sl; sh = sh; ss = ss; st = st; srb = srb; sro = sro; sxb = sxb; sxo = sxo }
 
--- What slots read of it.
-abbrev pub startOf : State → Start
-startOf s = start (s .registers) (s .predicates) (s .specials) (s .fetch)
+-- What slots read of it, beside the table of handlers.
+abbrev pub startOf : List ℕ → State → Start
+startOf table s = start (s .registers) (s .predicates) (s .specials) (s .fetch) table
 
 -- Registers and predicates. r0 and p0 are never written.
 unfoldable pub withRegister : State → ℕ → ℕ → State
@@ -92,7 +95,7 @@ withSpecial s Sro v = let x = s .specials in withSpecials s (specials (x .sl) (x
 withSpecial s Sxb v = let x = s .specials in withSpecials s (specials (x .sl) (x .sh) (x .ss) (x .st) (x .srb) (x .sro) v (x .sxo))
 withSpecial s Sxo v = let x = s .specials in withSpecials s (specials (x .sl) (x .sh) (x .ss) (x .st) (x .srb) (x .sro) (x .sxb) v)
 
--- The product in sl and sh, the stack's two pointers, and the return registers.
+-- The product in sl and sh, the stack's two pointers, and the return registers of calls and of handlers.
 abbrev pub withProduct : State → ℕ → ℕ → State
 withProduct s low high =
     let x = s .specials in withSpecials s (specials low high (x .ss) (x .st) (x .srb) (x .sro) (x .sxb) (x .sxo))
@@ -103,6 +106,9 @@ withStack s st ss =
 
 abbrev pub returningTo : Specials → ℕ → ℕ → Specials
 returningTo x srb sro = specials (x .sl) (x .sh) (x .ss) (x .st) srb sro (x .sxb) (x .sxo)
+
+abbrev pub exceptedTo : Specials → ℕ → ℕ → Specials
+exceptedTo x sxb sxo = specials (x .sl) (x .sh) (x .ss) (x .st) (x .srb) (x .sro) sxb sxo
 
 -- The waiting load.
 abbrev pub withLoad : State → WaitingLoad → State
@@ -120,7 +126,7 @@ landed s = landing (s .load) s
 -- The products under way. One that falls due is written, and the others come one bundle nearer; a multiply begins one more.
 abbrev pub withProducts : State → Products → State
 withProducts s p =
-    state (s .registers) (s .predicates) (s .specials) (s .fetch) (s .base) (s .transfer) (s .load) (further p (s .further .held))
+    state (s .registers) (s .predicates) (s .specials) (s .fetch) (s .base) (s .transfer) (s .load) (further p (s .further .held) (s .further .replay))
 
 abbrev pub withArrival : Option Product → State → State
 withArrival none s = s
@@ -135,24 +141,44 @@ withBegun s low high = withProducts s (withOneMore (s .further .products) low hi
 -- The blocks held. Of a bundle's writes none changes them: a lookup does.
 abbrev pub withHeld : State → List ℕ → State
 withHeld s held =
-    state (s .registers) (s .predicates) (s .specials) (s .fetch) (s .base) (s .transfer) (s .load) (further (s .further .products) held)
+    state (s .registers) (s .predicates) (s .specials) (s .fetch) (s .base) (s .transfer) (s .load) (further (s .further .products) held (s .further .replay))
 
--- Where the core goes on: fetch address, base, the return registers, and what waits.
-abbrev pub withFlow : State → ℕ → ℕ → ℕ → ℕ → WaitingTransfer → State
-withFlow s srb sro fetch base waiting =
-    state (s .registers) (s .predicates) (returningTo (s .specials) srb sro) fetch base waiting (s .load) (s .further)
+-- How far the replay is: a handler is active or not, a record is taken, and a bundle is done.
+abbrev pub withReplay : State → Replay → State
+withReplay s r =
+    state (s .registers) (s .predicates) (s .specials) (s .fetch) (s .base) (s .transfer) (s .load) (further (s .further .products) (s .further .held) r)
+
+abbrev pub setActive : Replay → Bool → Replay
+setActive r active = replay active (r .place) (r .done)
+
+abbrev pub onePlaceOn : State → State
+onePlaceOn s = let r = s .further .replay in withReplay s (replay (r .active) (oneMore (r .place)) (r .done))
+
+abbrev pub withDone : State → State
+withDone s = let r = s .further .replay in withReplay s (replay (r .active) (r .place) (oneMore (r .done)))
+
+-- Where the core goes on: fetch address, base, the return registers, what waits, and whether a handler is active.
+abbrev pub withFlow : State → Specials → ℕ → ℕ → WaitingTransfer → Bool → State
+withFlow s x fetch base waiting active =
+    state (s .registers) (s .predicates) x fetch base waiting (s .load) (further (s .further .products) (s .further .held) (setActive (s .further .replay) active))
 
 -- Going on at an address, with a transfer that waits or none.
 abbrev pub goingOn : State → ℕ → WaitingTransfer → State
-goingOn s fetch waiting = withFlow s (s .specials .srb) (s .specials .sro) fetch (s .base) waiting
+goingOn s fetch waiting = withFlow s (s .specials) fetch (s .base) waiting (s .further .replay .active)
 
 -- A transfer carried out, at the end of the bundle before the following address. A call keeps where to return: in srb the base that
 -- it leaves, in sro the following address counted from there; its target is the new base. A block transfer brings its own base: brcf the
--- base operand, ret the srb that it read.
+-- base operand, ret the srb that it read. So does xret, the sxb that it read, and it ends the handler.
 unfoldable pub transferred : State → Transfer → ℕ → State
-transferred s (Br target) following = withFlow s (s .specials .srb) (s .specials .sro) target (s .base) transfer.Nothing
-transferred s (Call target) following = withFlow s (s .base) (sub following (s .base)) target target transfer.Nothing
-transferred s (Block target base) following = withFlow s (s .specials .srb) (s .specials .sro) target base transfer.Nothing
+transferred s (Br target) following = withFlow s (s .specials) target (s .base) transfer.Nothing (s .further .replay .active)
+transferred s (Call target) following = withFlow s (returningTo (s .specials) (s .base) (sub following (s .base))) target target transfer.Nothing (s .further .replay .active)
+transferred s (Block target base) following = withFlow s (s .specials) target base transfer.Nothing (s .further .replay .active)
+transferred s (Xret target base) following = withFlow s (s .specials) target base transfer.Nothing false
+
+-- A handler entered, to which xret returns at an address: in sxb the base that is left, in sxo the address counted from there. The handler is
+-- the new base, and active. An interrupt comes back to the fetch address that it found, a trap to the following address.
+unfoldable pub entered : State → ℕ → ℕ → State
+entered s handler back = withFlow s (exceptedTo (s .specials) (s .base) (sub back (s .base))) handler handler transfer.Nothing true
 
 -- Refusal 11 is for a state that is not well formed: r0 is not 0, p0 is not true, a load waits for a register that there is not, a
 -- transfer waits 0 or more than 3 bundles, or `productsOk` does not hold of the products under way. What it says of the blocks held needs
@@ -180,9 +206,9 @@ ended s codeLength = eqb (s .fetch) codeLength && noneWaits (s .transfer)
 -- The fresh state at an entry.
 unfoldable pub fresh : ℕ → ℕ → ℕ → State
 fresh codeLength hi entry =
-    state (replicate 32 0) (true ∷ predicatesOf 7 0) (specials 0 0 hi hi 0 codeLength 0 0) entry entry transfer.Nothing load.Nothing (further products.Nothing [])
+    state (replicate 32 0) (true ∷ predicatesOf 7 0) (specials 0 0 hi hi 0 codeLength 0 0) entry entry transfer.Nothing load.Nothing (further products.Nothing [] notBegun)
 
 -- The state that is nobody's: all zero, p0 too, so 11 describes it, and no step or run of any code takes it. Where there is no state to hand
 -- back, this one is.
 unfoldable pub blank : State
-blank = state (replicate 32 0) (replicate 8 false) (specials 0 0 0 0 0 0 0 0) 0 0 transfer.Nothing load.Nothing (further products.Nothing [])
+blank = state (replicate 32 0) (replicate 8 false) (specials 0 0 0 0 0 0 0 0) 0 0 transfer.Nothing load.Nothing (further products.Nothing [] notBegun)

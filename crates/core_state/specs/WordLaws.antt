@@ -6,7 +6,7 @@ use mathlib.Core.Path.{_≡_, refl, sym, ap, subst, _∙_}
 use lib.Dec.{leb}
 use Rattle.products.specs.Words.{productWords, FixedProducts}
 use Rattle.effects.specs.declared.Transfer.{Transfer}
-use Rattle.effects.specs.declared.Transfer.the-variants.{Br, Call, Block}
+use Rattle.effects.specs.declared.Transfer.the-variants.{Br, Call, Block, Xret}
 use Rattle.core_state.specs.declared.TransferWords.{TransferWords}
 use Rattle.core_state.specs.declared.LoadWords.{LoadWords}
 use Rattle.core_state.specs.declared.WaitingTransfer.{WaitingTransfer}
@@ -24,6 +24,7 @@ transfer-back transfer.Nothing = refl
 transfer-back (transfer.Waits (Br target) wait) = refl
 transfer-back (transfer.Waits (Call target) wait) = refl
 transfer-back (transfer.Waits (Block target base) wait) = refl
+transfer-back (transfer.Waits (Xret target base) wait) = refl
 
 pub load-back : (l : WaitingLoad) → waitingLoad (loadWords l) ≡ l
 unfolding waitingLoad loadWords
@@ -63,6 +64,7 @@ nearer-fixed w e = subst (λ (v : TransferWords). Fixed (nearerWords v)) e (go (
     go (transfer.Waits (Br target) n) = due transfer.Nothing (transfer.Waits (Br target) (n - 1)) (leb n 1)
     go (transfer.Waits (Call target) n) = due transfer.Nothing (transfer.Waits (Call target) (n - 1)) (leb n 1)
     go (transfer.Waits (Block target base) n) = due transfer.Nothing (transfer.Waits (Block target base) (n - 1)) (leb n 1)
+    go (transfer.Waits (Xret target base) n) = due transfer.Nothing (transfer.Waits (Xret target base) (n - 1)) (leb n 1)
 
 -- A core with such words is canonical.
 pub canonical-with : (c : Core) (w : TransferWords) (l : LoadWords) → c .transfer ≡ w → c .load ≡ l → Fixed w → loadWords (waitingLoad l) ≡ l → FixedProducts (c .products) → Canonical c
@@ -75,4 +77,4 @@ determined rs us ps qs c d k m e =
     let t : c .transfer ≡ d .transfer = sym (k .transfer) ∙ (λ i. transferWords (e i .transfer)) ∙ m .transfer in
     let l : c .load ≡ d .load = sym (k .load) ∙ (λ i. loadWords (e i .load)) ∙ m .load in
     let p : c .products ≡ d .products = sym (k .products) ∙ (λ i. productWords (e i .further .products)) ∙ m .products in
-    λ i. record { specials = e i .specials; fetch = e i .fetch; base = e i .base; transfer = t i; load = l i; products = p i }
+    λ i. record { specials = e i .specials; fetch = e i .fetch; base = e i .base; transfer = t i; load = l i; products = p i; replay = e i .further .replay }

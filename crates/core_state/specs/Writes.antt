@@ -3,7 +3,7 @@ use Prim.Native.Nat.{ℕ, _-_}
 use mathlib.Core.Bool.{Bool, cond}
 use lib.Dec.{leb}
 use Rattle.effects.specs.declared.Transfer.{Transfer}
-use Rattle.effects.specs.declared.Transfer.the-variants.{Br, Call, Block}
+use Rattle.effects.specs.declared.Transfer.the-variants.{Br, Call, Block, Xret}
 use Rattle.alu_effects.specs.declared.AluEffect.{AluEffect}
 use Rattle.alu_effects.specs.declared.AluEffect.the-variants as alu
 use Rattle.core_state.specs.State.{State, withRegister, withPredicate, goingOn, transferred}
@@ -21,6 +21,7 @@ unfoldable pub delaySlots : Transfer → ℕ
 delaySlots (Br target) = 2
 delaySlots (Call target) = 3
 delaySlots (Block target base) = 3
+delaySlots (Xret target base) = 3
 
 -- A waiting transfer comes one bundle nearer, and is carried out when it falls due.
 abbrev pub nearer : WaitingTransfer → ℕ → State → State

@@ -21,6 +21,7 @@ fn delay_slots(t: Transfer) -> u32
         Transfer::Br { target: _ } => 2,
         Transfer::Call { target: _ } => 3,
         Transfer::Block { target: _, base: _ } => 3,
+        Transfer::Xret { target: _, base: _ } => 3,
     }
 }
 

@@ -9,6 +9,7 @@ mod writes;
 use alu_effects::Specials;
 use effects::Transfer;
 use products::ProductWords;
+use replay::Replay;
 
 // The transfer that waits, and how many bundles are to be done before it has happened.
 pub enum WaitingTransfer {
@@ -22,7 +23,7 @@ pub enum WaitingLoad {
     Waits { register: u32, value: u32 },
 }
 
-// A waiting transfer as words. kind: 0 none, 1 br, 2 call, and any other block.
+// A waiting transfer as words. kind: 0 none, 1 br, 2 call, 3 block, and any other xret.
 pub struct TransferWords {
     pub kind: u32,
     pub target: u32,
@@ -45,4 +46,5 @@ pub struct Core {
     pub transfer: TransferWords,
     pub load: LoadWords,
     pub products: ProductWords,
+    pub replay: Replay,
 }

@@ -32,6 +32,12 @@ pub(crate) fn transfer_waits(t: Transfer, wait: u32) -> TransferWords
             base,
             wait,
         },
+        Transfer::Xret { target, base } => TransferWords {
+            kind: 4,
+            target,
+            base,
+            wait,
+        },
     }
 }
 
@@ -66,7 +72,10 @@ pub(crate) fn transfer_in(w: TransferWords) -> Transfer
         return Transfer::Call { target };
     }
     let base = w.base;
-    Transfer::Block { target, base }
+    if w.kind == 3 {
+        return Transfer::Block { target, base };
+    }
+    Transfer::Xret { target, base }
 }
 
 pub fn waiting_transfer(w: TransferWords) -> WaitingTransfer

@@ -3,7 +3,7 @@ ghost use mathlib.Core.Path.{_≡_};
 ghost use mathlib.Core.Bool.{Bool};
 ghost use mathlib.Core.List.{List};
 ghost use Prim.Native.Nat.{ℕ};
-ghost use Rattle.core_state.specs.State.{withRegister, withPredicate, withLoad, landed, goingOn, transferred};
+ghost use Rattle.core_state.specs.State.{withRegister, withPredicate, withLoad, landed, goingOn, transferred, entered, onePlaceOn, withDone};
 ghost use Rattle.core_state.specs.Core.{joined, waitingTransfer, waitingLoad, transferWords, loadWords, Written};
 use crate::Core;
 use crate::LoadWords;
@@ -13,6 +13,7 @@ use crate::WaitingTransfer;
 use crate::waiting::no_load;
 use crate::waiting::no_transfer;
 use effects::Transfer;
+use replay::one_more;
 
 impl Core {
     // A register written; r0 stays zero.
@@ -38,6 +39,7 @@ impl Core {
         let specials = self.specials;
         let transfer = self.transfer;
         let products = self.products;
+        let replay = self.replay;
         Core {
             specials,
             fetch: self.fetch,
@@ -45,6 +47,7 @@ impl Core {
             transfer,
             load,
             products,
+            replay,
         }
     }
 
@@ -68,6 +71,7 @@ impl Core {
         let specials = self.specials;
         let load = self.load;
         let products = self.products;
+        let replay = self.replay;
         Core {
             specials,
             fetch,
@@ -75,6 +79,7 @@ impl Core {
             transfer,
             load,
             products,
+            replay,
         }
     }
 
@@ -96,6 +101,44 @@ impl Core {
                 self.base = base;
                 self.go_on(target, no_transfer())
             }
+            Transfer::Xret { target, base } => {
+                self.base = base;
+                self.replay.active = false;
+                self.go_on(target, no_transfer())
+            }
         }
+    }
+
+    // A handler entered, from which xret returns to an address.
+    pub fn enter(mut self, handler: u32, back: u32) -> Core
+        ensures { λ x. ⌜ Written ((rs : List ℕ) (ps : List Bool) → joined rs ps x ≡ entered (joined rs ps self) handler back) x (transferWords WaitingTransfer.Nothing) (self .load) (self .products) ⌝ }
+    {
+        let base = self.base;
+        let offset = word::arithmetic::sub(back, base);
+        self.specials.sxb = base;
+        self.specials.sxo = offset;
+        self.base = handler;
+        self.replay.active = true;
+        self.go_on(handler, no_transfer())
+    }
+
+    // The record at the place is taken, and its handler entered.
+    pub fn take(self, handler: u32) -> Core
+        ensures { λ x. ⌜ Written ((rs : List ℕ) (ps : List Bool) → joined rs ps x ≡ onePlaceOn (entered (joined rs ps self) handler (self .fetch))) x (transferWords WaitingTransfer.Nothing) (self .load) (self .products) ⌝ }
+    {
+        let back = self.fetch;
+        let mut next = self.enter(handler, back);
+        let place = one_more(next.replay.place);
+        next.replay.place = place;
+        next
+    }
+
+    // One bundle more is done in the replay.
+    pub fn count(mut self) -> Core
+        ensures { λ x. ⌜ Written ((rs : List ℕ) (ps : List Bool) → joined rs ps x ≡ withDone (joined rs ps self)) x (self .transfer) (self .load) (self .products) ⌝ }
+    {
+        let done = one_more(self.replay.done);
+        self.replay.done = done;
+        self
     }
 }

@@ -26,6 +26,7 @@ use Rattle.stack_cache.specs.declared.StackControl as stack
 use Rattle.stack_cache.specs.declared.StackControl.the-variants as control
 use Rattle.memory.specs.Access.{loadScale, storeScale}
 use Rattle.alu_effects.specs.declared.Specials.{Specials}
+use Rattle.replay.specs.Replay.{handlerAt}
 use Rattle.alu_effects.specs.AluEffects.{holds, special, aluEffect, slotTwoEffect}
 use Rattle.effects.specs.declared.Transfer as declared
 use Rattle.effects.specs.declared.Transfer.the-variants as transfer
@@ -34,15 +35,16 @@ use Rattle.alu_effects.specs.declared.AluEffect.the-variants as alu
 use Rattle.effects.specs.declared.Effect.{Effect}
 use Rattle.effects.specs.declared.Effect.the-variants as effect
 
--- The part of the state that slots read.
+-- What slots read: a part of the state, and of what a run is given the table of handlers.
 pub record Start : Type 0 where
   pub registers : List ℕ
   pub predicates : List Bool
   pub specials : Specials
   pub fetch : ℕ
+  pub table : List ℕ
 
-abbrev pub start : List ℕ → List Bool → Specials → ℕ → Start
-start rs ps specials fetch = record { registers = rs; predicates = ps; specials = specials; fetch = fetch }
+abbrev pub start : List ℕ → List Bool → Specials → ℕ → List ℕ → Start
+start rs ps specials fetch table = record { registers = rs; predicates = ps; specials = specials; fetch = fetch; table = table }
 
 abbrev pub register : Start → ℕ → ℕ
 register s r = getD (s .registers) r 0
@@ -88,6 +90,7 @@ transferOf s (target.Brcf n) = transfer.Block (bytesOf n) (bytesOf n)
 transferOf s (target.BrcfRegister b o) = transfer.Block (add (register s b) (register s o)) (register s b)
 transferOf s target.Ret = transfer.Block (add (s .specials .srb) (s .specials .sro)) (s .specials .srb)
 
+-- A trap's handler is looked up in the table; xret takes block and offset from sxb and sxo, as ret does from srb and sro.
 unfoldable pub effectOf : Start → Operation → Effect
 effectOf s (Alu o) = effect.Alu (aluEffect (s .registers) (s .predicates) o)
 effectOf s (Multiply f a b) =
@@ -99,8 +102,8 @@ effectOf s (Load k w rd ra o) = effect.Load k w rd (address (s .registers) (s .s
 effectOf s (Store k w ra rs o) = effect.Store k w (address (s .registers) (s .specials .st) k (storeScale w) ra o) (register s rs)
 effectOf s (StackControl o) = stackEffect (s .registers) o
 effectOf s (Transfer d t) = effect.Transfer d (transferOf s t)
-effectOf s (Trap n) = effect.Exception
-effectOf s (Xret d) = effect.Exception
+effectOf s (Trap n) = effect.Trap n (handlerAt (s .table) n)
+effectOf s (Xret d) = effect.Transfer d (transfer.Xret (add (s .specials .sxb) (s .specials .sxo)) (s .specials .sxb))
 
 -- A slot whose guard is false does nothing, so nothing of it can be refused.
 unfoldable pub slotOneEffect : Start → Instruction → Effect
@@ -119,13 +122,13 @@ slotTwo s (One i) = alu.Nothing
 slotTwo s (Two i j) = slotTwoEffect (s .registers) (s .predicates) j
 slotTwo s (Long i) = alu.Nothing
 
--- By cases: of a stack instruction, of a transfer, and of every other effect.
-abbrev pub onEffect : {A : Type 0} → A → (stack.StackControl → ℕ → Bool → A) → (Bool → declared.Transfer → A) → Effect → A
-onEffect other f g (effect.Alu a) = other
-onEffect other f g (effect.Special d v) = other
-onEffect other f g (effect.Product l h) = other
-onEffect other f g (effect.Load k w r a) = other
-onEffect other f g (effect.Store k w a v) = other
-onEffect other f g (effect.Stack c n m) = f c n m
-onEffect other f g (effect.Transfer d t) = g d t
-onEffect other f g effect.Exception = other
+-- By cases: of a stack instruction, of a transfer, of a trap, and of every other effect.
+abbrev pub onEffect : {A : Type 0} → A → (stack.StackControl → ℕ → Bool → A) → (Bool → declared.Transfer → A) → (ℕ → ℕ → A) → Effect → A
+onEffect other f g h (effect.Alu a) = other
+onEffect other f g h (effect.Special d v) = other
+onEffect other f g h (effect.Product l u) = other
+onEffect other f g h (effect.Load k w r a) = other
+onEffect other f g h (effect.Store k w a v) = other
+onEffect other f g h (effect.Stack c n m) = f c n m
+onEffect other f g h (effect.Transfer d t) = g d t
+onEffect other f g h (effect.Trap n a) = h n a

@@ -8,11 +8,12 @@ use isa::Special;
 use isa::StoreWidth;
 use stack_cache::StackControl;
 
-// A transfer of control that is to be carried out. Block is brcf and ret, which set the base.
+// A transfer of control that is to be carried out. Block is brcf and ret, which set the base; so does xret, which also ends a handler.
 pub enum Transfer {
     Br { target: u32 },
     Call { target: u32 },
     Block { target: u32, base: u32 },
+    Xret { target: u32, base: u32 },
 }
 
 // What slot one can do.
@@ -47,5 +48,8 @@ pub enum Effect {
         delayed: bool,
         transfer: Transfer,
     },
-    Exception,
+    Trap {
+        vector: u32,
+        handler: u32,
+    },
 }

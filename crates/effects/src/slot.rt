@@ -22,6 +22,7 @@ use isa::StackOperation;
 use isa::Target;
 use memory::width::load_scale;
 use memory::width::store_scale;
+use replay::handler_at;
 use stack_cache::StackControl;
 use word::arithmetic::add;
 use word::bits::shift_left;
@@ -86,7 +87,7 @@ fn stack_effect(registers: &[u32], o: StackOperation) -> Effect
 
 // Where a transfer of this bundle goes.
 fn transfer_of(registers: &[u32], specials: Specials, fetch: u32, t: Target) -> Transfer
-    ensures { λ x. ⌜ ((ps : List Bool) → x ≡ transferOf (start (now (registers .entry)) ps specials fetch) t) ⌝ }
+    ensures { λ x. ⌜ ((ps : List Bool) (table : List ℕ) → x ≡ transferOf (start (now (registers .entry)) ps specials fetch table) t) ⌝ }
 {
     match t {
         Target::Call(n) => Transfer::Call {
@@ -135,9 +136,10 @@ fn effect<'a>(
     predicates: &'a [bool; 8],
     specials: Specials,
     fetch: u32,
+    table: &'a [u8],
     o: Operation,
 ) -> Effect
-    ensures { λ x. ⌜ x ≡ effectOf (start (now (registers .entry)) (now (predicates .entry)) specials fetch) o ⌝ }
+    ensures { λ x. ⌜ x ≡ effectOf (start (now (registers .entry)) (now (predicates .entry)) specials fetch (now (table .entry))) o ⌝ }
 {
     match o {
         Operation::Alu(a) => Effect::Alu(alu_effect(registers, predicates, a)),
@@ -185,8 +187,18 @@ fn effect<'a>(
             delayed,
             transfer: transfer_of(registers, specials, fetch, target),
         },
-        Operation::Trap(_) => Effect::Exception,
-        Operation::Xret { delayed: _ } => Effect::Exception,
+        Operation::Trap(vector) => Effect::Trap {
+            vector,
+            handler: handler_at(table, vector),
+        },
+        Operation::Xret { delayed } => {
+            let base = specials.sxb;
+            let target = add(base, specials.sxo);
+            Effect::Transfer {
+                delayed,
+                transfer: Transfer::Xret { target, base },
+            }
+        }
     }
 }
 
@@ -196,14 +208,15 @@ fn slot_one_effect<'a>(
     predicates: &'a [bool; 8],
     specials: Specials,
     fetch: u32,
+    table: &'a [u8],
     i: Instruction,
 ) -> Effect
-    ensures { λ x. ⌜ x ≡ slotOneEffect (start (now (registers .entry)) (now (predicates .entry)) specials fetch) i ⌝ }
+    ensures { λ x. ⌜ x ≡ slotOneEffect (start (now (registers .entry)) (now (predicates .entry)) specials fetch (now (table .entry))) i ⌝ }
 {
     let guard = i.guard;
     let operation = i.operation;
     if operand(predicates, guard) {
-        return effect(registers, predicates, specials, fetch, operation);
+        return effect(registers, predicates, specials, fetch, table, operation);
     }
     Effect::Alu(AluEffect::Nothing)
 }
@@ -214,21 +227,22 @@ pub fn slot_one<'a>(
     predicates: &'a [bool; 8],
     specials: Specials,
     fetch: u32,
+    table: &'a [u8],
     b: Bundle,
 ) -> Effect
-    ensures { λ x. ⌜ x ≡ slotOne (start (now (registers .entry)) (now (predicates .entry)) specials fetch) b ⌝ }
+    ensures { λ x. ⌜ x ≡ slotOne (start (now (registers .entry)) (now (predicates .entry)) specials fetch (now (table .entry))) b ⌝ }
 {
     match b {
         Bundle::Undecodable => Effect::Alu(AluEffect::Nothing),
         Bundle::One(i) | Bundle::Long(i) | Bundle::Two(i, _) => {
-            slot_one_effect(registers, predicates, specials, fetch, i)
+            slot_one_effect(registers, predicates, specials, fetch, table, i)
         }
     }
 }
 
 // What slot two of a bundle does; nothing where it has none.
 pub fn slot_two<'a>(registers: &'a [u32], predicates: &'a [bool], b: Bundle) -> AluEffect
-    ensures { λ x. ⌜ ((specials : Specials) (fetch : ℕ) → x ≡ slotTwo (start (now (registers .entry)) (now (predicates .entry)) specials fetch) b) ⌝ }
+    ensures { λ x. ⌜ ((specials : Specials) (fetch : ℕ) (table : List ℕ) → x ≡ slotTwo (start (now (registers .entry)) (now (predicates .entry)) specials fetch table) b) ⌝ }
 {
     match b {
         Bundle::Undecodable => AluEffect::Nothing,

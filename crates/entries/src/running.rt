@@ -1,6 +1,6 @@
 // One step and a run, from a record to a record.
 ghost use mathlib.Core.Path.{_≡_};
-ghost use Rattle.settings.specs.Setup.{setup};
+ghost use Rattle.settings.specs.Setup.{replaying, setup};
 ghost use Rattle.record.specs.Written.{longestOf};
 ghost use Rattle.resume_model.specs.Resume.{resumed, restepped};
 ghost use Rattle.entries.specs.Entries.{configOf, calledOf, called};
@@ -25,6 +25,8 @@ pub extern "C" fn laqemdit_step(
     main: &mut [u8],
     local: &mut [u8],
     out: &mut [u8],
+    list: &[u8],
+    table: &[u8],
     words: u32,
     lo: u32,
     hi: u32,
@@ -32,7 +34,7 @@ pub extern "C" fn laqemdit_step(
     blocks: u32,
     bytes: u32,
 ) -> u32
-    ensures { λ r. ⌜ calledOf r (now (main .exit)) (now (local .exit)) (now (out .exit)) ≡ called (restepped (setup (now (code .entry)) (configOf lo hi on blocks bytes)) words (now (stopped .entry)) (now (main .entry)) (now (local .entry)) (now (out .entry))) ⌝ }
+    ensures { λ r. ⌜ calledOf r (now (main .exit)) (now (local .exit)) (now (out .exit)) ≡ called (restepped (replaying (now (list .entry)) (now (table .entry)) (setup (now (code .entry)) (configOf lo hi on blocks bytes))) words (now (stopped .entry)) (now (main .entry)) (now (local .entry)) (now (out .entry))) ⌝ }
 {
     let config = config_of(lo, hi, on, blocks, bytes);
     let r = restep(
@@ -41,6 +43,8 @@ pub extern "C" fn laqemdit_step(
         &mut *main,
         &mut *local,
         &mut *out,
+        list,
+        table,
         words as usize,
         config,
     );
@@ -55,6 +59,8 @@ pub extern "C" fn laqemdit_run(
     main: &mut [u8],
     local: &mut [u8],
     out: &mut [u8],
+    list: &[u8],
+    table: &[u8],
     budget: u32,
     words: u32,
     lo: u32,
@@ -63,7 +69,7 @@ pub extern "C" fn laqemdit_run(
     blocks: u32,
     bytes: u32,
 ) -> u32
-    ensures { λ r. ⌜ calledOf r (now (main .exit)) (now (local .exit)) (now (out .exit)) ≡ called (resumed (setup (now (code .entry)) (configOf lo hi on blocks bytes)) budget words (now (stopped .entry)) (now (main .entry)) (now (local .entry)) (now (out .entry))) ⌝ }
+    ensures { λ r. ⌜ calledOf r (now (main .exit)) (now (local .exit)) (now (out .exit)) ≡ called (resumed (replaying (now (list .entry)) (now (table .entry)) (setup (now (code .entry)) (configOf lo hi on blocks bytes))) budget words (now (stopped .entry)) (now (main .entry)) (now (local .entry)) (now (out .entry))) ⌝ }
 {
     let config = config_of(lo, hi, on, blocks, bytes);
     let r = resume(
@@ -72,6 +78,8 @@ pub extern "C" fn laqemdit_run(
         &mut *main,
         &mut *local,
         &mut *out,
+        list,
+        table,
         words as usize,
         config,
         budget,

@@ -27,7 +27,7 @@ use Rattle.marking.specs.Marking.{privateStore, publicRegister, publicPredicate
 use Rattle.even_pace.specs.Terms.{SameState, SameBuffers}
 use Rattle.even_pace.specs.StateLaws.{state-refl, state-sym, state-trans, register-both, predicate-both}
 use Rattle.even_pace.specs.WriteLaws.{special-both, stack-both, load-both, register-quiet, predicate-quiet, special-quiet, load-quiet, waits-private, waits-none}
-use Rattle.even_pace.specs.FlowLaws.{nearer-both, begun-both}
+use Rattle.even_pace.specs.FlowLaws.{entered-both, nearer-both, begun-both}
 use Rattle.even_pace.specs.ProductLaws.{begun-product-both, begun-product-quiet}
 use Rattle.even_pace.specs.BufferLaws.{read-both}
 use Rattle.settings.specs.Setup.{Buffers, Setup}
@@ -48,9 +48,9 @@ pub data SameEffect (m : Marking) : Effect → Effect → Type 0 where
       → SameEffect m (effect.Store k w a v₁) (effect.Store k w a v₂)
   stack : {c : StackControl} {n : ℕ} {z : Bool} → SameEffect m (effect.Stack c n z) (effect.Stack c n z)
   transfer : {d : Bool} {t : Transfer} → SameEffect m (effect.Transfer d t) (effect.Transfer d t)
-  exception : SameEffect m effect.Exception effect.Exception
+  trap : {n handler : ℕ} → SameEffect m (effect.Trap n handler) (effect.Trap n handler)
 
--- An effect that writes private places alone, and carries out no transfer or stack control.
+-- An effect that writes private places alone, and carries out no transfer, trap or stack control.
 pub data QuietAlu (m : Marking) : AluEffect → Type 0 where
   quiet-none : QuietAlu m alu.Nothing
   quiet-register : {r v : ℕ} → publicRegister m r ≡ false → QuietAlu m (alu.Register r v)
@@ -109,7 +109,7 @@ module _ {m : Marking} (g : Settings) (x : Setup) {b₁ b₂ : Buffers} (b : Sam
   writeOne-both s (stack {c} {n}) p =
       stack-both s _ _ _ _ (ap (λ (z : ℕ). topAfter c z n) (from .specials .st)) (λ i. spillAfter c (g .words) (from .specials .st i) (from .specials .ss i) n)
   writeOne-both s transfer p = s
-  writeOne-both s exception p = s
+  writeOne-both s trap p = s
 
   writeOne-quiet : {e : Effect} (c : Buffers) (z s : State) → QuietEffect m e → s .load ≡ Nothing → length (s .predicates) ≡ 8
       → getD (s .predicates) 0 false ≡ true
@@ -139,7 +139,7 @@ module _ {m : Marking} {s₁ s₂ : State} (s : SameState m s₁ s₂) (w : Wait
   onward-both (store h) = nearer-both s w following
   onward-both stack = nearer-both s w following
   onward-both (transfer {d} {t}) = begun-both s d t following
-  onward-both exception = nearer-both s w following
+  onward-both (trap {n} {handler}) = entered-both s handler handler following following refl refl
 
   onward-quiet : {e : Effect} (z : State) → QuietEffect m e → onward e w following z ≡ nearer w following z
   onward-quiet z (quiet-alu h) = refl

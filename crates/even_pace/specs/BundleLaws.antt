@@ -1,4 +1,4 @@
--- One bundle in both runs: unless a load or store under a private guard is refused, it is answered and counted alike and leaves
+-- The bundle at the fetch address in both runs: unless a load or store under a private guard is refused, it is answered and counted alike and leaves
 -- what agrees.
 use Prim.Native.Nat.{ℕ, _≤_}
 use mathlib.Core.Bool.{Bool, true, false, false≢true}
@@ -40,11 +40,11 @@ pub record SameOutcome (m : Marking) (x : Setup) (o₁ o₂ : Outcome) : Type 0 
 -- A bundle that can be read, by what it holds and the address after it.
 abbrev pub doneOf : Settings → Setup → Bundle → ℕ → State → Buffers → Outcome
 doneOf g x i following s b =
-    outcome done (stateDone g x b s (slotOne (startOf s) i) (slotTwo (startOf s) i) following)
-    (countsOf g x s (slotOne (startOf s) i)) (buffersAfter g x s (slotOne (startOf s) i) b)
+    outcome done (stateDone g x b s (slotOne (startOf (x .table) s) i) (slotTwo (startOf (x .table) s) i) following)
+    (countsOf g x s (slotOne (startOf (x .table) s) i)) (buffersAfter g x s (slotOne (startOf (x .table) s) i) b)
 
 abbrev pub outcomeOf : Settings → Setup → Bundle → ℕ → State → Buffers → Outcome
-outcomeOf g x i following s b = refusedOr (verdictOf (slotTests g x s (slotOne (startOf s) i))) s b (doneOf g x i following s b)
+outcomeOf g x i following s b = refusedOr (verdictOf (slotTests g x s (slotOne (startOf (x .table) s) i))) s b (doneOf g x i following s b)
 
 pub bundle-outcome : {m : Marking} (g : Settings) (x : Setup) (s : State) (b : Buffers) → Fine m (x .code) (s .fetch)
     → bundle g x s b ≡ outcomeOf g x (bundleAt (x .code) (s .fetch)) (followingAt (x .code) (s .fetch)) s b
@@ -76,8 +76,8 @@ module _ {m : Marking} (g : Settings) (x : Setup) (ordered : x .lo ≤ x .hi) {s
     NoStop : State → Buffers → Verdict → Type 0
     NoStop s b v = hasPrivateAccess m i ≡ true → (n : ℕ) → refusedOr v s b (doneOf g x i following s b) .answer ≡ refused n → ⊥
 
-    done-both : AlikeEffect m (slotOne (startOf s₁) i) (slotOne (startOf s₂) i) → verdictOf (slotTests g x s₁ (slotOne (startOf s₁) i)) ≡ Passing
-        → verdictOf (slotTests g x s₂ (slotOne (startOf s₂) i)) ≡ Passing
+    done-both : AlikeEffect m (slotOne (startOf (x .table) s₁) i) (slotOne (startOf (x .table) s₂) i) → verdictOf (slotTests g x s₁ (slotOne (startOf (x .table) s₁) i)) ≡ Passing
+        → verdictOf (slotTests g x s₂ (slotOne (startOf (x .table) s₂) i)) ≡ Passing
         → SameOutcome m x (doneOf g x i following s₁ b₁) (doneOf g x i following s₂ b₂)
     done-both h p q =
         record {
@@ -87,22 +87,22 @@ module _ {m : Marking} (g : Settings) (x : Setup) (ordered : x .lo ≤ x .hi) {s
               (slot-passed g x s₁ _ p) (slot-passed g x s₂ _ q) (w₁ .eight) (w₂ .eight) (w₁ .first) (w₂ .first);
         }
 
-    outcome-alike : NoStop s₁ b₁ (verdictOf (slotTests g x s₁ (slotOne (startOf s₁) i)))
-        → NoStop s₂ b₂ (verdictOf (slotTests g x s₂ (slotOne (startOf s₂) i)))
+    outcome-alike : NoStop s₁ b₁ (verdictOf (slotTests g x s₁ (slotOne (startOf (x .table) s₁) i)))
+        → NoStop s₂ b₂ (verdictOf (slotTests g x s₂ (slotOne (startOf (x .table) s₂) i)))
         → SameOutcome m x (outcomeOf g x i following s₁ b₁) (outcomeOf g x i following s₂ b₂)
     unfolding NoStop
     outcome-alike n₁ n₂ = go (bundle-one g x (a .state) (w₁ .eight) i readable kept)
       where
         v₁ : Verdict
-        v₁ = verdictOf (slotTests g x s₁ (slotOne (startOf s₁) i))
+        v₁ = verdictOf (slotTests g x s₁ (slotOne (startOf (x .table) s₁) i))
 
         v₂ : Verdict
-        v₂ = verdictOf (slotTests g x s₂ (slotOne (startOf s₂) i))
+        v₂ = verdictOf (slotTests g x s₂ (slotOne (startOf (x .table) s₂) i))
 
         out : Verdict → Verdict → Type 0
         out z y = SameOutcome m x (refusedOr z s₁ b₁ (doneOf g x i following s₁ b₁)) (refusedOr y s₂ b₂ (doneOf g x i following s₂ b₂))
 
-        judged : AlikeEffect m (slotOne (startOf s₁) i) (slotOne (startOf s₂) i) → (z y : Verdict) → v₁ ≡ z → v₂ ≡ y → z ≡ y → out z y
+        judged : AlikeEffect m (slotOne (startOf (x .table) s₁) i) (slotOne (startOf (x .table) s₂) i) → (z y : Verdict) → v₁ ≡ z → v₂ ≡ y → z ≡ y → out z y
         judged h Passing Passing p q e = done-both h p q
         judged h Passing (Refused n) p q e = absurd (false≢true (sym (ap isFine e)))
         judged h (Refused n) Passing p q e = absurd (false≢true (ap isFine e))
@@ -114,7 +114,7 @@ module _ {m : Marking} (g : Settings) (x : Setup) (ordered : x .lo ≤ x .hi) {s
         passes s b Passing true e f h = refl
         passes s b (Refused n) true e f h = absurd (h e n refl)
 
-        go : SlotCase m g x s₁ s₂ (hasPrivateAccess m i) (slotOne (startOf s₁) i) (slotOne (startOf s₂) i) → out v₁ v₂
+        go : SlotCase m g x s₁ s₂ (hasPrivateAccess m i) (slotOne (startOf (x .table) s₁) i) (slotOne (startOf (x .table) s₂) i) → out v₁ v₂
         go (public-slot h) = judged (same-effect h) v₁ v₂ refl refl (slot-both x g (a .state) h)
         go (private-slot h k f₁ f₂) =
             let p = passes s₁ b₁ v₁ (hasPrivateAccess m i) refl (λ z. ap verdictOf (slot-plain g x s₁ _ (lookups-quiet x h)) ∙ f₁ z) n₁ in

@@ -10,6 +10,7 @@ use Rattle.memory.specs.Access.{storeScale}
 use Rattle.alu_effects.specs.declared.AluEffect.{AluEffect}
 use Rattle.effects.specs.declared.Effect.{Effect}
 use Rattle.effects.specs.declared.Effect.the-variants as effect
+use Rattle.replay.specs.Replay.{replay}
 use Rattle.products.specs.declared.Products.the-variants as products
 use Rattle.core_state.specs.State.{State, state, specials, further, landed, arrived}
 use Rattle.core_state.specs.declared.WaitingTransfer.{WaitingTransfer}
@@ -29,13 +30,13 @@ use Rattle.even_pace.specs.StateLaws.{with-held}
 use Rattle.even_pace.specs.FlowLaws.{landed-both, landed-predicates, landed-none}
 use Rattle.even_pace.specs.ProductLaws.{arrived-both}
 use Rattle.even_pace.specs.BufferLaws.{buffers-refl, buffers-sym, buffers-trans, store-both, store-quiet, moved-both}
-use Rattle.even_pace.specs.Alike.{SameEffect, of-alu, special, product, load, store, stack, transfer, exception, QuietEffect, quiet-alu, quiet-special, quiet-product, quiet-load, quiet-store, AlikeAlu, AlikeEffect, same-effect, quiet-effects, writeAlu-alike, writeOne-alike, onward-alike}
+use Rattle.even_pace.specs.Alike.{SameEffect, of-alu, special, product, load, store, stack, transfer, trap, QuietEffect, quiet-alu, quiet-special, quiet-product, quiet-load, quiet-store, AlikeAlu, AlikeEffect, same-effect, quiet-effects, writeAlu-alike, writeOne-alike, onward-alike}
 use Rattle.settings.specs.Setup.{Buffers, Setup}
 use Rattle.answers.specs.Test.{verdict as verdictOf}
 
--- What of a state judges and counts a bundle: ss, st, the waiting transfer and the blocks held.
+-- What of a state judges and counts a bundle: ss, st, the waiting transfer, the blocks held, and whether a handler is active.
 judging : State → State
-judging s = state [] [] (specials 0 0 (s .specials .ss) (s .specials .st) 0 0 0 0) 0 0 (s .transfer) Nothing (further products.Nothing (s .further .held))
+judging s = state [] [] (specials 0 0 (s .specials .ss) (s .specials .st) 0 0 0 0) 0 0 (s .transfer) Nothing (further products.Nothing (s .further .held) (replay (s .further .replay .active) 0 0))
 
 tests-judging : (g : Settings) (x : Setup) (s : State) (e : Effect) → effectTests g x s e ≡ effectTests g x (judging s) e
 unfolding judging
@@ -46,7 +47,7 @@ tests-judging g x s (effect.Load k w r a) = refl
 tests-judging g x s (effect.Store k w a v) = refl
 tests-judging g x s (effect.Stack c n z) = refl
 tests-judging g x s (effect.Transfer d t) = refl
-tests-judging g x s effect.Exception = refl
+tests-judging g x s (effect.Trap n handler) = refl
 
 counts-judging : (g : Settings) (x : Setup) (s : State) (e : Effect) → countsOf g x s e ≡ countsOf g x (judging s) e
 unfolding judging
@@ -57,7 +58,7 @@ counts-judging g x s (effect.Load k w r a) = refl
 counts-judging g x s (effect.Store k w a v) = refl
 counts-judging g x s (effect.Stack c n z) = refl
 counts-judging g x s (effect.Transfer d t) = refl
-counts-judging g x s effect.Exception = refl
+counts-judging g x s (effect.Trap n handler) = refl
 
 moved-judging : (g : Settings) (x : Setup) (s : State) (c : StackControl) (n : ℕ) (b : Buffers) → stackMoved g x s c n b ≡ stackMoved g x (judging s) c n b
 unfolding judging stackMoved
@@ -66,7 +67,7 @@ moved-judging g x s c n b = refl
 module _ {m : Marking} (g : Settings) (x : Setup) {s₁ s₂ : State} (a : SameState m s₁ s₂) where
   same-judging : judging s₁ ≡ judging s₂
   unfolding judging
-  same-judging = λ i. state [] [] (specials 0 0 (a .specials .ss i) (a .specials .st i) 0 0 0 0) 0 0 (a .transfer i) Nothing (further products.Nothing (a .further .held i))
+  same-judging = λ i. state [] [] (specials 0 0 (a .specials .ss i) (a .specials .st i) 0 0 0 0) 0 0 (a .transfer i) Nothing (further products.Nothing (a .further .held i) (replay (a .further .replay i .active) 0 0))
 
   tests-same : (e : Effect) → effectTests g x s₁ e ≡ effectTests g x s₂ e
   tests-same e = tests-judging g x s₁ e ∙ ap (λ (s : State). effectTests g x s e) same-judging ∙ sym (tests-judging g x s₂ e)
@@ -83,7 +84,7 @@ module _ {m : Marking} (g : Settings) (x : Setup) {s₁ s₂ : State} (a : SameS
   verdict-both (store {k} {w} {a = z} {v₁} h) = ap verdictOf (tests-same (effect.Store k w z v₁))
   verdict-both (stack {c} {n} {z}) = ap verdictOf (tests-same (effect.Stack c n z))
   verdict-both (transfer {d} {t}) = ap verdictOf (tests-same (effect.Transfer d t))
-  verdict-both exception = refl
+  verdict-both (trap {n} {handler}) = ap verdictOf (tests-same (effect.Trap n handler))
 
   counts-both : {e₁ e₂ : Effect} → SameEffect m e₁ e₂ → countsOf g x s₁ e₁ ≡ countsOf g x s₂ e₂
   unfolding misses wordsFetched
@@ -94,7 +95,7 @@ module _ {m : Marking} (g : Settings) (x : Setup) {s₁ s₂ : State} (a : SameS
   counts-both (store h) = refl
   counts-both (stack {c} {n} {z}) = counts-same (effect.Stack c n z)
   counts-both (transfer {d} {t}) = counts-same (effect.Transfer d t)
-  counts-both exception = refl
+  counts-both (trap {n} {handler}) = counts-same (effect.Trap n handler)
 
 -- The same blocks are looked up by effects that are alike: by the same effect, and none by a quiet one.
 module _ {m : Marking} (x : Setup) where
@@ -106,7 +107,7 @@ module _ {m : Marking} (x : Setup) where
   lookups-both (store h) = refl
   lookups-both stack = refl
   lookups-both transfer = refl
-  lookups-both exception = refl
+  lookups-both trap = refl
 
   pub lookups-quiet : {e : Effect} → QuietEffect m e → lookups x e ≡ []
   lookups-quiet (quiet-alu h) = refl
@@ -167,7 +168,7 @@ module _ {m : Marking} (g : Settings) (x : Setup) (ordered : x .lo ≤ x .hi) {s
       let e = moved-judging g x s₁ c n b₂ ∙ ap (λ (s : State). stackMoved g x s c n b₂) (same-judging g x a) ∙ sym (moved-judging g x s₂ c n b₂) in
       subst (λ (z : Buffers). SameBuffers m x (stackMoved g x s₁ c n b₁) z) e (moved-both m g x ordered s₁ c n b inside)
   buffers-both transfer p = b
-  buffers-both exception p = b
+  buffers-both trap p = b
 
   buffers-quiet : {e : Effect} (s : State) (c : Buffers) → QuietEffect m e → Passed g x s e → SameBuffers m x (buffersAfter g x s e c) c
   unfolding buffersAfter

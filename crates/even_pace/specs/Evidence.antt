@@ -58,7 +58,7 @@ program-ends = (refl, refl)
 -- Lists of one bundle that is no stopping event.
 pub goes : (m : Marking) (code : List ℕ) (t : Tried) → Walked code (t .fetch) → hasPrivateAccess m (bundleAt code (t .fetch)) ≡ false → ¬ Stops m code t
 goes m code t w e (not-walked n) = n w
-goes m code t w e (refused-access n p q) = false≢true (sym e ∙ q)
+goes m code t w e (refused-access n p o q) = false≢true (sym e ∙ q)
 
 module _ (m : Marking) (code : List ℕ) (t₁ t₂ : Tried) (a₁ a₂ : Returned) (n₁ : ¬ Stops m code t₁) (n₂ : ¬ Stops m code t₂) where
   not-at : (k : ℕ) → StopTried m (within code) (t₁ ∷ []) (t₂ ∷ []) k → ⊥
@@ -206,7 +206,7 @@ answers-S = (refl, refl)
 
 pub stops-S : Stops marking programS (one programS (begin 0 true load.Nothing))
 unfolding tried hasAccess
-stops-S = refused-access 6 refl refl
+stops-S = refused-access 6 refl refl refl
 
 pub first-S : StopTried marking (within programS) (tries (within programS) 1 (begin 0 true load.Nothing) lent noCounts)
     (tries (within programS) 1 (begin 0 false load.Nothing) lent noCounts) 0

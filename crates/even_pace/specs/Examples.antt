@@ -18,13 +18,16 @@ use Rattle.settings.specs.Settings.{admits}
 use Rattle.memory.specs.Access.{loadScale, storeScale, readNumber, extended, loadedValue, stored, mainOpen, accessOpen}
 use Rattle.alu_effects.specs.AluEffects.{predicatesWord, special, op2Value, aluEffect, slotTwoEffect}
 use Rattle.effects.specs.Effect.{accessAddress, amountWords, amountAligned, stackEffect, transferOf, effectOf, slotOneEffect}
+use Rattle.sections.specs.Words.{wordsFrom, wordsIn}
+use Rattle.replay.specs.Replay.{notBegun, handlerAt, recordsOk, replayOk, dueIn, oneMore}
 use Rattle.products.specs.declared.Products.the-variants as products
 use Rattle.products.specs.Products.{productsOk, dueProduct, nearerProducts, withOneMore}
-use Rattle.core_state.specs.State.{State, Shaped, state, specials, withRegister, withPredicate, predicatesOf, withSpecial, landed, transferred, arrived, further, partsOk, ended as hasEnded}
+use Rattle.core_state.specs.State.{State, Shaped, state, specials, withRegister, withPredicate, predicatesOf, withSpecial, landed, transferred, entered, arrived, further, partsOk, ended as hasEnded}
 use Rattle.core_state.specs.declared.WaitingTransfer.the-variants as transfer
 use Rattle.core_state.specs.declared.WaitingLoad.{WaitingLoad}
 use Rattle.core_state.specs.declared.WaitingLoad.the-variants as load
-use Rattle.bundle_model.specs.Bundle.{stackMoved, buffersAfter, writeOne, written, Outcome, bundle, wellFormed, readiness, step}
+use Rattle.bundle_model.specs.Interrupt.{due, entryLookups, entryTests, taken}
+use Rattle.bundle_model.specs.Bundle.{stackMoved, buffersAfter, writeOne, written, Outcome, bundle, attempt, wellFormed, readiness, step}
 use Rattle.bundle_model.specs.Lookup.{basesOf, lookupTests}
 use Rattle.bundle_model.specs.Refusal.{slotTests}
 use Rattle.core_state.specs.Writes.{writeAlu, delaySlots}
@@ -47,9 +50,14 @@ abbrev pub bytesOf : List ℕ → List ℕ
 bytesOf [] = []
 bytesOf (w ∷ ws) = w / 16777216 ∷ w / 65536 % 256 ∷ w / 256 % 256 ∷ w % 256 ∷ bytesOf ws
 
--- Main memory of 32 bytes with the stack area from 16 on, 4 bytes of local memory and a cache of 4 words, all zero.
+-- A table of handlers that are all at 0: none is there.
+abbrev pub noHandlers : List ℕ
+noHandlers = replicate 128 0
+
+-- Main memory of 32 bytes with the stack area from 16 on, 4 bytes of local memory and a cache of 4 words, all zero. No interrupt is replayed, unless
+-- it is said.
 abbrev pub withMethod : List ℕ → Method → Setup
-withMethod code c = record { code = code; lo = 16; hi = 32; method = c }
+withMethod code c = record { code = code; list = []; table = noHandlers; lo = 16; hi = 32; method = c }
 
 -- Without a method cache, unless it is said.
 abbrev pub within : List ℕ → Setup
@@ -76,7 +84,7 @@ marking = markingWith false false
 
 -- A state at address 0 with a value in r1, one in p1, and a load that waits or none.
 abbrev pub begin : ℕ → Bool → WaitingLoad → State
-begin v p waiting = state (0 ∷ v ∷ replicate 30 0) (true ∷ p ∷ replicate 6 false) (specials 0 0 32 32 0 4 0 0) 0 0 transfer.Nothing waiting (further products.Nothing [])
+begin v p waiting = state (0 ∷ v ∷ replicate 30 0) (true ∷ p ∷ replicate 6 false) (specials 0 0 32 32 0 4 0 0) 0 0 transfer.Nothing waiting (further products.Nothing [] notBegun)
 
 -- What the check answers, which rules the bundle at 0 breaks, what a step gives, what a run tries, and what it answers. (The first line of each names
 -- the definitions by which it is computed.)
@@ -99,6 +107,7 @@ hasAccess code a = hasPrivateAccess marking (bundleAt code a)
 
 unfoldable pub stepped : List ℕ → Method → State → Outcome
 unfolding step readiness admits isCacheSize capacityOk wellFormed partsOk heldOk heldGood badBlock sizeAt isHeld bytesHeld hasEnded bundle
+    attempt replayOk recordsOk wordsIn wordsFrom due dueIn handlerAt oneMore entryLookups entryTests taken entered
     slotTests basesOf lookupTests looked roomFor heldAfter misses wordsFetched
     outsideCode numberAt bundleWords decode guardOf decoder.slotOne slotTwo reading row signed
     slotOneEffect slotTwoEffect effectOf aluEffect op2Value arithmetic multiply compare combine

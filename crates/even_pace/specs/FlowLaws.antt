@@ -1,12 +1,13 @@
--- The load that lands, and where the core goes on: the same for both runs.
+-- The load that lands, where the core goes on, and a handler that is entered: the same for both runs.
 use Prim.Native.Nat.{ℕ, _-_}
 use mathlib.Core.Bool.{Bool, true, false, cond}
 use mathlib.Core.Path.{_≡_, refl, sym, ap, subst, _∙_}
 use lib.Dec.{leb}
 use Rattle.word.specs.Word.{sub}
+use Rattle.alu_effects.specs.declared.Specials.{Specials}
 use Rattle.effects.specs.declared.Transfer.{Transfer}
-use Rattle.effects.specs.declared.Transfer.the-variants.{Br, Call, Block}
-use Rattle.core_state.specs.State.{State, withRegister, withFlow, goingOn, landing, landed, transferred}
+use Rattle.effects.specs.declared.Transfer.the-variants.{Br, Call, Block, Xret}
+use Rattle.core_state.specs.State.{State, returningTo, exceptedTo, withRegister, setActive, withFlow, goingOn, landing, landed, transferred, entered}
 use Rattle.core_state.specs.declared.WaitingTransfer.{WaitingTransfer}
 use Rattle.core_state.specs.declared.WaitingTransfer.the-variants as transfer
 use Rattle.core_state.specs.declared.WaitingLoad.{WaitingLoad}
@@ -14,7 +15,7 @@ use Rattle.core_state.specs.declared.WaitingLoad.the-variants.{Nothing, Waits}
 use Rattle.core_state.specs.Writes.{delaySlots, nearer, begun}
 use Rattle.marking.specs.declared.Marking.{Marking}
 use Rattle.marking.specs.Marking.{publicRegister}
-use Rattle.even_pace.specs.Terms.{SameState}
+use Rattle.even_pace.specs.Terms.{SameSpecials, SameState}
 use Rattle.even_pace.specs.StateLaws.{state-sym, state-trans, register-both, with-loads}
 use Rattle.even_pace.specs.WriteLaws.{register-quiet, waits-private, waits-none}
 
@@ -50,29 +51,52 @@ module _ {m : Marking} {s₁ s₂ : State} (a : SameState m s₁ s₂) where
           at false true p h = absurd (waits-private m r v p q w h (sym e ∙ a .load q w h .1 f))
           at false false p h = state-trans (landing-quiet s₁ r v e p) (state-trans a (state-sym (landing-quiet s₂ q w f h)))
 
-  flow-both : (srb₁ srb₂ sro₁ sro₂ fetch base₁ base₂ : ℕ) (w : WaitingTransfer) → srb₁ ≡ srb₂ → sro₁ ≡ sro₂ → base₁ ≡ base₂
-      → SameState m (withFlow s₁ srb₁ sro₁ fetch base₁ w) (withFlow s₂ srb₂ sro₂ fetch base₂ w)
-  flow-both srb₁ srb₂ sro₁ sro₂ fetch base₁ base₂ w p q r =
-      let x = a .specials in
+  flow-both : (x₁ x₂ : Specials) (fetch₁ fetch₂ base₁ base₂ : ℕ) (w : WaitingTransfer) (active₁ active₂ : Bool) → SameSpecials m x₁ x₂
+      → fetch₁ ≡ fetch₂ → base₁ ≡ base₂ → active₁ ≡ active₂
+      → SameState m (withFlow s₁ x₁ fetch₁ base₁ w active₁) (withFlow s₂ x₂ fetch₂ base₂ w active₂)
+  flow-both x₁ x₂ fetch₁ fetch₂ base₁ base₂ w active₁ active₂ x p q r =
       record {
         registers = a .registers;
         predicates = a .predicates;
-        specials = record { sl = x .sl; sh = x .sh; ss = x .ss; st = x .st; srb = p; sro = q; sxb = x .sxb; sxo = x .sxo };
-        fetch = refl;
-        base = r;
+        specials = x;
+        fetch = p;
+        base = q;
         transfer = refl;
         load = a .load;
-        further = a .further;
+        further = record { products = a .further .products; held = a .further .held; replay = λ i. setActive (a .further .replay i) (r i) };
       }
+
+  active-same : s₁ .further .replay .active ≡ s₂ .further .replay .active
+  active-same = λ i. a .further .replay i .active
+
+  -- The return registers of calls and of handlers.
+  returning-same : (srb₁ srb₂ sro₁ sro₂ : ℕ) → srb₁ ≡ srb₂ → sro₁ ≡ sro₂
+      → SameSpecials m (returningTo (s₁ .specials) srb₁ sro₁) (returningTo (s₂ .specials) srb₂ sro₂)
+  returning-same srb₁ srb₂ sro₁ sro₂ p q =
+      let x = a .specials in record { sl = x .sl; sh = x .sh; ss = x .ss; st = x .st; srb = p; sro = q; sxb = x .sxb; sxo = x .sxo }
+
+  excepted-same : (sxb₁ sxb₂ sxo₁ sxo₂ : ℕ) → sxb₁ ≡ sxb₂ → sxo₁ ≡ sxo₂
+      → SameSpecials m (exceptedTo (s₁ .specials) sxb₁ sxo₁) (exceptedTo (s₂ .specials) sxb₂ sxo₂)
+  excepted-same sxb₁ sxb₂ sxo₁ sxo₂ p q =
+      let x = a .specials in record { sl = x .sl; sh = x .sh; ss = x .ss; st = x .st; srb = x .srb; sro = x .sro; sxb = p; sxo = q }
 
   transferred-both : (t : Transfer) (following : ℕ) → SameState m (transferred s₁ t following) (transferred s₂ t following)
   unfolding transferred
-  transferred-both (Br target) following = flow-both _ _ _ _ target _ _ transfer.Nothing (a .specials .srb) (a .specials .sro) (a .base)
-  transferred-both (Call target) following = flow-both _ _ _ _ target _ _ transfer.Nothing (a .base) (ap (sub following) (a .base)) refl
-  transferred-both (Block target base) following = flow-both _ _ _ _ target _ _ transfer.Nothing (a .specials .srb) (a .specials .sro) refl
+  transferred-both (Br target) following = flow-both _ _ target target _ _ transfer.Nothing _ _ (a .specials) refl (a .base) active-same
+  transferred-both (Call target) following =
+      flow-both _ _ target target _ _ transfer.Nothing _ _ (returning-same _ _ _ _ (a .base) (ap (sub following) (a .base))) refl refl active-same
+  transferred-both (Block target base) following = flow-both _ _ target target _ _ transfer.Nothing _ _ (a .specials) refl refl active-same
+  transferred-both (Xret target base) following = flow-both _ _ target target _ _ transfer.Nothing _ _ (a .specials) refl refl refl
+
+  -- A handler entered, by a trap or by an interrupt.
+  pub entered-both : (handler₁ handler₂ back₁ back₂ : ℕ) → handler₁ ≡ handler₂ → back₁ ≡ back₂
+      → SameState m (entered s₁ handler₁ back₁) (entered s₂ handler₂ back₂)
+  unfolding entered
+  entered-both handler₁ handler₂ back₁ back₂ p q =
+      flow-both _ _ handler₁ handler₂ _ _ transfer.Nothing _ _ (excepted-same _ _ _ _ (a .base) (λ i. sub (q i) (a .base i))) p p refl
 
   going-both : (following : ℕ) (w : WaitingTransfer) → SameState m (goingOn s₁ following w) (goingOn s₂ following w)
-  going-both following w = flow-both _ _ _ _ following _ _ w (a .specials .srb) (a .specials .sro) (a .base)
+  going-both following w = flow-both _ _ following following _ _ w _ _ (a .specials) refl (a .base) active-same
 
   pub nearer-both : (w : WaitingTransfer) (following : ℕ) → SameState m (nearer w following s₁) (nearer w following s₂)
   nearer-both transfer.Nothing following = going-both following transfer.Nothing

@@ -3,9 +3,8 @@
 use Prim.Native.Nat.{ℕ, zero, suc}
 use mathlib.Core.Bool.{true, false, false≢true}
 use mathlib.Core.List.{List, [], _∷_}
-use mathlib.Core.Logic.{_⊎_, inl, inr}
 use mathlib.Core.Option.{some}
-use mathlib.Core.Path.{_≡_, refl, sym, ap, subst, _∙_}
+use mathlib.Core.Path.{_≡_, refl, sym, ap, _∙_}
 use native.Mathlib.Omega.{arith}
 use lib.ListN.{getD, getElem?, replicate}
 use Rattle.answers.specs.Answer.{done, ended}
@@ -16,10 +15,10 @@ use Rattle.bundle_model.specs.Counts.{noCounts}
 use Rattle.run_model.specs.Run.{run, Tried, tries}
 use Rattle.marking.specs.declared.Marking.{Marking}
 use Rattle.single_path.specs.Check.{Walked, first, later, accepted, checked}
-use Rattle.even_pace.specs.Terms.{privateByte, Agree, Stops, not-walked, refused-access, SameFetch, SameTried, Throughout, EvenPace}
+use Rattle.even_pace.specs.Terms.{privateByte, Agree, Stops, not-walked, refused-access, SameFetch, SameTried, Throughout}
 use Rattle.even_pace.specs.StateLaws.{state-refl, with-registers, with-predicates}
 use Rattle.even_pace.specs.StopLaws.{isRefused}
-use Rattle.even_pace.specs.ListLaws.{orElse, isSome}
+use Rattle.even_pace.specs.ListLaws.{All, all-at, throughout}
 use Rattle.even_pace.specs.SameLaws.{same-refl}
 use Rattle.even_pace.specs.Theorem.{even-pace}
 use Rattle.even_pace.specs.Examples.{bytesOf, within, lent, begin, check, tried, answered, begin-shaped, begin-well}
@@ -93,17 +92,10 @@ module _ (v₁ v₂ : ℕ) where
   goes : (t : Tried) → Goes t → ¬ Stops marking frame t
   unfolding Goes
   goes t g (not-walked n) = n (g .0)
-  goes t g (refused-access n p q) = false≢true (ap isRefused (sym (g .1) ∙ p))
+  goes t g (refused-access n p o q) = false≢true (ap isRefused (sym (g .1) ∙ p))
 
-  AllGo : List Tried → Type 0
-  AllGo [] = Unit {0}
-  AllGo (t ∷ ts) = Goes t × AllGo ts
-
-  all-go : (l : List Tried) → AllGo l → (k : ℕ) (t : Tried) → getElem? l k ≡ some t → ¬ Stops marking frame t
-  unfolding AllGo
-  all-go [] a k t e = absurd (false≢true (ap isSome e))
-  all-go (u ∷ l) a zero t e = subst (λ (y : Tried). ¬ Stops marking frame y) (ap (orElse u) e) (goes u (a .0))
-  all-go (u ∷ l) a (suc k) t e = all-go l (a .1) k t e
+  all-go : (l : List Tried) → All Goes l → (k : ℕ) (t : Tried) → getElem? l k ≡ some t → ¬ Stops marking frame t
+  all-go l a k t e = goes t (all-at Goes l a k t e)
 
   -- The addresses from 0 on, one after the other; the branch leaves out 24.
   path : Walked frame 0 × Walked frame 4 × Walked frame 8 × Walked frame 12 × Walked frame 16 × Walked frame 20 × Walked frame 28
@@ -118,12 +110,12 @@ module _ (v₁ v₂ : ℕ) where
       let w24 : Walked frame 24 = later w20 refl (omega arith) in
       (w0, w4, w8, w12, w16, w20, later w24 refl (omega arith))
 
-  go₁ : AllGo T₁
-  unfolding tried AllGo Goes
+  go₁ : All Goes T₁
+  unfolding tried All Goes
   go₁ = ((path .0, refl), ((path .1, refl), ((path .2, refl), ((path .3, refl), ((path .4, refl), ((path .5, refl), ((path .6, refl), tt)))))))
 
-  go₂ : AllGo T₂
-  unfolding tried AllGo Goes
+  go₂ : All Goes T₂
+  unfolding tried All Goes
   go₂ = ((path .0, refl), ((path .1, refl), ((path .2, refl), ((path .3, refl), ((path .4, refl), ((path .5, refl), ((path .6, refl), tt)))))))
 
   -- Seven bundles are done in both runs, one word is spilled, and both end.
@@ -138,14 +130,6 @@ module _ (v₁ v₂ : ℕ) where
   -- It is the case without a stopping event.
   pub frame-even : Throughout (Stops marking frame) SameFetch (SameTried marking (within frame)) T₁ T₂ (run (within frame) 8 s₁ lent .answer) (run (within frame) 8 s₂ other .answer)
   frame-even =
-      go (even-pace (within frame) 8 marking s₁ s₂ lent other frame-accepted (begin-shaped v₁ true load.Nothing) (begin-shaped v₂ false load.Nothing)
-      (begin-well frame v₁ true) (begin-well frame v₂ false) frame-agree)
-    where
-      none : {t₁ t₂ : Tried} (k : ℕ) → getElem? T₁ k ≡ some t₁ → getElem? T₂ k ≡ some t₂ → Stops marking frame t₁ ⊎ Stops marking frame t₂ → ⊥
-      none k e f (inl h) = all-go T₁ go₁ k _ e h
-      none k e f (inr h) = all-go T₂ go₂ k _ f h
-
-      go : EvenPace marking (within frame) T₁ T₂ (run (within frame) 8 s₁ lent .answer) (run (within frame) 8 s₂ other .answer)
-          → Throughout (Stops marking frame) SameFetch (SameTried marking (within frame)) T₁ T₂ (run (within frame) 8 s₁ lent .answer) (run (within frame) 8 s₂ other .answer)
-      go (inl r) = absurd (none (r .0) (r .1 .tried₁) (r .1 .tried₂) (r .1 .stops))
-      go (inr w) = w
+      throughout (Stops marking frame) SameFetch (SameTried marking (within frame)) T₁ T₂ _ _
+      (even-pace (within frame) 8 marking s₁ s₂ lent other frame-accepted (begin-shaped v₁ true load.Nothing) (begin-shaped v₂ false load.Nothing)
+      (begin-well frame v₁ true) (begin-well frame v₂ false) frame-agree) (all-go T₁ go₁) (all-go T₂ go₂)

@@ -13,6 +13,7 @@ pub mod RuleLaws
 pub mod SlotLaws
 pub mod BundleLaws
 pub mod StopLaws
+pub mod AttemptLaws
 pub mod ListLaws
 pub mod TriesLaws
 pub mod Pace
@@ -21,4 +22,5 @@ pub mod Examples
 pub mod Evidence
 pub mod ProductEvidence
 pub mod HeldEvidence
+pub mod ReplayEvidence
 pub mod Frame

@@ -6,13 +6,14 @@ use mathlib.Core.Option.{Option, none, some}
 use mathlib.Core.Bool.{Bool, true, false, cond, false≢true}
 use mathlib.Core.Path.{_≡_, refl, ap, subst}
 use native.Mathlib.Omega.{arith}
-use lib.ListN.{length}
+use lib.ListN.{length, getElem?}
+use Rattle.answers.specs.Answer.{Returned}
 use Rattle.settings.specs.Setup.{Setup}
 use Rattle.bundle_model.specs.Counts.{plus}
 use Rattle.bundle_model.specs.Bundle.{Outcome, counted}
 use Rattle.run_model.specs.Run.{Tried}
 use Rattle.marking.specs.declared.Marking.{Marking}
-use Rattle.even_pace.specs.Terms.{Stops, SameFetch, SameTried, EvenAt, StopsAt}
+use Rattle.even_pace.specs.Terms.{Stops, SameFetch, SameTried, EvenAt, StopsAt, Throughout, EvenLists}
 use Rattle.even_pace.specs.BundleLaws.{SameOutcome}
 
 abbrev pub orElse : {E : Type 0} → E → Option E → E
@@ -58,6 +59,28 @@ module _ {E : Type 0} {Stop : E → Type 0} {Alike : E → E → Type 0} where
   pub stops-here : {Met : E → E → Type 0} (t₁ t₂ : E) (T₁ T₂ : List E) → Met t₁ t₂ → Stop t₁ ⊎ Stop t₂ → StopsAt Stop Met Alike (t₁ ∷ T₁) (t₂ ∷ T₂) 0
   stops-here t₁ t₂ T₁ T₂ p q =
       record { t₁ = t₁; t₂ = t₂; tried₁ = refl; tried₂ = refl; stops = q; met = p; before = λ j h. absurd (omega (arith, h)) }
+
+-- What holds of each entry of a list holds of that at a place.
+unfoldable pub All : {E : Type 0} → (E → Type 0) → List E → Type 0
+All P [] = Unit {0}
+All P (t ∷ ts) = P t × All P ts
+
+pub all-at : {E : Type 0} (P : E → Type 0) (l : List E) → All P l → (k : ℕ) (t : E) → getElem? l k ≡ some t → P t
+unfolding All
+all-at P [] a k t e = absurd (false≢true (ap isSome e))
+all-at P (u ∷ l) a zero t e = subst P (ap (orElse u) e) (a .0)
+all-at P (u ∷ l) a (suc k) t e = all-at P l (a .1) k t e
+
+-- Even lists without a stopping event are even throughout.
+module _ {E : Type 0} (Stop : E → Type 0) (Met Alike : E → E → Type 0) (T₁ T₂ : List E) (a₁ a₂ : Returned) where
+  pub throughout : EvenLists Stop Met Alike T₁ T₂ a₁ a₂ → ((k : ℕ) (t : E) → getElem? T₁ k ≡ some t → ¬ Stop t)
+      → ((k : ℕ) (t : E) → getElem? T₂ k ≡ some t → ¬ Stop t) → Throughout Stop Met Alike T₁ T₂ a₁ a₂
+  throughout (inr w) n₁ n₂ = w
+  throughout (inl r) n₁ n₂ = absurd (go (r .1 .stops))
+    where
+      go : Stop (r .1 .t₁) ⊎ Stop (r .1 .t₂) → ⊥
+      go (inl h) = n₁ (r .0) _ (r .1 .tried₁) h
+      go (inr h) = n₂ (r .0) _ (r .1 .tried₂) h
 
 -- Even pace of two lists of tried bundles, with what the runs return.
 module _ (m : Marking) (x : Setup) where

@@ -83,23 +83,23 @@ pub transfer-guarded : (m : Marking) (d : Bool) (t : Target) → breaksA m true 
 unfolding breaksA
 transfer-guarded m d t = rw (transfer-row m d t)
 
-pub operation-quiet : (m : Marking) (s : State) (o : Operation) → Keeps m true o → QuietEffect m (effectOf (startOf s) o)
+pub operation-quiet : (m : Marking) (table : List ℕ) (s : State) (o : Operation) → Keeps m true o → QuietEffect m (effectOf (startOf table s) o)
 unfolding asked breaksA breaksB breaksD effectOf
-operation-quiet m s (Alu o) k = alike.quiet-alu (alu-quiet m (s .registers) (s .predicates) o (k .b))
-operation-quiet m s (Multiply f x y) k =
+operation-quiet m table s (Alu o) k = alike.quiet-alu (alu-quiet m (s .registers) (s .predicates) o (k .b))
+operation-quiet m table s (Multiply f x y) k =
     let h = private-destination (not (m .sl) || not (m .sh)) (k .b) in
     alike.quiet-product (not-false _ (or-left (not (m .sl)) (not (m .sh)) h)) (not-false _ (or-right (not (m .sl)) (not (m .sh)) h))
-operation-quiet m s (Mts d r) k = alike.quiet-special (private-destination _ (k .b))
-operation-quiet m s (Mfs r d) k = alike.quiet-alu (alike.quiet-register (private-destination _ (k .b)))
-operation-quiet m s (Load j w rd ra o) k = alike.quiet-load (private-destination _ (k .b))
-operation-quiet m s (Store j w ra rs o) k = alike.quiet-store (not-false _ (private-destination _ (k .d)))
-operation-quiet m s (StackControl o) k = absurd (false≢true (sym (k .a) ∙ stack-guarded m o))
-operation-quiet m s (Transfer d t) k = absurd (false≢true (sym (k .a) ∙ transfer-guarded m d t))
-operation-quiet m s (Trap n) k = absurd (false≢true (sym (k .a)))
-operation-quiet m s (Xret d) k = absurd (false≢true (sym (k .a)))
+operation-quiet m table s (Mts d r) k = alike.quiet-special (private-destination _ (k .b))
+operation-quiet m table s (Mfs r d) k = alike.quiet-alu (alike.quiet-register (private-destination _ (k .b)))
+operation-quiet m table s (Load j w rd ra o) k = alike.quiet-load (private-destination _ (k .b))
+operation-quiet m table s (Store j w ra rs o) k = alike.quiet-store (not-false _ (private-destination _ (k .d)))
+operation-quiet m table s (StackControl o) k = absurd (false≢true (sym (k .a) ∙ stack-guarded m o))
+operation-quiet m table s (Transfer d t) k = absurd (false≢true (sym (k .a) ∙ transfer-guarded m d t))
+operation-quiet m table s (Trap n) k = absurd (false≢true (sym (k .a)))
+operation-quiet m table s (Xret d) k = absurd (false≢true (sym (k .a)))
 
 -- Under a public guard, in states that agree.
-module _ {m : Marking} {s₁ s₂ : State} (a : SameState m s₁ s₂) (eight : length (s₁ .predicates) ≡ 8) where
+module _ {m : Marking} (table : List ℕ) {s₁ s₂ : State} (a : SameState m s₁ s₂) (eight : length (s₁ .predicates) ≡ 8) where
   register-same : (r : ℕ) → privateRegister m r ≡ false → getD (s₁ .registers) r 0 ≡ getD (s₂ .registers) r 0
   register-same r p = a .registers .places r p
 
@@ -172,7 +172,7 @@ module _ {m : Marking} {s₁ s₂ : State} (a : SameState m s₁ s₂) (eight : 
       subst (λ (e : Effect). SameEffect m (stackEffect (s₁ .registers) (Sspill x)) e)
       (λ i. effect.Stack control.Sspill (words-same x h i) (aligned-same x h i)) alike.stack
 
-  target-same : (d : Bool) (t : Target) → breaksE m (Transfer d t) ≡ false → transferOf (startOf s₁) t ≡ transferOf (startOf s₂) t
+  target-same : (d : Bool) (t : Target) → breaksE m (Transfer d t) ≡ false → transferOf (startOf table s₁) t ≡ transferOf (startOf table s₂) t
   unfolding asked breaksE transferOf
   target-same d (Call n) h = refl
   target-same d (CallRegister r) h = ap transfer.Call (register-same r h)
@@ -192,7 +192,7 @@ module _ {m : Marking} {s₁ s₂ : State} (a : SameState m s₁ s₂) (eight : 
       let q = public-source _ (privateRegister m x || privateRegister m y) h p in
       λ i. multiply f (register-same x (or-left _ (privateRegister m y) q) i) (register-same y (or-right (privateRegister m x) _ q) i)
 
-  pub operation-same : (o : Operation) → Keeps m false o → SameEffect m (effectOf (startOf s₁) o) (effectOf (startOf s₂) o)
+  pub operation-same : (o : Operation) → Keeps m false o → SameEffect m (effectOf (startOf table s₁) o) (effectOf (startOf table s₂) o)
   unfolding asked breaksB breaksC breaksD effectOf
   operation-same (Alu o) k = alike.of-alu (alu-same o (k .b))
   operation-same (Multiply f x y) k =
@@ -201,15 +201,17 @@ module _ {m : Marking} {s₁ s₂ : State} (a : SameState m s₁ s₂) (eight : 
   operation-same (Mts d r) k = alike.special (λ p. register-same r (public-source _ _ (k .b) p))
   operation-same (Mfs r d) k = alike.of-alu (alike.register (λ p. special-same d (public-source _ _ (k .b) p)))
   operation-same (Load j w rd ra o) k =
-      subst (λ (x : ℕ). SameEffect m (effectOf (startOf s₁) (Load j w rd ra o)) (effect.Load j w rd x))
+      subst (λ (x : ℕ). SameEffect m (effectOf (startOf table s₁) (Load j w rd ra o)) (effect.Load j w rd x))
       (address-same j (loadScale w) ra o (k .c)) (alike.load (public-source _ _ (k .b)))
   operation-same (Store j w ra rs o) k =
-      subst (λ (x : ℕ). SameEffect m (effectOf (startOf s₁) (Store j w ra rs o)) (effect.Store j w x (getD (s₂ .registers) rs 0)))
+      subst (λ (x : ℕ). SameEffect m (effectOf (startOf table s₁) (Store j w ra rs o)) (effect.Store j w x (getD (s₂ .registers) rs 0)))
       (address-same j (storeScale w) ra o (k .c))
       (alike.store (λ p. register-same rs (public-source _ _ (k .d) (ap not p))))
   operation-same (StackControl o) k = stack-same o (k .e)
   operation-same (Transfer d t) k =
-      subst (λ (x : declared.Transfer). SameEffect m (effect.Transfer d (transferOf (startOf s₁) t)) (effect.Transfer d x))
+      subst (λ (x : declared.Transfer). SameEffect m (effect.Transfer d (transferOf (startOf table s₁) t)) (effect.Transfer d x))
       (target-same d t (k .e)) alike.transfer
-  operation-same (Trap n) k = alike.exception
-  operation-same (Xret d) k = alike.exception
+  operation-same (Trap n) k = alike.trap
+  operation-same (Xret d) k =
+      subst (λ (x : declared.Transfer). SameEffect m (effectOf (startOf table s₁) (Xret d)) (effect.Transfer d x))
+      (λ i. transfer.Xret (add (a .specials .sxb i) (a .specials .sxo i)) (a .specials .sxb i)) alike.transfer

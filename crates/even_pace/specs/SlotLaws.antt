@@ -43,7 +43,7 @@ instruction-keeps m p o h = record { a = h rule.A; b = h rule.B; c = h rule.C; d
 
 -- Under a private guard only a load or store can be refused.
 quiet-fine : (m : Marking) (g : Settings) (x : Setup) (s : State) (o : Operation) → Keeps m true o → asked m o .access ≡ false
-    → verdictOf (effectTests g x s (effectOf (startOf s) o)) ≡ verdict.Fine
+    → verdictOf (effectTests g x s (effectOf (startOf (x .table) s) o)) ≡ verdict.Fine
 unfolding asked breaksA effectOf verdictOf
 quiet-fine m g x s (Alu o) k h = refl
 quiet-fine m g x s (Multiply f z y) k h = refl
@@ -62,7 +62,7 @@ nothing-fine g x s = refl
 
 module _ {m : Marking} (g : Settings) (x : Setup) {s₁ s₂ : State} (a : SameState m s₁ s₂) (eight : length (s₁ .predicates) ≡ 8) where
   slot-one : (i : Instruction) → ((r : Rule) → instructionBreaks m i r ≡ false)
-      → SlotCase m g x s₁ s₂ (privateAccess m i) (slotOneEffect (startOf s₁) i) (slotOneEffect (startOf s₂) i)
+      → SlotCase m g x s₁ s₂ (privateAccess m i) (slotOneEffect (startOf (x .table) s₁) i) (slotOneEffect (startOf (x .table) s₂) i)
   unfolding slotOneEffect
   slot-one i h = go (privateGuard m (i .guard)) refl (instruction-keeps m (privateGuard m (i .guard)) (i .operation) h)
     where
@@ -73,16 +73,16 @@ module _ {m : Marking} (g : Settings) (x : Setup) {s₁ s₂ : State} (a : SameS
       access = asked m o .access
 
       e : State → Bool → Effect
-      e s t = cond t (effectOf (startOf s) o) (effect.Alu alu.Nothing)
+      e s t = cond t (effectOf (startOf (x .table) s) o) (effect.Alu alu.Nothing)
 
       same : (t u : Bool) → t ≡ u → Keeps m false o → SameEffect m (e s₁ t) (e s₂ u)
-      same true true q k = operation-same a eight o k
+      same true true q k = operation-same (x .table) a eight o k
       same true false q k = absurd (false≢true (sym q))
       same false true q k = absurd (false≢true q)
       same false false q k = of-alu no-write
 
       quiet : (s : State) (t : Bool) → Keeps m true o → QuietEffect m (e s t)
-      quiet s true k = operation-quiet m s o k
+      quiet s true k = operation-quiet m (x .table) s o k
       quiet s false k = quiet-alu quiet-none
 
       fine : (s : State) (t : Bool) → Keeps m true o → access ≡ false → verdictOf (effectTests g x s (e s t)) ≡ verdict.Fine
@@ -91,7 +91,7 @@ module _ {m : Marking} (g : Settings) (x : Setup) {s₁ s₂ : State} (a : SameS
 
       go : (p : Bool) → privateGuard m (i .guard) ≡ p → Keeps m p o
           → SlotCase m g x s₁ s₂ (p && access) (e s₁ (holds (s₁ .predicates) (i .guard))) (e s₂ (holds (s₂ .predicates) (i .guard)))
-      go false p k = public-slot (same (holds (s₁ .predicates) (i .guard)) (holds (s₂ .predicates) (i .guard)) (holds-same a eight (i .guard) p) k)
+      go false p k = public-slot (same (holds (s₁ .predicates) (i .guard)) (holds (s₂ .predicates) (i .guard)) (holds-same (x .table) a eight (i .guard) p) k)
       go true p k =
           let t = holds (s₁ .predicates) (i .guard) in
           let u = holds (s₂ .predicates) (i .guard) in
@@ -110,7 +110,7 @@ module _ {m : Marking} (g : Settings) (x : Setup) {s₁ s₂ : State} (a : SameS
       same : (t u : Bool) → t ≡ u → breaksB m false (Alu (j .operation)) ≡ false
           → AlikeAlu m (cond t (aluEffect (s₁ .registers) (s₁ .predicates) (j .operation)) alu.Nothing)
           (cond u (aluEffect (s₂ .registers) (s₂ .predicates) (j .operation)) alu.Nothing)
-      same true true q k = same-alu (alu-same a eight (j .operation) k)
+      same true true q k = same-alu (alu-same (x .table) a eight (j .operation) k)
       same true false q k = absurd (false≢true (sym q))
       same false true q k = absurd (false≢true q)
       same false false q k = same-alu no-write
@@ -118,18 +118,18 @@ module _ {m : Marking} (g : Settings) (x : Setup) {s₁ s₂ : State} (a : SameS
       go : (p : Bool) → privateGuard m (j .guard) ≡ p → breaksB m p (Alu (j .operation)) ≡ false
           → AlikeAlu m (cond (holds (s₁ .predicates) (j .guard)) (aluEffect (s₁ .registers) (s₁ .predicates) (j .operation)) alu.Nothing)
           (cond (holds (s₂ .predicates) (j .guard)) (aluEffect (s₂ .registers) (s₂ .predicates) (j .operation)) alu.Nothing)
-      go false p k = same (holds (s₁ .predicates) (j .guard)) (holds (s₂ .predicates) (j .guard)) (holds-same a eight (j .guard) p) k
+      go false p k = same (holds (s₁ .predicates) (j .guard)) (holds (s₂ .predicates) (j .guard)) (holds-same (x .table) a eight (j .guard) p) k
       go true p k = both-quiet (quiet s₁ (holds (s₁ .predicates) (j .guard)) k) (quiet s₂ (holds (s₂ .predicates) (j .guard)) k)
 
   pub bundle-one : (i : Bundle) → isUndecodable i ≡ false → ((r : Rule) → breaks m i r ≡ false)
-      → SlotCase m g x s₁ s₂ (hasPrivateAccess m i) (slotOne (startOf s₁) i) (slotOne (startOf s₂) i)
+      → SlotCase m g x s₁ s₂ (hasPrivateAccess m i) (slotOne (startOf (x .table) s₁) i) (slotOne (startOf (x .table) s₂) i)
   unfolding breaks hasPrivateAccess
   bundle-one Undecodable d h = absurd (false≢true (sym d))
   bundle-one (One i) d h = slot-one i h
   bundle-one (Two i j) d h = slot-one i (λ r. or-left (instructionBreaks m i r) _ (h r))
   bundle-one (Long i) d h = slot-one i h
 
-  pub bundle-two : (i : Bundle) → ((r : Rule) → breaks m i r ≡ false) → AlikeAlu m (slotTwo (startOf s₁) i) (slotTwo (startOf s₂) i)
+  pub bundle-two : (i : Bundle) → ((r : Rule) → breaks m i r ≡ false) → AlikeAlu m (slotTwo (startOf (x .table) s₁) i) (slotTwo (startOf (x .table) s₂) i)
   unfolding breaks
   bundle-two Undecodable h = same-alu no-write
   bundle-two (One i) h = same-alu no-write

@@ -9,12 +9,13 @@ use native.Mathlib.Decide.{ℕ-discrete}
 use Rattle.word.specs.BoolLaws.{or-left, or-right}
 use Rattle.alu_effects.specs.declared.Specials.{Specials}
 use Rattle.products.specs.declared.Products.{Products}
-use Rattle.core_state.specs.State.{Further, State, state, withRegister, withPredicate, withLoad, withProducts, withHeld, withPredicates, withSpecials}
+use Rattle.replay.specs.declared.Replay.{Replay}
+use Rattle.core_state.specs.State.{Further, State, state, withRegister, withPredicate, withLoad, withProducts, withHeld, withReplay, withPredicates, withSpecials}
 use Rattle.core_state.specs.declared.WaitingLoad.{WaitingLoad}
 use Rattle.core_state.specs.declared.WaitingLoad.the-variants.{Nothing, Waits}
 use Rattle.marking.specs.declared.Marking.{Marking}
 use Rattle.marking.specs.Marking.{privateRegister, privatePredicate, publicRegister, publicPredicate, some}
-use Rattle.even_pace.specs.Terms.{Same, SameSpecials, SameProducts, SameHeld, SameFurther, SameState}
+use Rattle.even_pace.specs.Terms.{Same, SameSpecials, SameProducts, SameHeld, SameReplay, SameFurther, SameState}
 use Rattle.even_pace.specs.SameLaws.{same-refl, same-sym, same-trans, same-write}
 
 -- It is an equivalence.
@@ -39,13 +40,13 @@ specials-trans a b =
     }
 
 further-refl : {m : Marking} (f : Further) → SameFurther m f f
-further-refl f = record { products = λ p. refl; held = refl }
+further-refl f = record { products = λ p. refl; held = refl; replay = refl }
 
 further-sym : {m : Marking} {f g : Further} → SameFurther m f g → SameFurther m g f
-further-sym a = record { products = λ p. sym (a .products p); held = sym (a .held) }
+further-sym a = record { products = λ p. sym (a .products p); held = sym (a .held); replay = sym (a .replay) }
 
 further-trans : {m : Marking} {f g h : Further} → SameFurther m f g → SameFurther m g h → SameFurther m f h
-further-trans a b = record { products = λ p. a .products p ∙ b .products p; held = a .held ∙ b .held }
+further-trans a b = record { products = λ p. a .products p ∙ b .products p; held = a .held ∙ b .held; replay = a .replay ∙ b .replay }
 
 pub state-refl : {m : Marking} (s : State) → SameState m s s
 state-refl s =
@@ -177,7 +178,7 @@ module _ {m : Marking} {s₁ s₂ : State} (a : SameState m s₁ s₂) where
         base = a .base;
         transfer = a .transfer;
         load = a .load;
-        further = record { products = h; held = a .further .held };
+        further = record { products = h; held = a .further .held; replay = a .further .replay };
       }
 
   pub with-held : (h₁ h₂ : List ℕ) → SameHeld h₁ h₂ → SameState m (withHeld s₁ h₁) (withHeld s₂ h₂)
@@ -190,5 +191,18 @@ module _ {m : Marking} {s₁ s₂ : State} (a : SameState m s₁ s₂) where
         base = a .base;
         transfer = a .transfer;
         load = a .load;
-        further = record { products = a .further .products; held = h };
+        further = record { products = a .further .products; held = h; replay = a .further .replay };
+      }
+
+  pub with-replay : (r₁ r₂ : Replay) → SameReplay r₁ r₂ → SameState m (withReplay s₁ r₁) (withReplay s₂ r₂)
+  with-replay r₁ r₂ h =
+      record {
+        registers = a .registers;
+        predicates = a .predicates;
+        specials = a .specials;
+        fetch = a .fetch;
+        base = a .base;
+        transfer = a .transfer;
+        load = a .load;
+        further = record { products = a .further .products; held = a .further .held; replay = h };
       }

@@ -10,9 +10,9 @@ use Rattle.even_pace.specs.Terms.{Accepted, Agree, EvenPace}
 use Rattle.settings.specs.Setup.{Buffers, Setup}
 use Rattle.bundle_model.specs.Counts.{noCounts}
 
--- Take accepted code, and two runs of it whose settings, marking and budget are the same. If both first states are well formed and all
--- that is public is the same in both, the runs keep even pace. A state's lists of registers and predicates have the lengths that its
--- type gives them.
+-- Take accepted code, and two runs of it whose settings, marking, budget, and list and table of interrupts are the same. If both first states are
+-- well formed and all that is public is the same in both, the runs keep even pace. A state's lists of registers and predicates have the lengths
+-- that its type gives them. Nothing is asked of list and table: where 15 describes them, both runs answer it and try no bundle.
 abbrev pub Demand3 : Type 0
 Demand3 = (x : Setup) (budget : ℕ) (m : Marking) (s₁ s₂ : State) (b₁ b₂ : Buffers)
     → Accepted x m b₁

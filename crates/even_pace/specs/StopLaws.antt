@@ -1,8 +1,7 @@
--- A stopping event at a walked address of accepted code is refused for its load or store: the number is 5, 7 or 6.
+-- A bundle with a load or store under a private guard, at a walked address of accepted code, is refused for its access alone.
 use Prim.Native.Nat.{ℕ, _%_, _^_}
 use mathlib.Core.Bool.{Bool, true, false, not, cond, false≢true}
-use mathlib.Core.Logic.{_⊎_, inl, inr}
-use mathlib.Core.Path.{_≡_, refl, sym, ap, _∙_}
+use mathlib.Core.Path.{_≡_, refl, sym, ap, subst, _∙_}
 use lib.Dec.{eqb}
 use lib.ListN.{getD}
 use Rattle.isa.specs.declared.AccessKind.{AccessKind}
@@ -32,15 +31,11 @@ use Rattle.marking.specs.Marking.{privateGuard}
 use Rattle.marking_rules.specs.Rules.{asked}
 use Rattle.marking_rules.specs.RuleLaws.{alu-row, stack-row, transfer-row}
 use Rattle.single_path.specs.CheckLaws.{Fine}
-use Rattle.even_pace.specs.Terms.{privateAccess, hasPrivateAccess}
+use Rattle.even_pace.specs.Terms.{ofAccess, privateAccess, hasPrivateAccess}
 use Rattle.even_pace.specs.BundleLaws.{doneOf, bundle-outcome}
 use Rattle.settings.specs.Setup.{Buffers, Setup}
 use Rattle.answers.specs.Test.{verdict as verdictOf}
 use Rattle.fetch.specs.Fetch.{bundleAt, followingAt}
-
--- The numbers of an access.
-abbrev pub OfAccess : ℕ → Type 0
-OfAccess n = (n ≡ 5) ⊎ ((n ≡ 7) ⊎ (n ≡ 6))
 
 abbrev numberOf : ℕ → Verdict → ℕ
 numberOf n Passing = n
@@ -52,19 +47,19 @@ isRefusal (Refused n) = true
 
 module _ (g : Settings) (x : Setup) (s : State) (n : ℕ) where
   -- The three tests of an access.
-  three : (u y z : Bool) → cond u (Refused 5) (cond y (Refused 7) (cond z (Refused 6) Passing)) ≡ Refused n → OfAccess n
-  three true y z e = inl (sym (ap (numberOf n) e))
-  three false true z e = inr (inl (sym (ap (numberOf n) e)))
-  three false false true e = inr (inr (sym (ap (numberOf n) e)))
+  three : (u y z : Bool) → cond u (Refused 5) (cond y (Refused 7) (cond z (Refused 6) Passing)) ≡ Refused n → ofAccess n ≡ true
+  three true y z e = subst (λ (k : ℕ). ofAccess k ≡ true) (ap (numberOf n) e) refl
+  three false true z e = subst (λ (k : ℕ). ofAccess k ≡ true) (ap (numberOf n) e) refl
+  three false false true e = subst (λ (k : ℕ). ofAccess k ≡ true) (ap (numberOf n) e) refl
   three false false false e = absurd (false≢true (ap isRefusal e))
 
   tests-number : (main : Bool) (k : AccessKind) (a u : ℕ) → verdictOf (accessTests main g (s .specials .st) (s .specials .ss) k a u) ≡ Refused n
-      → OfAccess n
+      → ofAccess n ≡ true
   unfolding verdictOf
   tests-number main k a u = three (not (eqb (a % u) 0)) (badAccess g (s .specials .st) (s .specials .ss) k) (not (accessOpen main g (s .specials .st) (s .specials .ss) k a u))
 
   access-number : (m : Marking) (o : Operation) → asked m o .access ≡ true
-      → verdictOf (slotTests g x s (effectOf (startOf s) o)) ≡ Refused n → OfAccess n
+      → verdictOf (slotTests g x s (effectOf (startOf (x .table) s) o)) ≡ Refused n → ofAccess n ≡ true
   unfolding asked effectOf verdictOf
   access-number m (Alu o) h e = absurd (false≢true (sym (ap (λ (u : Asked). u .access) (alu-row m o)) ∙ h))
   access-number m (Multiply f u y) h e = absurd (false≢true h)
@@ -81,29 +76,29 @@ module _ (g : Settings) (x : Setup) (s : State) (n : ℕ) where
   access-number m (Trap k) h e = absurd (false≢true h)
   access-number m (Xret d) h e = absurd (false≢true h)
 
-  slot-number : (m : Marking) (i : Instruction) → privateAccess m i ≡ true → verdictOf (slotTests g x s (slotOneEffect (startOf s) i)) ≡ Refused n
-      → OfAccess n
+  slot-number : (m : Marking) (i : Instruction) → privateAccess m i ≡ true → verdictOf (slotTests g x s (slotOneEffect (startOf (x .table) s) i)) ≡ Refused n
+      → ofAccess n ≡ true
   unfolding slotOneEffect verdictOf slotTests lookupTests
   slot-number m i h = go (holds (s .predicates) (i .guard))
     where
-      go : (t : Bool) → verdictOf (slotTests g x s (cond t (effectOf (startOf s) (i .operation)) (effect.Alu alu.Nothing))) ≡ Refused n → OfAccess n
+      go : (t : Bool) → verdictOf (slotTests g x s (cond t (effectOf (startOf (x .table) s) (i .operation)) (effect.Alu alu.Nothing))) ≡ Refused n → ofAccess n ≡ true
       go true e = access-number m (i .operation) (and-right (privateGuard m (i .guard)) _ h) e
       go false e = absurd (false≢true (ap isRefusal e))
 
-  bundle-number : (m : Marking) (i : Bundle) → hasPrivateAccess m i ≡ true → verdictOf (slotTests g x s (slotOne (startOf s) i)) ≡ Refused n
-      → OfAccess n
+  bundle-number : (m : Marking) (i : Bundle) → hasPrivateAccess m i ≡ true → verdictOf (slotTests g x s (slotOne (startOf (x .table) s) i)) ≡ Refused n
+      → ofAccess n ≡ true
   unfolding hasPrivateAccess
   bundle-number m Undecodable h e = absurd (false≢true h)
   bundle-number m (One i) h e = slot-number m i h e
   bundle-number m (Two i j) h e = slot-number m i h e
   bundle-number m (Long i) h e = slot-number m i h e
 
-abbrev answerNumber : ℕ → Returned → ℕ
-answerNumber n accepted = n
-answerNumber n done = n
-answerNumber n ended = n
-answerNumber n spent = n
-answerNumber n (refused k) = k
+abbrev pub answerNumber : Returned → ℕ
+answerNumber accepted = 0
+answerNumber done = 0
+answerNumber ended = 0
+answerNumber spent = 0
+answerNumber (refused k) = k
 
 abbrev pub isRefused : Returned → Bool
 isRefused accepted = false
@@ -115,14 +110,14 @@ isRefused (refused n) = true
 -- At an address whose bundle can be read, a refusal of a bundle with a load or store under a private guard is the access's.
 pub refused-for-access : {m : Marking} (g : Settings) (x : Setup) (s : State) (b : Buffers) (n : ℕ) → Fine m (x .code) (s .fetch)
     → hasPrivateAccess m (bundleAt (x .code) (s .fetch)) ≡ true
-    → bundle g x s b .answer ≡ refused n → OfAccess n
+    → bundle g x s b .answer ≡ refused n → ofAccess n ≡ true
 refused-for-access {m} g x s b n f h e =
-    go (verdictOf (slotTests g x s (slotOne (startOf s) i))) refl (sym (ap (λ (o : Outcome). o .answer) (bundle-outcome g x s b f)) ∙ e)
+    go (verdictOf (slotTests g x s (slotOne (startOf (x .table) s) i))) refl (sym (ap (λ (o : Outcome). o .answer) (bundle-outcome g x s b f)) ∙ e)
   where
     i : Bundle
     i = bundleAt (x .code) (s .fetch)
 
-    go : (v : Verdict) → verdictOf (slotTests g x s (slotOne (startOf s) i)) ≡ v
-        → refusedOr v s b (doneOf g x i (followingAt (x .code) (s .fetch)) s b) .answer ≡ refused n → OfAccess n
+    go : (v : Verdict) → verdictOf (slotTests g x s (slotOne (startOf (x .table) s) i)) ≡ v
+        → refusedOr v s b (doneOf g x i (followingAt (x .code) (s .fetch)) s b) .answer ≡ refused n → ofAccess n ≡ true
     go Passing p q = absurd (false≢true (ap isRefused q))
-    go (Refused k) p q = bundle-number g x s n m i h (p ∙ ap Refused (ap (answerNumber n) q))
+    go (Refused k) p q = bundle-number g x s n m i h (p ∙ ap Refused (ap answerNumber q))

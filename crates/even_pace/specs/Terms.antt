@@ -1,7 +1,7 @@
 -- The terms of even pace: public contents, stopping events, and what is claimed of two lists of tried bundles.
 use Prim.Native.Nat.{ℕ, _<_}
 use mathlib.Core.Bool.{Bool, true, false, cond, _&&_}
-use mathlib.Core.List.{List}
+use mathlib.Core.List.{List, [], _∷_}
 use mathlib.Core.Logic.{_⊎_, _↔_}
 use mathlib.Core.Option.{some}
 use mathlib.Core.Path.{_≡_}
@@ -15,9 +15,11 @@ use Rattle.products.specs.declared.Product.{Product}
 use Rattle.products.specs.declared.Products.{Products}
 use Rattle.products.specs.declared.Products.the-variants as products
 use Rattle.products.specs.Products.{product}
+use Rattle.replay.specs.declared.Replay.{Replay}
 use Rattle.core_state.specs.State.{Further, State}
 use Rattle.core_state.specs.declared.WaitingLoad.the-variants.{Waits}
 use Rattle.run_model.specs.Run.{Tried}
+use Rattle.run_model.specs.RefusalLaws.{among}
 use Rattle.marking.specs.declared.Marking.{Marking}
 use Rattle.marking.specs.Marking.{privateRegister, privatePredicate, privateGuard, publicRegister}
 use Rattle.marking_rules.specs.Rules.{asked}
@@ -71,9 +73,15 @@ SameProducts m p₁ p₂ = privateProducts m ≡ false → shown (m .sl) (m .sh)
 abbrev pub SameHeld : List ℕ → List ℕ → Type 0
 SameHeld h₁ h₂ = h₁ ≡ h₂
 
+-- Public contents: how far the replay is, always: whether a handler is active, the place in the list, and the bundles done. List and table
+-- are what both runs are given.
+abbrev pub SameReplay : Replay → Replay → Type 0
+SameReplay r₁ r₂ = r₁ ≡ r₂
+
 pub record SameFurther (m : Marking) (f₁ f₂ : Further) : Type 0 where
   pub products : SameProducts m (f₁ .products) (f₂ .products)
   pub held : SameHeld (f₁ .held) (f₂ .held)
+  pub replay : SameReplay (f₁ .replay) (f₂ .replay)
 
 -- Public contents: the state. A waiting load counts if its register is public and not r0: then both runs have it, with one value. All
 -- others are left out of the comparison, also where one run has none.
@@ -112,14 +120,23 @@ hasPrivateAccess m (One i) = privateAccess m i
 hasPrivateAccess m (Two i j) = privateAccess m i
 hasPrivateAccess m (Long i) = privateAccess m i
 
+-- The numbers with which a load or store is refused, in the order in which they are judged.
+abbrev pub accessNumbers : List ℕ
+accessNumbers = 5 ∷ 7 ∷ 6 ∷ []
+
+abbrev pub ofAccess : ℕ → Bool
+ofAccess = among accessNumbers
+
 -- A stopping event: a bundle is tried at an address that is not walked, or a load or store of it, of the stack or not, is refused and
--- its guard is private. At a walked address of accepted code nothing else of such a bundle can be refused.
+-- its guard is private. At a walked address of accepted code nothing else of such a bundle can be refused with these numbers
+-- (`refused-for-access`, StopLaws). But a bundle that takes an interrupt can be refused with the interrupt's own 17 or 13, for which the access
+-- is not even tried: that is no stopping event, and what is claimed goes on.
 pub data Stops (m : Marking) (code : List ℕ) (t : Tried) : Type 0 where
   not-walked : ¬ Walked code (t .fetch) → Stops m code t
-  refused-access : (n : ℕ) → t .answer ≡ refused n → hasPrivateAccess m (bundleAt code (t .fetch)) ≡ true → Stops m code t
+  refused-access : (n : ℕ) → t .answer ≡ refused n → ofAccess n ≡ true → hasPrivateAccess m (bundleAt code (t .fetch)) ≡ true → Stops m code t
 
--- Of a bundle tried in both runs: its fetch address is equal, and so are, after it, the counts, misses and words fetched among them, and the public
--- contents.
+-- Of a bundle tried in both runs: its fetch address is equal, which is the handler's where an interrupt is taken with it, and so are, after it,
+-- the counts, misses and words fetched among them, and the public contents.
 pub record SameTried (m : Marking) (x : Setup) (t₁ t₂ : Tried) : Type 0 where
   pub fetch : t₁ .fetch ≡ t₂ .fetch
   pub counts : t₁ .counts ≡ t₂ .counts

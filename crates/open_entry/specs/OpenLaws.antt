@@ -19,6 +19,7 @@ use Rattle.settings.specs.Settings.{admits}
 use Rattle.settings.specs.SettingsLaws.{code-small, size-ok, words-small, area-inside, main-small}
 use Rattle.settings.specs.Setup.{Setup, Buffers, buffers, settings}
 use Rattle.alu_effects.specs.AluEffects.{predicatesWord}
+use Rattle.replay.specs.Replay.{replayOk}
 use Rattle.core_state.specs.State.{State, predicatesOf, fresh, blank}
 use Rattle.bundle_model.specs.Counts.{noCounts}
 use Rattle.bundle_model.specs.Bundle.{Outcome, outcome}
@@ -26,7 +27,7 @@ use Rattle.state.specs.declared.Opened.{Opened}
 use Rattle.state.specs.Whole.{stateOf}
 use Rattle.state.specs.Open.{Open, openOf, openWith, returned, entryOk, opening}
 use Rattle.state.specs.OpenLaws.{fresh-shaped, fresh-well-formed}
-use Rattle.record_model.specs.Record.{Box, box, recordSections, recordOf, transferSection, loadSection, productSection, countSection, longest, InWords}
+use Rattle.record_model.specs.Record.{Box, box, recordSections, recordOf, transferSection, loadSection, productSection, countSection, replaySection, longest, InWords}
 use Rattle.record.specs.Written.{Written, writtenOf, writing}
 use Rattle.resume_model.specs.Resume.{Resumed, asFound, handedOut, fromRecord}
 use Rattle.resume_model.specs.ResumeLaws.{from-box}
@@ -62,7 +63,7 @@ module _ (x : Setup) (w entry : ℕ) (main local : List ℕ) where
   freshBox = box freshState (replicate w 0) noCounts
 
   fresh-words : w ≤ 512 → length (x .code) ≤ 65536 → x .hi ≤ 65536 → entry ≤ 65536 → InWords freshBox
-  unfolding recordSections fresh predicatesOf predicatesWord transferSection loadSection productSection countSection joined
+  unfolding recordSections fresh predicatesOf predicatesWord transferSection loadSection productSection countSection replaySection joined
   fresh-words small code hi at =
       let one : (k : ℕ) (l : List ℕ) → k ≤ 65536 → AreWords l → AreWords (k ∷ l) = λ k l p q. more-words k l (omega (arith, p)) q in
       let rest : ℕ → List (List ℕ) = λ k. drop k (recordSections freshBox) in
@@ -78,10 +79,11 @@ module _ (x : Setup) (w entry : ℕ) (main local : List ℕ) where
       (section-words [] (rest 7) (omega arith) none-words
       (section-words [] (rest 8) (omega arith) none-words
       (section-words (replicate 12 0) (rest 9) (omega arith) (zero-words 12)
-      (section-words [] [] (omega arith) none-words none-words)))))))))
+      (section-words [] (rest 10) (omega arith) none-words
+      (section-words (replicate 3 0) [] (omega arith) (zero-words 3) none-words))))))))))
 
   -- What is written of a box that was opened; and what goes on from it, a step or a run, under the same settings and with any output that has
-  -- room. Code and memories may have been filled since.
+  -- room, over any list and table that 15 lets pass. Code and memories may have been filled since.
   abbrev judged : List ℕ → Bool → Bool → Bool → Resumed
   judged out t u v =
       cond (not t) (asFound 1 main local out)
@@ -89,11 +91,11 @@ module _ (x : Setup) (w entry : ℕ) (main local : List ℕ) where
       (cond (not v) (asFound 2 main local out) (handedOut (outcome accepted freshState noCounts (buffers main local (replicate w 0))) out)))
 
   pub opened-goes-on : (go : State → Buffers → Outcome) (y : Setup) (main′ local′ out next : List ℕ) → openedRecord x w entry main local out .answer ≡ accepted
-      → settings y (length main′) (length local′) w ≡ settings x (length main) (length local) w → longest w ≤ length next
+      → settings y (length main′) (length local′) w ≡ settings x (length main) (length local) w → longest w ≤ length next → replayOk (y .list) (y .table) ≡ true
       → let r = openedRecord x w entry main local out in
       fromRecord go y w (take (r .written) (r .out)) main′ local′ next ≡ handedOut (go freshState (buffers main′ local′ (replicate w 0))) next
   unfolding openedRecord
-  opened-goes-on go y main′ local′ out next e same room =
+  opened-goes-on go y main′ local′ out next e same room replayed =
       by (admits (settings x (length main) (length local) w)) (ltb (length out) (longest w)) (entryOk (length (x .code)) entry) refl refl e
     where
       by : (t u v : Bool) → admits (settings x (length main) (length local) w) ≡ t → entryOk (length (x .code)) entry ≡ v → judged out t u v .answer ≡ accepted
@@ -110,7 +112,7 @@ module _ (x : Setup) (w entry : ℕ) (main local : List ℕ) where
           ap (λ (l : List ℕ). fromRecord go y w l main′ local′ next) (take-append-seam (recordOf freshBox) (drop (length (recordOf freshBox)) out))
           ∙ ap (λ (k : ℕ). fromRecord go y k (recordOf freshBox) main′ local′ next) (sym long)
           ∙ from-box go y freshBox main′ local′ next words (fresh-shaped (length (x .code)) (x .hi) entry) (fresh-well-formed y (length (x .code)) (x .hi) entry)
-          (subst (λ (k : ℕ). admits (settings y (length main′) (length local′) k) ≡ true) (sym long) (ap admits same ∙ p)) (subst (λ (k : ℕ). longest k ≤ length next) (sym long) room)
+          (subst (λ (k : ℕ). admits (settings y (length main′) (length local′) k) ≡ true) (sym long) (ap admits same ∙ p)) (subst (λ (k : ℕ). longest k ≤ length next) (sym long) room) replayed
 
 -- What the function for C finds out on its way: settings that are refused, no room, and what the opening over c, with W words, left as l.
 module _ (x : Setup) (w entry : ℕ) (main local out : List ℕ) where

@@ -4,6 +4,7 @@ use mathlib.Core.Bool.{true, false}
 use mathlib.Core.List.{List, [], _∷_}
 use mathlib.Core.Path.{refl}
 use lib.ListN.{replicate}
+use Rattle.replay.specs.Replay.{replay}
 use Rattle.products.specs.declared.Products.{Products}
 use Rattle.products.specs.declared.Products.the-variants.{Nothing, One}
 use Rattle.products.specs.Products.{product}
@@ -32,7 +33,7 @@ told r3 sl sh products = record { r3 = r3; sl = sl; sh = sh; products = products
 abbrev pub after : ℕ → Told → State
 after n t =
     state (0 ∷ 6 ∷ 7 ∷ t .r3 ∷ replicate 28 0) (true ∷ replicate 7 false) (specials (t .sl) (t .sh) 1024 1024 0 16 0 0) (4 * n) 0 transfer.Nothing
-    load.Nothing (further (t .products) [])
+    load.Nothing (further (t .products) [] (replay false 0 n))
 
 -- At the start, and after each bundle.
 abbrev pub start : Told

@@ -5,4 +5,5 @@ pub mod Handbook
 pub mod Run
 pub mod Machine
 pub mod Late
+pub mod Interrupts
 pub mod Cases

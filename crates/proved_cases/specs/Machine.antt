@@ -1,6 +1,6 @@
 -- The cases on the machine that are marked P, and the two on the greatest amount of sres. Each is a run; a new one is a new entry
 -- of a list, and needs no proof.
-use Prim.Native.Nat.{ℕ, _+_}
+use Prim.Native.Nat.{ℕ, _+_, _/_}
 use mathlib.Core.List.{List, [], _∷_, map}
 use mathlib.Core.Path.{refl}
 use Rattle.effects.specs.declared.Transfer.the-variants.{Br}
@@ -8,7 +8,7 @@ use Rattle.core_state.specs.declared.WaitingTransfer.the-variants.{Nothing, Wai
 use Rattle.answers.specs.Answer.{done, refused}
 use Rattle.bundle_model.specs.declared.Counts.{Counts}
 use Rattle.proved_cases.specs.Case.{Case, AllHold}
-use Rattle.proved_cases.specs.Run.{Given, opened, seen, Trace, traced, Tried, Run, case, runs-hold}
+use Rattle.proved_cases.specs.Run.{Given, opened, seen, Trace, traced, Flow, Tried, Run, case, runs-hold}
 use Rattle.bundle_model.specs.Counts.{noCounts}
 
 -- A cache of 16 words: twelve, and the four at the places of the addresses 1008 to 1020. The bytes of `full` are 0 to 63, in order.
@@ -31,6 +31,10 @@ nop = 0x00400000
 abbrev pub counting : ℕ → ℕ → Counts
 counting spilled filled = record { bundles = 1; cycles = 1; spilled = spilled; filled = filled; misses = 0; fetched = 0 }
 
+-- No transfer waits, and every bundle so far was one word, from 0 on.
+abbrev pub onAt : ℕ → Flow
+onAt fetch = record { fetch = fetch; transfer = Nothing; done = fetch / 4 }
+
 -- After sres 12 st is 976, and nothing is spilled; after sres 8 st is 944 and ss 1008, and 4 words are spilled, the first to 1020.
 abbrev pub reserving : List Tried → List Tried
 reserving rest =
@@ -39,7 +43,7 @@ reserving rest =
       answer = done;
       counts = counting 0 0;
       stack = record { st = 976; ss = 1024; spilled = []; filled = [] };
-      flow = record { fetch = 4; transfer = Nothing };
+      flow = onAt 4;
       lent = record { last = []; cache = full };
     } ∷
     record {  -- sres 8
@@ -47,7 +51,7 @@ reserving rest =
       answer = done;
       counts = counting 4 0;
       stack = record { st = 944; ss = 1008; spilled = 1020 ∷ 1016 ∷ 1012 ∷ 1008 ∷ []; filled = [] };
-      flow = record { fetch = 8; transfer = Nothing };
+      flow = onAt 8;
       lent = record { last = fourWords; cache = full };
     } ∷
     rest
@@ -61,7 +65,7 @@ freeing address cache =
       answer = done;
       counts = counting 0 0;
       stack = record { st = 976; ss = 1008; spilled = []; filled = [] };
-      flow = record { fetch = address + 4; transfer = Nothing };
+      flow = onAt (address + 4);
       lent = record { last = fourWords; cache = cache };
     } ∷
     record {  -- sens 12
@@ -69,7 +73,7 @@ freeing address cache =
       answer = done;
       counts = counting 0 4;
       stack = record { st = 976; ss = 1024; spilled = []; filled = 1008 ∷ 1012 ∷ 1016 ∷ 1020 ∷ [] };
-      flow = record { fetch = address + 8; transfer = Nothing };
+      flow = onAt (address + 8);
       lent = record { last = fourWords; cache = full };
     } ∷
     []
@@ -82,7 +86,7 @@ clearing word fetch cache =
       answer = done;
       counts = counting 0 0;
       stack = record { st = 944; ss = 1008; spilled = []; filled = [] };
-      flow = record { fetch = fetch; transfer = Nothing };
+      flow = onAt fetch;
       lent = record { last = fourWords; cache = cache };
     }
 
@@ -113,7 +117,7 @@ machineRuns =
             answer = done;
             counts = counting 0 0;
             stack = record { st = 1024; ss = 1024; spilled = []; filled = [] };
-            flow = record { fetch = 20; transfer = Waits (Br 12) 2 };
+            flow = record { fetch = 20; transfer = Waits (Br 12) 2; done = 1 };
             lent = record { last = []; cache = full };
           } ∷
           record {
@@ -121,7 +125,7 @@ machineRuns =
             answer = done;
             counts = counting 0 0;
             stack = record { st = 1024; ss = 1024; spilled = []; filled = [] };
-            flow = record { fetch = 24; transfer = Waits (Br 12) 1 };
+            flow = record { fetch = 24; transfer = Waits (Br 12) 1; done = 2 };
             lent = record { last = []; cache = full };
           } ∷
           record {
@@ -129,7 +133,7 @@ machineRuns =
             answer = done;
             counts = counting 0 0;
             stack = record { st = 1024; ss = 1024; spilled = []; filled = [] };
-            flow = record { fetch = 12; transfer = Nothing };
+            flow = record { fetch = 12; transfer = Nothing; done = 3 };
             lent = record { last = []; cache = full };
           } ∷
           [];
@@ -143,7 +147,7 @@ machineRuns =
             answer = done;
             counts = counting 0 0;
             stack = record { st = 1024; ss = 1024; spilled = []; filled = [] };
-            flow = record { fetch = 4; transfer = Nothing };
+            flow = onAt 4;
             lent = record { last = []; cache = full };
           } ∷
           [];
@@ -162,7 +166,7 @@ limitRuns =
             answer = done;
             counts = counting 0 0;
             stack = record { st = 960; ss = 1024; spilled = []; filled = [] };
-            flow = record { fetch = 4; transfer = Nothing };
+            flow = onAt 4;
             lent = record { last = []; cache = full };
           } ∷
           [];
@@ -176,7 +180,7 @@ limitRuns =
             answer = refused 7;
             counts = noCounts;
             stack = record { st = 1024; ss = 1024; spilled = []; filled = [] };
-            flow = record { fetch = 0; transfer = Nothing };
+            flow = onAt 0;
             lent = record { last = []; cache = full };
           } ∷
           [];

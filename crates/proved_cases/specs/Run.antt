@@ -11,8 +11,10 @@ use Rattle.isa.specs.Format.{reading, row}
 use Rattle.decoder.specs.Decode as decoder
 use Rattle.decoder.specs.Decode.{bundleWords, guardOf, slotTwo, decode}
 use Rattle.stack_cache.specs.Stack.{isCacheSize, cacheWord, putCacheWord, partOf, putPart, cacheNumber, putCacheNumber, below, spillWhile, fillWhile, topAfter, spills, fills, spillAfter, badWindow, badAmount, every, movedOutside, spilled, filled}
+use Rattle.sections.specs.Words.{wordsFrom, wordsIn}
+use Rattle.replay.specs.Replay.{replay, handlerAt, recordsOk, replayOk, dueIn, oneMore}
 use Rattle.products.specs.Products.{productsOk, dueProduct, nearerProducts, withOneMore}
-use Rattle.core_state.specs.State.{State, startOf, withRegister, withPredicate, predicatesOf, withSpecial, withStack, landed, arrived, goingOn, transferred, partsOk, ended as hasEnded, fresh}
+use Rattle.core_state.specs.State.{State, withRegister, withPredicate, predicatesOf, withSpecial, withStack, withReplay, landed, arrived, goingOn, transferred, entered, partsOk, ended as hasEnded, fresh}
 use Rattle.core_state.specs.declared.WaitingTransfer.{WaitingTransfer}
 use Rattle.method_cache.specs.MethodCache.{capacityOk, heldAfter, misses, wordsFetched, heldOk}
 use Rattle.answers.specs.Answer.{Returned, accepted, done, ended, spent, refused}
@@ -20,8 +22,10 @@ use Rattle.bundle_model.specs.declared.Counts.{Counts}
 use Rattle.settings.specs.Settings.{admits}
 use Rattle.memory.specs.Access.{loadScale, storeScale, readNumber, extended, loadedValue, stored, mainOpen, accessOpen}
 use Rattle.alu_effects.specs.AluEffects.{predicatesWord, special, op2Value, aluEffect, slotTwoEffect}
-use Rattle.effects.specs.Effect.{accessAddress, amountWords, amountAligned, stackEffect, transferOf, effectOf, slotOneEffect, slotOne, onEffect}
-use Rattle.bundle_model.specs.Bundle.{stackMoved, buffersAfter, writeOne, written, Outcome, outcome, bundle, wellFormed, readiness, step}
+use Rattle.effects.specs.Effect.{accessAddress, amountWords, amountAligned, stackEffect, transferOf, effectOf, slotOneEffect, onEffect}
+use Rattle.bundle_model.specs.Interrupt.{due, entryLookups, entryTests, taken}
+use Rattle.bundle_model.specs.Bundle.{stackMoved, buffersAfter, writeOne, written, Outcome, outcome, bundle, attempt, wellFormed, readiness, step}
+use Rattle.step_laws.specs.StepCases.{effectAt}
 use Rattle.bundle_model.specs.Lookup.{basesOf, lookupTests}
 use Rattle.bundle_model.specs.Refusal.{slotTests}
 use Rattle.core_state.specs.Writes.{writeAlu, delaySlots}
@@ -29,12 +33,12 @@ use Rattle.state.specs.Open.{Open, opening}
 use Rattle.proved_cases.specs.Case.{Case, AllHold}
 use Rattle.settings.specs.Setup.{Setup, Buffers, buffers, touches}
 use Rattle.answers.specs.Test.{verdict}
-use Rattle.fetch.specs.Fetch.{outsideCode, bundleAt}
+use Rattle.fetch.specs.Fetch.{outsideCode}
 
 -- The machine of every run: main memory of 1024 bytes, all zero, with the stack area from 512 to its end; no local memory and no method
--- cache.
+-- cache; no interrupt is replayed, and no handler is in the table.
 abbrev pub within : List ℕ → Setup
-within code = record { code = code; lo = 512; hi = 1024; method = record { on = false; blocks = 0; bytes = 0 } }
+within code = record { code = code; list = []; table = replicate 128 0; lo = 512; hi = 1024; method = record { on = false; blocks = 0; bytes = 0 } }
 
 -- Main memory that is zero but for its last bytes.
 abbrev pub endingIn : List ℕ → List ℕ
@@ -70,9 +74,9 @@ ifDone ended addresses = []
 ifDone spent addresses = []
 ifDone (refused n) addresses = []
 
--- (Below `decoder.slotOne` is what a word holds; `slotOne` is what it does.)
 unfoldable pub seen : List ℕ → State → Buffers → Seen
 unfolding step readiness admits isCacheSize capacityOk wellFormed partsOk heldOk hasEnded bundle slotTests basesOf lookupTests heldAfter misses wordsFetched
+    attempt replayOk recordsOk wordsIn wordsFrom due dueIn handlerAt oneMore entryLookups entryTests taken entered
     outsideCode numberAt bundleWords decode guardOf decoder.slotOne slotTwo reading row signed
     slotOneEffect slotTwoEffect effectOf aluEffect op2Value arithmetic multiply compare combine
     lessSigned lessEqualSigned shiftRightSigned copyBit productSigned predicatesWord special
@@ -83,11 +87,11 @@ unfolding step readiness admits isCacheSize capacityOk wellFormed partsOk heldOk
     buffersAfter stored putNumber putCacheNumber putCacheWord putPart stackMoved spilled filled
 seen code s b =
     let o = step (within code) s b in
-    let one = slotOne (startOf s) (bundleAt code (s .fetch)) in
+    let one = effectAt (within code) (taken (within code) s) in
     record {
       outcome = o;
-      spilled = ifDone (o .answer) (onEffect [] (λ c n m. spills c (length (b .cache)) (s .specials .st) (s .specials .ss) n) (λ d t. []) one);
-      filled = ifDone (o .answer) (onEffect [] (λ c n m. fills c (s .specials .st) (s .specials .ss) n) (λ d t. []) one);
+      spilled = ifDone (o .answer) (onEffect [] (λ c n m. spills c (length (b .cache)) (s .specials .st) (s .specials .ss) n) (λ d t. []) (λ n handler. []) one);
+      filled = ifDone (o .answer) (onEffect [] (λ c n m. fills c (s .specials .st) (s .specials .ss) n) (λ d t. []) (λ n handler. []) one);
     }
 
 -- Each step goes on with the state and the buffers that the one before left.
@@ -114,10 +118,11 @@ pub record Stack : Type 0 where
   pub spilled : List ℕ
   pub filled : List ℕ
 
--- where the core goes on;
+-- where the core goes on, and how many bundles are done;
 pub record Flow : Type 0 where
   pub fetch : ℕ
   pub transfer : WaitingTransfer
+  pub done : ℕ
 
 -- the last bytes of main memory, and the cache;
 pub record Lent : Type 0 where
@@ -159,7 +164,7 @@ abbrev pub expected : Run → Tried → Seen
 expected r t =
     let s = goingOn (fresh (length (given r .code)) 1024 (given r .entry)) (t .flow .fetch) (t .flow .transfer) in
     record {
-      outcome = outcome (t .answer) (withStack s (t .stack .st) (t .stack .ss)) (t .counts) (buffers (endingIn (t .lent .last)) [] (t .lent .cache));
+      outcome = outcome (t .answer) (withReplay (withStack s (t .stack .st) (t .stack .ss)) (replay false 0 (t .flow .done))) (t .counts) (buffers (endingIn (t .lent .last)) [] (t .lent .cache));
       spilled = t .stack .spilled;
       filled = t .stack .filled;
     }

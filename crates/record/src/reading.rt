@@ -15,6 +15,7 @@ use record_parts::reading::counts_in;
 use record_parts::reading::load_in;
 use record_parts::reading::predicates_in;
 use record_parts::reading::products_in;
+use record_parts::reading::replay_in;
 use record_parts::reading::specials_in;
 use record_parts::reading::transfer_in;
 use sections::section_at;
@@ -70,6 +71,7 @@ fn state_in(bytes: &[u8]) -> State
         load: load_in(section_at(bytes, 6)),
         products: products_in(section_at(bytes, 7)),
         held: held_in(section_at(bytes, 9)),
+        replay: replay_in(section_at(bytes, 10)),
     }
 }
 

@@ -5,7 +5,7 @@ use mathlib.Core.List.{List, [], _∷_}
 use mathlib.Core.Path.{_≡_, refl, sym, ap, _∙_}
 use native.Mathlib.Omega.{arith}
 use native.Mathlib.Nat.{pow-suc}
-use borrow.Author.Tests.{eqb-true, eqb-false, leb-true, le-leb}
+use borrow.Author.Tests.{eqb-true, eqb-false, leb-true, leb-false, le-leb}
 use lib.Arith.{digits-div, digits-mod}
 use lib.Dec.{eqb, leb}
 use lib.ListN.{length, getD}
@@ -13,7 +13,7 @@ use Rattle.word.specs.Word.{add}
 use Rattle.word.specs.BoolLaws.{and-left, and-right}
 use Rattle.sections.specs.Words.{AreWords}
 use Rattle.alu_effects.specs.AluEffects.{predicatesWord}
-use Rattle.effects.specs.declared.Transfer.the-variants.{Br, Call, Block}
+use Rattle.effects.specs.declared.Transfer.the-variants.{Br, Call, Block, Xret}
 use Rattle.products.specs.declared.Products.{Products}
 use Rattle.products.specs.declared.Products.the-variants as products
 use Rattle.products.specs.Products.{product, productsOk}
@@ -22,8 +22,10 @@ use Rattle.core_state.specs.declared.WaitingTransfer.the-variants as transfer
 use Rattle.core_state.specs.declared.WaitingLoad.{WaitingLoad}
 use Rattle.core_state.specs.declared.WaitingLoad.the-variants as load
 use Rattle.core_state.specs.State.{predicatesOf}
+use Rattle.replay.specs.declared.Replay.{Replay}
+use Rattle.replay.specs.Replay.{replay}
 use Rattle.bundle_model.specs.declared.Counts.{Counts}
-use Rattle.record_model.specs.Record.{transferSection, transferOf, transferIn, isTransfer, loadSection, loadIn, isLoad, productSection, productsIn, areProducts, upper, lower, countSection, countAt, countsOfWords}
+use Rattle.record_model.specs.Record.{transferSection, transferOf, transferIn, isTransfer, loadSection, loadIn, isLoad, productSection, productsIn, areProducts, upper, lower, countSection, countAt, countsOfWords, replaySection, replayIn}
 
 -- A list of a known length, place by place.
 abbrev places : ℕ → ℕ → List ℕ → List ℕ
@@ -85,6 +87,7 @@ transfer-forth transfer.Nothing = refl
 transfer-forth (transfer.Waits (Br target) wait) = refl
 transfer-forth (transfer.Waits (Call target) wait) = refl
 transfer-forth (transfer.Waits (Block target base) wait) = refl
+transfer-forth (transfer.Waits (Xret target base) wait) = refl
 
 pub transfer-is : (t : WaitingTransfer) → isTransfer (transferSection t) ≡ true
 unfolding isTransfer transferSection
@@ -92,35 +95,40 @@ transfer-is transfer.Nothing = refl
 transfer-is (transfer.Waits (Br target) wait) = refl
 transfer-is (transfer.Waits (Call target) wait) = refl
 transfer-is (transfer.Waits (Block target base) wait) = refl
+transfer-is (transfer.Waits (Xret target base) wait) = refl
 
--- What waits by what its kind is: 0, or else 1.
-abbrev waits : Bool → Bool → List ℕ → WaitingTransfer
-waits zero? one? l = transfer.Waits (cond zero? (Br (getD l 2 0)) (cond one? (Call (getD l 2 0)) (Block (getD l 2 0) (getD l 3 0)))) (getD l 1 0)
+-- What waits by what its kind is: 0, or else 1, or else 2.
+abbrev waits : Bool → Bool → Bool → List ℕ → WaitingTransfer
+waits zero? one? two? l =
+    transfer.Waits (cond zero? (Br (getD l 2 0)) (cond one? (Call (getD l 2 0)) (cond two? (Block (getD l 2 0) (getD l 3 0)) (Xret (getD l 2 0) (getD l 3 0))))) (getD l 1 0)
 
 pub transfer-back : (l : List ℕ) → isTransfer l ≡ true → transferSection (transferIn l) ≡ l
 unfolding isTransfer transferIn transferOf transferSection
 transfer-back l h = none (eqb (length l) 0) refl h
   where
-    three : (z o : Bool) → eqb (getD l 0 0) 0 ≡ z → eqb (getD l 0 0) 1 ≡ o → leb (getD l 0 0) 1 ≡ true → length l ≡ 3 → transferSection (waits z o l) ≡ l
-    three true o is0 is1 k n = (λ i. sym (eqb-true (getD l 0 0) 0 is0) i ∷ getD l 1 0 ∷ getD l 2 0 ∷ []) ∙ sym (by-places 3 l n)
-    three false true is0 is1 k n = (λ i. sym (eqb-true (getD l 0 0) 1 is1) i ∷ getD l 1 0 ∷ getD l 2 0 ∷ []) ∙ sym (by-places 3 l n)
-    three false false is0 is1 k n = absurd (omega (arith, eqb-false (getD l 0 0) 0 is0, eqb-false (getD l 0 0) 1 is1, leb-true (getD l 0 0) 1 k))
+    three : (z o t : Bool) → eqb (getD l 0 0) 0 ≡ z → eqb (getD l 0 0) 1 ≡ o → leb (getD l 0 0) 1 ≡ true → length l ≡ 3 → transferSection (waits z o t l) ≡ l
+    three true o t is0 is1 k n = (λ i. sym (eqb-true (getD l 0 0) 0 is0) i ∷ getD l 1 0 ∷ getD l 2 0 ∷ []) ∙ sym (by-places 3 l n)
+    three false true t is0 is1 k n = (λ i. sym (eqb-true (getD l 0 0) 1 is1) i ∷ getD l 1 0 ∷ getD l 2 0 ∷ []) ∙ sym (by-places 3 l n)
+    three false false t is0 is1 k n = absurd (omega (arith, eqb-false (getD l 0 0) 0 is0, eqb-false (getD l 0 0) 1 is1, leb-true (getD l 0 0) 1 k))
 
-    four : (z o : Bool) → eqb (getD l 0 0) 0 ≡ z → eqb (getD l 0 0) 1 ≡ o → getD l 0 0 ≡ 2 → length l ≡ 4 → transferSection (waits z o l) ≡ l
-    four true o is0 is1 k n = absurd (omega (arith, eqb-true (getD l 0 0) 0 is0, k))
-    four false true is0 is1 k n = absurd (omega (arith, eqb-true (getD l 0 0) 1 is1, k))
-    four false false is0 is1 k n = (λ i. sym k i ∷ getD l 1 0 ∷ getD l 2 0 ∷ getD l 3 0 ∷ []) ∙ sym (by-places 4 l n)
+    four : (z o t : Bool) → eqb (getD l 0 0) 0 ≡ z → eqb (getD l 0 0) 1 ≡ o → eqb (getD l 0 0) 2 ≡ t → 1 < getD l 0 0 → getD l 0 0 ≤ 3 → length l ≡ 4 → transferSection (waits z o t l) ≡ l
+    four true o t is0 is1 is2 above k n = absurd (omega (arith, eqb-true (getD l 0 0) 0 is0, above))
+    four false true t is0 is1 is2 above k n = absurd (omega (arith, eqb-true (getD l 0 0) 1 is1, above))
+    four false false true is0 is1 is2 above k n = (λ i. sym (eqb-true (getD l 0 0) 2 is2) i ∷ getD l 1 0 ∷ getD l 2 0 ∷ getD l 3 0 ∷ []) ∙ sym (by-places 4 l n)
+    four false false false is0 is1 is2 above k n =
+        let e : 3 ≡ getD l 0 0 = omega (arith, eqb-false (getD l 0 0) 2 is2, above, k) in
+        (λ i. e i ∷ getD l 1 0 ∷ getD l 2 0 ∷ getD l 3 0 ∷ []) ∙ sym (by-places 4 l n)
 
-    some : (t : Bool) → leb (getD l 0 0) 1 ≡ t → cond t (eqb (length l) 3) (eqb (getD l 0 0) 2 && eqb (length l) 4) ≡ true
-        → transferSection (waits (eqb (getD l 0 0) 0) (eqb (getD l 0 0) 1) l) ≡ l
-    some true e f = three (eqb (getD l 0 0) 0) (eqb (getD l 0 0) 1) refl refl e (eqb-true (length l) 3 f)
+    some : (t : Bool) → leb (getD l 0 0) 1 ≡ t → cond t (eqb (length l) 3) (leb (getD l 0 0) 3 && eqb (length l) 4) ≡ true
+        → transferSection (waits (eqb (getD l 0 0) 0) (eqb (getD l 0 0) 1) (eqb (getD l 0 0) 2) l) ≡ l
+    some true e f = three (eqb (getD l 0 0) 0) (eqb (getD l 0 0) 1) (eqb (getD l 0 0) 2) refl refl e (eqb-true (length l) 3 f)
     some false e f =
-        let k = eqb-true (getD l 0 0) 2 (and-left (eqb (getD l 0 0) 2) (eqb (length l) 4) f) in
-        let n = eqb-true (length l) 4 (and-right (eqb (getD l 0 0) 2) (eqb (length l) 4) f) in
-        four (eqb (getD l 0 0) 0) (eqb (getD l 0 0) 1) refl refl k n
+        let k = leb-true (getD l 0 0) 3 (and-left (leb (getD l 0 0) 3) (eqb (length l) 4) f) in
+        let n = eqb-true (length l) 4 (and-right (leb (getD l 0 0) 3) (eqb (length l) 4) f) in
+        four (eqb (getD l 0 0) 0) (eqb (getD l 0 0) 1) (eqb (getD l 0 0) 2) refl refl refl (leb-false (getD l 0 0) 1 e) k n
 
-    none : (t : Bool) → eqb (length l) 0 ≡ t → t || (cond (leb (getD l 0 0) 1) (eqb (length l) 3) (eqb (getD l 0 0) 2 && eqb (length l) 4)) ≡ true
-        → transferSection (cond t transfer.Nothing (waits (eqb (getD l 0 0) 0) (eqb (getD l 0 0) 1) l)) ≡ l
+    none : (t : Bool) → eqb (length l) 0 ≡ t → t || (cond (leb (getD l 0 0) 1) (eqb (length l) 3) (leb (getD l 0 0) 3 && eqb (length l) 4)) ≡ true
+        → transferSection (cond t transfer.Nothing (waits (eqb (getD l 0 0) 0) (eqb (getD l 0 0) 1) (eqb (getD l 0 0) 2) l)) ≡ l
     none true e f = sym (no-words l e)
     none false e f = some (leb (getD l 0 0) 1) refl f
 
@@ -130,6 +138,7 @@ transfer-few transfer.Nothing = omega arith
 transfer-few (transfer.Waits (Br target) wait) = omega arith
 transfer-few (transfer.Waits (Call target) wait) = omega arith
 transfer-few (transfer.Waits (Block target base) wait) = omega arith
+transfer-few (transfer.Waits (Xret target base) wait) = omega arith
 
 -- A waiting load.
 pub load-forth : (l : WaitingLoad) → loadIn (loadSection l) ≡ l
@@ -232,3 +241,32 @@ counts-back l words n =
     let u : (i : ℕ) → upper (countAt l i) ≡ getD l i 0 = upper-back l words in
     let d : (i : ℕ) → lower (countAt l i) ≡ getD l (i + 1) 0 = lower-back l words in
     (λ i. u 0 i ∷ d 0 i ∷ u 2 i ∷ d 2 i ∷ u 4 i ∷ d 4 i ∷ u 6 i ∷ d 6 i ∷ u 8 i ∷ d 8 i ∷ u 10 i ∷ d 10 i ∷ []) ∙ sym (by-places 12 l n)
+
+-- The replay.
+pub replay-forth : (r : Replay) → replayIn (replaySection r) ≡ r
+unfolding replaySection
+replay-forth r = ap (λ (active : Bool). replay active (r .place) (r .done)) (go (r .active))
+  where
+    go : (t : Bool) → eqb (cond t 1 0) 1 ≡ t
+    go true = refl
+    go false = refl
+
+pub replay-three : (r : Replay) → length (replaySection r) ≡ 3
+unfolding replaySection
+replay-three r = refl
+
+pub replay-small : (r : Replay) → getD (replaySection r) 0 0 ≤ 1
+unfolding replaySection
+replay-small r = go (r .active)
+  where
+    go : (t : Bool) → cond t 1 0 ≤ 1
+    go true = omega arith
+    go false = omega arith
+
+pub replay-back : (l : List ℕ) → length l ≡ 3 → getD l 0 0 ≤ 1 → replaySection (replayIn l) ≡ l
+unfolding replaySection
+replay-back l n small = (λ i. go (eqb (getD l 0 0) 1) refl i ∷ getD l 1 0 ∷ getD l 2 0 ∷ []) ∙ sym (by-places 3 l n)
+  where
+    go : (t : Bool) → eqb (getD l 0 0) 1 ≡ t → cond t 1 0 ≡ getD l 0 0
+    go true e = sym (eqb-true (getD l 0 0) 1 e)
+    go false e = omega (arith, eqb-false (getD l 0 0) 1 e, small)

@@ -1,4 +1,4 @@
--- The state record (request (iv) of document 02): a stopped box as ten sections of words, each after its count, in bytes. docs/RECORD.md has
+-- The state record (request (iv) of document 02): a stopped box as eleven sections of words, each after its count, in bytes. docs/RECORD.md has
 -- the same as a table.
 use Prim.Native.Nat.{ℕ, _+_, _-_, _*_, _/_, _%_, _^_}
 use mathlib.Core.Bool.{Bool, cond, _&&_, _||_}
@@ -13,7 +13,7 @@ use Rattle.settings.specs.Setup.{Setup}
 use Rattle.alu_effects.specs.declared.Specials.{Specials}
 use Rattle.alu_effects.specs.AluEffects.{predicatesWord}
 use Rattle.effects.specs.declared.Transfer.{Transfer}
-use Rattle.effects.specs.declared.Transfer.the-variants.{Br, Call, Block}
+use Rattle.effects.specs.declared.Transfer.the-variants.{Br, Call, Block, Xret}
 use Rattle.products.specs.declared.Products.{Products}
 use Rattle.products.specs.declared.Products.the-variants as products
 use Rattle.products.specs.Products.{product}
@@ -22,6 +22,8 @@ use Rattle.core_state.specs.declared.WaitingTransfer.the-variants as transfer
 use Rattle.core_state.specs.declared.WaitingLoad.{WaitingLoad}
 use Rattle.core_state.specs.declared.WaitingLoad.the-variants as load
 use Rattle.core_state.specs.State.{State, state, further, specials, predicatesOf}
+use Rattle.replay.specs.declared.Replay.{Replay}
+use Rattle.replay.specs.Replay.{replay}
 use Rattle.bundle_model.specs.declared.Counts.{Counts}
 use Rattle.bundle_model.specs.Bundle.{wellFormed}
 
@@ -41,22 +43,26 @@ specialsSection x = x .sl ∷ x .sh ∷ x .ss ∷ x .st ∷ x .srb ∷ x .sro �
 abbrev pub specialsIn : List ℕ → Specials
 specialsIn l = specials (getD l 0 0) (getD l 1 0) (getD l 2 0) (getD l 3 0) (getD l 4 0) (getD l 5 0) (getD l 6 0) (getD l 7 0)
 
--- A waiting transfer: its kind, its wait, its target, and of a block transfer the base.
+-- A waiting transfer: its kind, its wait, its target, and of a block transfer and of xret the base.
 unfoldable pub transferSection : WaitingTransfer → List ℕ
 transferSection transfer.Nothing = []
 transferSection (transfer.Waits (Br target) wait) = 0 ∷ wait ∷ target ∷ []
 transferSection (transfer.Waits (Call target) wait) = 1 ∷ wait ∷ target ∷ []
 transferSection (transfer.Waits (Block target base) wait) = 2 ∷ wait ∷ target ∷ base ∷ []
+transferSection (transfer.Waits (Xret target base) wait) = 3 ∷ wait ∷ target ∷ base ∷ []
 
 unfoldable pub transferOf : ℕ → ℕ → ℕ → Transfer
-transferOf kind target base = cond (eqb kind 0) (Br target) (cond (eqb kind 1) (Call target) (Block target base))
+transferOf kind target base =
+    cond (eqb kind 0) (Br target)
+    (cond (eqb kind 1) (Call target)
+    (cond (eqb kind 2) (Block target base) (Xret target base)))
 
 unfoldable pub transferIn : List ℕ → WaitingTransfer
 transferIn l = cond (eqb (length l) 0) transfer.Nothing (transfer.Waits (transferOf (getD l 0 0) (getD l 2 0) (getD l 3 0)) (getD l 1 0))
 
--- What the words of a waiting transfer look like: none, three with kind 0 or 1, or four with kind 2.
+-- What the words of a waiting transfer look like: none, three with kind 0 or 1, or four with kind 2 or 3.
 unfoldable pub isTransfer : List ℕ → Bool
-isTransfer l = eqb (length l) 0 || (cond (leb (getD l 0 0) 1) (eqb (length l) 3) (eqb (getD l 0 0) 2 && eqb (length l) 4))
+isTransfer l = eqb (length l) 0 || (cond (leb (getD l 0 0) 1) (eqb (length l) 3) (leb (getD l 0 0) 3 && eqb (length l) 4))
 
 -- A waiting load: its register and its value.
 unfoldable pub loadSection : WaitingLoad → List ℕ
@@ -107,7 +113,14 @@ abbrev pub countsOfWords : List ℕ → Counts
 countsOfWords l =
     record { bundles = countAt l 0; cycles = countAt l 2; spilled = countAt l 4; filled = countAt l 6; misses = countAt l 8; fetched = countAt l 10 }
 
--- The ten sections, in the order of the request.
+-- The replay: whether a handler is active, the place in the list, and the bundles done. The first word is 0 or 1, the others take any value.
+unfoldable pub replaySection : Replay → List ℕ
+replaySection r = cond (r .active) 1 0 ∷ r .place ∷ r .done ∷ []
+
+abbrev pub replayIn : List ℕ → Replay
+replayIn l = replay (eqb (getD l 0 0) 1) (getD l 1 0) (getD l 2 0)
+
+-- The eleven sections, in the order of the requests.
 unfoldable pub recordSections : Box → List (List ℕ)
 recordSections x =
     let s = x .state in
@@ -121,6 +134,7 @@ recordSections x =
     ∷ productSection (s .further .products)
     ∷ countSection (x .counts)
     ∷ s .further .held
+    ∷ replaySection (s .further .replay)
     ∷ []
 
 abbrev pub recordWords : Box → List ℕ
@@ -136,23 +150,27 @@ boxIn l =
     let flow = sectionAt 0 l in
     box
     (state (sectionAt 1 l) (predicatesOf 8 (getD (sectionAt 2 l) 0 0)) (specialsIn (sectionAt 3 l)) (getD flow 0 0) (getD flow 1 0)
-    (transferIn (sectionAt 5 l)) (loadIn (sectionAt 6 l)) (further (productsIn (sectionAt 7 l)) (sectionAt 9 l)))
+    (transferIn (sectionAt 5 l)) (loadIn (sectionAt 6 l)) (further (productsIn (sectionAt 7 l)) (sectionAt 9 l) (replayIn (sectionAt 10 l))))
     (sectionAt 4 l)
     (countsOfWords (sectionAt 8 l))
 
--- The form of a record with W cache words: ten sections with nothing behind them, each with a count that it can have and values and an order
+-- The form of a record with W cache words: eleven sections with nothing behind them, each with a count that it can have and values and an order
 -- that some state's record has.
 abbrev pub fixedSections : ℕ → List ℕ → Bool
 fixedSections w l =
     ((eqb (length (sectionAt 0 l)) 2 && eqb (length (sectionAt 1 l)) 32) && (eqb (length (sectionAt 2 l)) 1 && eqb (length (sectionAt 3 l)) 8))
-    && (eqb (length (sectionAt 4 l)) w && eqb (length (sectionAt 8 l)) 12)
+    && ((eqb (length (sectionAt 4 l)) w && eqb (length (sectionAt 8 l)) 12) && eqb (length (sectionAt 10 l)) 3)
 
 abbrev pub freeSections : List ℕ → Bool
 freeSections l =
     (isTransfer (sectionAt 5 l) && isLoad (sectionAt 6 l)) && (areProducts (sectionAt 7 l) && leb (length (sectionAt 9 l)) greatestBlocks)
 
+-- The words that cannot have every value: the predicates, and whether a handler is active.
+abbrev pub smallWords : List ℕ → Bool
+smallWords l = ltb (getD (sectionAt 2 l) 0 0) 256 && leb (getD (sectionAt 10 l) 0 0) 1
+
 unfoldable pub isRecord : ℕ → List ℕ → Bool
-isRecord w l = isCut 10 l && ((fixedSections w l && ltb (getD (sectionAt 2 l) 0 0) 256) && freeSections l)
+isRecord w l = isCut 11 l && ((fixedSections w l && smallWords l) && freeSections l)
 
 -- Bytes of that form: whole words.
 unfoldable pub hasForm : ℕ → List ℕ → Bool
@@ -167,10 +185,10 @@ readRecord bytes = boxIn (wordsIn bytes)
 unfoldable pub accepts : Setup → ℕ → List ℕ → Bool
 accepts x w bytes = hasForm w bytes && wellFormed x (readRecord bytes .state)
 
--- The lengths of the shortest and the longest record with W cache words, in bytes: ten counts and the sections that have one count; and, beside
+-- The lengths of the shortest and the longest record with W cache words, in bytes: eleven counts and the sections that have one count; and, beside
 -- these, a waiting transfer with a base, a load, two products, and as many blocks as any capacity has.
 abbrev pub shortest : ℕ → ℕ
-shortest w = 4 * (10 + (2 + 32 + 1 + 8 + w + 12))
+shortest w = 4 * (11 + (2 + 32 + 1 + 8 + w + 12 + 3))
 
 abbrev pub longest : ℕ → ℕ
 longest w = shortest w + 4 * (4 + 2 + 6 + greatestBlocks)

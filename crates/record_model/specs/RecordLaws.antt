@@ -19,6 +19,7 @@ use Rattle.method_cache.specs.MethodCache.{capacityOk, bytesHeld, heldGood, hel
 use Rattle.method_cache.specs.CacheLaws.{capacity-on}
 use Rattle.settings.specs.Setup.{Setup}
 use Rattle.products.specs.Products.{product, productsOk}
+use Rattle.replay.specs.Replay.{notBegun}
 use Rattle.bundle_model.specs.Counts.{noCounts}
 use Rattle.effects.specs.declared.Transfer.the-variants.{Block}
 use Rattle.products.specs.declared.Products.the-variants as products
@@ -54,7 +55,7 @@ abbrev fullBox : List ℕ → Box
 fullBox cache =
     let p = product 1 0 0 in
     box
-    (state (replicate 32 0) (true ∷ predicatesOf 7 0) (specials 0 0 0 0 0 0 0 0) 0 0 (transfer.Waits (Block 0 0) 1) (load.Waits 0 0) (further (products.Two p p) (replicate 16 0)))
+    (state (replicate 32 0) (true ∷ predicatesOf 7 0) (specials 0 0 0 0 0 0 0 0) 0 0 (transfer.Waits (Block 0 0) 1) (load.Waits 0 0) (further (products.Two p p) (replicate 16 0) notBegun))
     cache
     noCounts
 

@@ -4,7 +4,7 @@ ghost use lib.Dec.{eqb};
 ghost use lib.ListN.{length};
 ghost use Rattle.sections.specs.Words.{wordsIn};
 ghost use Rattle.sections.specs.Sections.{sectionAt};
-ghost use Rattle.record_model.specs.Record.{isTransfer, isLoad, areProducts, fixedSections, freeSections, hasForm};
+ghost use Rattle.record_model.specs.Record.{isTransfer, isLoad, areProducts, fixedSections, smallWords, freeSections, hasForm};
 use sections::is_cut;
 use sections::section_at;
 use sections::word_at;
@@ -24,7 +24,7 @@ fn is_transfer(part: &[u8]) -> bool
     if kind <= 1 {
         return (words == 0) | (words == 3);
     }
-    (words == 0) | ((kind == 2) & (words == 4))
+    (words == 0) | ((kind <= 3) & (words == 4))
 }
 
 fn is_load(part: &[u8]) -> bool
@@ -49,7 +49,8 @@ fn fixed_counts(bytes: &[u8], words: usize) -> bool
 {
     let first = has_count(bytes, 0, 2) & has_count(bytes, 1, 32);
     let next = has_count(bytes, 2, 1) & has_count(bytes, 3, 8);
-    (first & next) & (has_count(bytes, 4, words) & has_count(bytes, 8, 12))
+    let rest = has_count(bytes, 4, words) & has_count(bytes, 8, 12);
+    (first & next) & (rest & has_count(bytes, 10, 3))
 }
 
 // Those that may be empty.
@@ -62,13 +63,22 @@ fn free_counts(bytes: &[u8]) -> bool
     (transfer & load) & (products & (section_at(bytes, 9).len() / 4 <= 16))
 }
 
-// Whole words, ten sections, counts and values that a record has.
+// The words that cannot have every value.
+fn small_words(bytes: &[u8]) -> bool
+    ensures { λ r. ⌜ r ≡ smallWords (wordsIn (now (bytes .entry))) ⌝ }
+{
+    let predicates = word_at(section_at(bytes, 2), 0);
+    let active = word_at(section_at(bytes, 10), 0);
+    (predicates < 256) & (active <= 1)
+}
+
+// Whole words, eleven sections, counts and values that a record has.
 pub fn has_form(bytes: &[u8], words: usize) -> bool
     ensures { λ r. ⌜ r ≡ hasForm words (now (bytes .entry)) ⌝ }
 {
     let whole = bytes.len() % 4 == 0;
-    let predicates = word_at(section_at(bytes, 2), 0);
     let fixed = fixed_counts(bytes, words);
+    let small = small_words(bytes);
     let free = free_counts(bytes);
-    whole & (is_cut(bytes, 10) & ((fixed & (predicates < 256)) & free))
+    whole & (is_cut(bytes, 11) & ((fixed & small) & free))
 }

@@ -5,7 +5,7 @@ ghost use lib.ListN.{getD};
 ghost use Rattle.sections.specs.Words.{wordsIn};
 ghost use Rattle.core_state.specs.State.{predicatesOf};
 ghost use Rattle.products.specs.Products.{product};
-ghost use Rattle.record_model.specs.Record.{specialsIn, transferOf, transferIn, loadIn, productsIn, countAt, countsOfWords};
+ghost use Rattle.record_model.specs.Record.{specialsIn, transferOf, transferIn, loadIn, productsIn, countAt, countsOfWords, replayIn};
 use alu_effects::Specials;
 use bundle_model::Counts;
 use core_state::WaitingLoad;
@@ -13,6 +13,7 @@ use core_state::WaitingTransfer;
 use effects::Transfer;
 use products::Product;
 use products::Products;
+use replay::Replay;
 use sections::word_at;
 
 // The low eight bits of a word, the lowest first.
@@ -62,7 +63,10 @@ fn transfer_of(kind: u32, target: u32, base: u32) -> Transfer
     if kind == 1 {
         return Transfer::Call { target };
     }
-    Transfer::Block { target, base }
+    if kind == 2 {
+        return Transfer::Block { target, base };
+    }
+    Transfer::Xret { target, base }
 }
 
 pub fn transfer_in(part: &[u8]) -> WaitingTransfer
@@ -142,5 +146,16 @@ pub fn counts_in(part: &[u8]) -> Counts
         filled: count_at(part, 6),
         misses: count_at(part, 8),
         fetched: count_at(part, 10),
+    }
+}
+
+pub fn replay_in(part: &[u8]) -> Replay
+    ensures { λ r. ⌜ r ≡ replayIn (wordsIn (now (part .entry))) ⌝ }
+{
+    let active = word_at(part, 0);
+    Replay {
+        active: active == 1,
+        place: word_at(part, 1),
+        done: word_at(part, 2),
     }
 }

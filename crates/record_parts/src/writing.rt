@@ -1,7 +1,7 @@
-// The words of what waits, of what is under way and of the counts.
+// The words of what waits, of what is under way, of the counts and of the replay.
 ghost use mathlib.Core.Path.{_≡_};
 ghost use Rattle.core_state.specs.declared.WaitingTransfer.{WaitingTransfer};
-ghost use Rattle.record_model.specs.Record.{transferSection, loadSection, productSection, countSection, upper, lower};
+ghost use Rattle.record_model.specs.Record.{transferSection, loadSection, productSection, countSection, replaySection, upper, lower};
 ghost use Rattle.record_parts.specs.Few.{fewOf};
 use crate::Few;
 use bundle_model::Counts;
@@ -10,6 +10,7 @@ use core_state::WaitingTransfer;
 use effects::Transfer;
 use products::Product;
 use products::Products;
+use replay::Replay;
 use word::arithmetic::add;
 
 // A transfer that waits.
@@ -27,6 +28,10 @@ fn waiting_words(t: Transfer, wait: u32) -> Few
         },
         Transfer::Block { target, base } => Few {
             words: [2, wait, target, base, 0, 0],
+            count: 4,
+        },
+        Transfer::Xret { target, base } => Few {
+            words: [3, wait, target, base, 0, 0],
             count: 4,
         },
     }
@@ -115,4 +120,13 @@ pub fn count_words(c: Counts) -> [u32; 12]
         upper(c.fetched),
         lower(c.fetched),
     ]
+}
+
+pub fn replay_words(p: Replay) -> [u32; 3]
+    ensures { λ r. ⌜ r ≡ replaySection p ⌝ }
+{
+    if p.active {
+        return [1, p.place, p.done];
+    }
+    [0, p.place, p.done]
 }

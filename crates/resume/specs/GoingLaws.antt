@@ -12,12 +12,11 @@ use Rattle.stack_cache.specs.Stack.{isCacheSize}
 use Rattle.settings.specs.declared.Settings.{Settings}
 use Rattle.settings.specs.Settings.{admits}
 use Rattle.settings.specs.SettingsLaws.{size-ok}
-use Rattle.settings.specs.declared.Config.{Config}
-use Rattle.settings.specs.Setup.{Setup, buffers, setup, setupOf, settings}
-use Rattle.core_state.specs.State.{State, blank, ended as hasEnded}
-use Rattle.bundle_model.specs.declared.Readiness.{Readiness}
-use Rattle.bundle_model.specs.declared.Readiness.the-variants as ready
-use Rattle.bundle_model.specs.Bundle.{Outcome, wellFormed, readiness}
+use Rattle.settings.specs.Setup.{Setup, buffers, settings}
+use Rattle.method_cache.specs.MethodCache.{heldOk}
+use Rattle.replay.specs.Replay.{replayOk}
+use Rattle.core_state.specs.State.{State, withHeld, blank, partsOk}
+use Rattle.bundle_model.specs.Bundle.{Outcome, wellFormed}
 use Rattle.run_model.specs.Run.{run}
 use Rattle.sections.specs.Words.{over}
 use Rattle.bundle_model.specs.Counts.{noCounts}
@@ -26,22 +25,13 @@ use Rattle.record_model.specs.Record.{box, hasForm, readRecord, accepts, longes
 use Rattle.record.specs.Written.{longestOf, writtenOf, writing}
 use Rattle.record.specs.RoomLaws.{size-longest}
 use Rattle.resume_model.specs.Resume.{resumedOf, asFound, boxOf, handedOut, fromRecord, resumed}
+use Rattle.resume.specs.Resumed.{judgedBy}
 
--- Whether what is judged before bundles refuses.
-abbrev pub passes : Readiness → Bool
-passes ready.Ready = true
-passes ready.Ended = true
-passes (ready.Refused n) = false
-
-pub readiness-passes : (g : Settings) (x : Setup) (s : State) → passes (readiness g x s) ≡ admits g && wellFormed x s
-unfolding readiness
-readiness-passes g x s = go (admits g) (wellFormed x s) (hasEnded s (g .code))
-  where
-    go : (a w e : Bool) → passes (cond (not a) (ready.Refused 1) (cond (not w) (ready.Refused 11) (cond e ready.Ended ready.Ready))) ≡ a && w
-    go false w e = refl
-    go true false e = refl
-    go true true true = refl
-    go true true false = refl
+-- What is judged of a state, of what its parts, its blocks held and list and table were judged.
+pub judged-as : (x : Setup) (s : State) (h : List ℕ) (p q r : Bool) → p ≡ partsOk s → q ≡ heldOk (x .method) (x .code) h → r ≡ replayOk (x .list) (x .table)
+    → cond (not (p && q)) 14 (cond (not r) 15 0) ≡ judgedBy x (withHeld s h)
+unfolding judgedBy wellFormed partsOk
+judged-as x s h p q r pp pq pr = λ i. cond (not (pp i && pq i)) 14 (cond (not (pr i)) 15 0)
 
 module _ (x : Setup) (budget w : ℕ) (bytes main local out : List ℕ) where
   abbrev judged : Settings
@@ -61,12 +51,30 @@ module _ (x : Setup) (budget w : ℕ) (bytes main local out : List ℕ) where
     unfolding fromRecord accepts
     no-form e = rw (a, le-ltb (length out) (longest w) room, e)
 
-    pub ill-formed : hasForm w bytes ≡ true → wellFormed x (readRecord bytes .state) ≡ false → asFound 14 main local out ≡ resumed x budget w bytes main local out
-    unfolding fromRecord accepts
-    ill-formed f e = rw (a, le-ltb (length out) (longest w) room, f, e)
+    pub turned-by : (n : ℕ) → hasForm w bytes ≡ true → n ≡ judgedBy x (readRecord bytes .state) → (n ≡ 0 → ⊥) → asFound n main local out ≡ resumed x budget w bytes main local out
+    unfolding fromRecord accepts judgedBy
+    turned-by n f e some = rw (a, le-ltb (length out) (longest w) room, f) (go (wellFormed x (readRecord bytes .state)) (replayOk (x .list) (x .table)) e)
+      where
+        go : (y r : Bool) → n ≡ cond (not y) 14 (cond (not r) 15 0)
+            → asFound n main local out ≡ cond (not y) (asFound 14 main local out) (cond (not r) (asFound 15 main local out) (handedOut (run x budget (readRecord bytes .state) (buffers main local (readRecord bytes .cache))) out))
+        go false r h = ap (λ (k : ℕ). asFound k main local out) h
+        go true false h = ap (λ (k : ℕ). asFound k main local out) h
+        go true true h = absurd (some h)
+
+    passed : judgedBy x (readRecord bytes .state) ≡ 0 → (wellFormed x (readRecord bytes .state) ≡ true) × (replayOk (x .list) (x .table) ≡ true)
+    unfolding judgedBy
+    passed = go (wellFormed x (readRecord bytes .state)) (replayOk (x .list) (x .table))
+      where
+        number : Bool → Bool → ℕ
+        number y r = cond (not y) 14 (cond (not r) 15 0)
+
+        go : (y r : Bool) → number y r ≡ 0 → (y ≡ true) × (r ≡ true)
+        go false r h = absurd (omega (arith, h))
+        go true false h = absurd (omega (arith, h))
+        go true true h = (refl, refl)
 
     -- Gone on: the outcome of the run, and its record written.
-    pub gone-on : (o : Outcome) (n : ℕ) (after : List ℕ) → hasForm w bytes ≡ true → wellFormed x (readRecord bytes .state) ≡ true
+    pub gone-on : (o : Outcome) (n : ℕ) (after : List ℕ) → hasForm w bytes ≡ true → judgedBy x (readRecord bytes .state) ≡ 0
         → o ≡ run x budget (readRecord bytes .state) (buffers main local (readRecord bytes .cache)) → length (o .buffers .cache) ≡ w
         → writtenOf n after ≡ writing (boxOf o) out
         → resumedOf (o .answer) (o .counts) n (o .buffers .main) (o .buffers .local) after ≡ resumed x budget w bytes main local out
@@ -76,7 +84,7 @@ module _ (x : Setup) (budget w : ℕ) (bytes main local out : List ℕ) where
         let fits : leb (longest (length (o .buffers .cache))) (length out) ≡ true = ap (λ (k : ℕ). leb (longest k) (length out)) long ∙ le-leb (longest w) (length out) room in
         let whole : writtenOf n after ≡ writtenOf (length (recordOf (boxOf o))) (over out (recordOf (boxOf o))) = put ∙ rw (size, fits) refl in
         (λ i. resumedOf (o .answer) (o .counts) (whole i .length) (o .buffers .main) (o .buffers .local) (whole i .out))
-        ∙ rw (a, le-ltb (length out) (longest w) room, f, e) (ap (λ (y : Outcome). handedOut y out) ran)
+        ∙ rw (a, le-ltb (length out) (longest w) room, f, passed e .0, passed e .1) (ap (λ (y : Outcome). handedOut y out) ran)
 
 -- What the reader tells by whether there is the form of a record.
 pub read-refused : (bytes cache : List ℕ) (r : Reading) → r ≡ reading bytes cache → r .formed ≡ false → hasForm (length cache) bytes ≡ false
@@ -96,13 +104,6 @@ read-formed bytes cache r e f = go (hasForm (length cache) bytes) e (sym (ap (λ
         → (t ≡ true) × (r .box ≡ readRecord bytes)
     go true h g = (refl, ap (λ (y : Reading). y .box) h)
     go false h g = absurd (false≢true g)
-
--- Where 1 lets the settings pass, 11 alone decides.
-pub eleven-alone : (code : List ℕ) (config : Config) (main local w k : ℕ) (g : Settings) (s : State) (t : Bool) → t ≡ admits g && wellFormed (setupOf code g) s
-    → g ≡ settings (setup code config) main local k → k ≡ w → admits (settings (setup code config) main local w) ≡ true → t ≡ wellFormed (setup code config) s
-eleven-alone code config main local w k g s t e same n a =
-    let here : g ≡ settings (setup code config) main local w = same ∙ ap (settings (setup code config) main local) n in
-    e ∙ ap (λ (h : Settings). admits h && wellFormed (setupOf code h) s) here ∙ ap (λ (u : Bool). u && wellFormed (setup code config) s) a
 
 -- A part of so many words, from the beginning of more.
 pub part-long : (l : List ℕ) (w : ℕ) → w ≤ length l → length (take (w - 0) (drop 0 l)) ≡ w

@@ -1,28 +1,27 @@
 // Steps and runs from a record: the state goes in and out as bytes.
 ghost use mathlib.Core.Path.{_≡_};
-ghost use mathlib.Core.Bool.{true, _&&_};
+ghost use mathlib.Core.Bool.{true};
 ghost use mathlib.Core.List.{List};
 ghost use Prim.Native.Nat.{ℕ, _≤_};
 ghost use lib.ListN.{length};
 ghost use Rattle.settings.specs.Settings.{admits};
-ghost use Rattle.settings.specs.Setup.{setup, setupOf, settings};
-ghost use Rattle.bundle_model.specs.Bundle.{wellFormed};
+ghost use Rattle.settings.specs.Setup.{replaying, setup, settings};
 ghost use Rattle.state.specs.Whole.{stateOf};
 ghost use Rattle.run.specs.Ran.{returned as ran};
 ghost use Rattle.record_model.specs.Record.{longest};
 ghost use Rattle.resume_model.specs.Resume.{asFound, asStep, resumed, restepped};
-ghost use Rattle.resume.specs.Resumed.{returned, resumedWith};
+ghost use Rattle.resume.specs.Resumed.{returned, judgedBy, resumedWith};
 use bundle_model::Counts;
-use bundle_model::Readiness;
 use bundle_model::outcome::no_counts;
-use bundle_model::ready::readiness;
+use core_state::judged::parts_ok;
+use method_cache::lookup::held_ok;
 use record::reading::read_record;
 use record::writing::longest;
 use record::writing::write_record;
+use replay::replay_ok;
 use run::RunAnswer;
 use run::run;
 use settings::Config;
-use settings::Settings;
 use state::State;
 
 // What a step or a run from a record answers; Refused holds the documents' number.
@@ -60,18 +59,22 @@ fn reply_of(a: RunAnswer) -> Reply
     }
 }
 
-// Whether 1 and 11 let settings and state pass.
-fn may_go_on(state: State, code: &[u8], g: Settings) -> bool
-    ensures { λ r. ⌜ r ≡ admits g && wellFormed (setupOf (now (code .entry)) g) (stateOf state) ⌝ }
+// What is judged of a record that was read: the number by which it is turned away, or 0. A state that 11 describes is 14 here.
+fn judged(state: State, code: &[u8], list: &[u8], table: &[u8], config: Config) -> u32
+    ensures { λ r. ⌜ r ≡ judgedBy (replaying (now (list .entry)) (now (table .entry)) (setup (now (code .entry)) config)) (stateOf state) ⌝ }
 {
     let registers = state.registers;
     let predicates = state.predicates;
     let held = state.held;
-    match readiness(state.core(), &registers, &predicates, &held, code, g) {
-        Readiness::Refused(_) => false,
-        Readiness::Ended => true,
-        Readiness::Ready => true,
+    let method = config.method;
+    let parts = parts_ok(state.core(), &registers, &predicates);
+    if !(parts & held_ok(method, code, &held)) {
+        return 14;
     }
+    if !replay_ok(list, table) {
+        return 15;
+    }
+    0
 }
 
 // A run from a record where settings and room have been judged. The cache's words are those that are lent, and then those of the record.
@@ -81,25 +84,29 @@ fn go_on(
     main: &mut [u8],
     local: &mut [u8],
     out: &mut [u8],
+    list: &[u8],
+    table: &[u8],
     cache: &mut [u32],
     config: Config,
     budget: u32,
 ) -> Resumed
     requires { ⌜ (admits (settings (setup (now code) config) (length (now main)) (length (now local)) (length (now cache))) ≡ true) × (longest (length (now cache)) ≤ length (now out)) ⌝ }
-    ensures { λ r. ⌜ resumedWith r (now (main .exit)) (now (local .exit)) (now (out .exit)) ≡ resumed (setup (now (code .entry)) config) budget (length (now (cache .entry))) (now (bytes .entry)) (now (main .entry)) (now (local .entry)) (now (out .entry)) ⌝ }
+    ensures { λ r. ⌜ resumedWith r (now (main .exit)) (now (local .exit)) (now (out .exit)) ≡ resumed (replaying (now (list .entry)) (now (table .entry)) (setup (now (code .entry)) config)) budget (length (now (cache .entry))) (now (bytes .entry)) (now (main .entry)) (now (local .entry)) (now (out .entry)) ⌝ }
 {
     let read = read_record(bytes, &mut *cache);
     if !read.formed {
         return turned_away(14);
     }
     let start = read.state;
-    let g = config.settings(code, main.len(), local.len(), cache.len());
-    if !may_go_on(start, code, g) {
-        return turned_away(14);
+    let n = judged(start, code, list, table, config);
+    if n != 0 {
+        return turned_away(n);
     }
     let r = run(
         start,
         code,
+        list,
+        table,
         &mut *main,
         &mut *local,
         &mut *cache,
@@ -124,13 +131,15 @@ fn with_cache(
     main: &mut [u8],
     local: &mut [u8],
     out: &mut [u8],
+    list: &[u8],
+    table: &[u8],
     words: usize,
     config: Config,
     budget: u32,
     scratch: [u32; 512],
 ) -> Resumed
     requires { ⌜ (admits (settings (setup (now code) config) (length (now main)) (length (now local)) words) ≡ true) × (longest words ≤ length (now out)) ⌝ }
-    ensures { λ r. ⌜ resumedWith r (now (main .exit)) (now (local .exit)) (now (out .exit)) ≡ resumed (setup (now (code .entry)) config) budget words (now (bytes .entry)) (now (main .entry)) (now (local .entry)) (now (out .entry)) ⌝ }
+    ensures { λ r. ⌜ resumedWith r (now (main .exit)) (now (local .exit)) (now (out .exit)) ≡ resumed (replaying (now (list .entry)) (now (table .entry)) (setup (now (code .entry)) config)) budget words (now (bytes .entry)) (now (main .entry)) (now (local .entry)) (now (out .entry)) ⌝ }
 {
     let mut cache = scratch;
     go_on(
@@ -139,25 +148,29 @@ fn with_cache(
         &mut *main,
         &mut *local,
         &mut *out,
+        list,
+        table,
         &mut cache[0..words],
         config,
         budget,
     )
 }
 
-// A run with a budget from a record with so many cache words. 1, and then 14, leave every buffer as found; any other answer writes the record
-// of the state that is left over the beginning of out.
+// A run with a budget from a record with so many cache words. 1, then 14, then 15, leave every buffer as found; any other answer writes the
+// record of the state that is left over the beginning of out.
 pub fn resume(
     bytes: &[u8],
     code: &[u8],
     main: &mut [u8],
     local: &mut [u8],
     out: &mut [u8],
+    list: &[u8],
+    table: &[u8],
     words: usize,
     config: Config,
     budget: u32,
 ) -> Resumed
-    ensures { λ r. ⌜ resumedWith r (now (main .exit)) (now (local .exit)) (now (out .exit)) ≡ resumed (setup (now (code .entry)) config) budget words (now (bytes .entry)) (now (main .entry)) (now (local .entry)) (now (out .entry)) ⌝ }
+    ensures { λ r. ⌜ resumedWith r (now (main .exit)) (now (local .exit)) (now (out .exit)) ≡ resumed (replaying (now (list .entry)) (now (table .entry)) (setup (now (code .entry)) config)) budget words (now (bytes .entry)) (now (main .entry)) (now (local .entry)) (now (out .entry)) ⌝ }
 {
     let g = config.settings(code, main.len(), local.len(), words);
     if !g.admits() {
@@ -172,6 +185,8 @@ pub fn resume(
         &mut *main,
         &mut *local,
         &mut *out,
+        list,
+        table,
         words,
         config,
         budget,
@@ -196,10 +211,12 @@ pub fn restep(
     main: &mut [u8],
     local: &mut [u8],
     out: &mut [u8],
+    list: &[u8],
+    table: &[u8],
     words: usize,
     config: Config,
 ) -> Resumed
-    ensures { λ r. ⌜ resumedWith r (now (main .exit)) (now (local .exit)) (now (out .exit)) ≡ restepped (setup (now (code .entry)) config) words (now (bytes .entry)) (now (main .entry)) (now (local .entry)) (now (out .entry)) ⌝ }
+    ensures { λ r. ⌜ resumedWith r (now (main .exit)) (now (local .exit)) (now (out .exit)) ≡ restepped (replaying (now (list .entry)) (now (table .entry)) (setup (now (code .entry)) config)) words (now (bytes .entry)) (now (main .entry)) (now (local .entry)) (now (out .entry)) ⌝ }
 {
     let r = resume(
         bytes,
@@ -207,6 +224,8 @@ pub fn restep(
         &mut *main,
         &mut *local,
         &mut *out,
+        list,
+        table,
         words,
         config,
         1,

@@ -8,6 +8,7 @@ use Rattle.answers.specs.Answer.{Returned, done, refused}
 use Rattle.settings.specs.Setup.{Setup, Buffers, buffers, settings}
 use Rattle.settings.specs.Settings.{admits}
 use Rattle.sections.specs.Words.{over}
+use Rattle.replay.specs.Replay.{replayOk}
 use Rattle.core_state.specs.State.{State}
 use Rattle.bundle_model.specs.declared.Counts.{Counts}
 use Rattle.bundle_model.specs.Counts.{noCounts}
@@ -39,12 +40,14 @@ abbrev pub handedOut : Outcome → List ℕ → Resumed
 handedOut o out = resumedOf (o .answer) (o .counts) (length (recordOf (boxOf o))) (o .buffers .main) (o .buffers .local) (over out (recordOf (boxOf o)))
 
 -- What is done from a record of W cache words: 1, then 14, for an output buffer that is shorter than the longest record with that W or a record
--- that is not accepted; and else from the state and cache words that it is read as. Its counts are not continued.
+-- that is not accepted, then 15, which no more than these two writes a record; and else from the state and cache words that the record is read
+-- as. Its counts are not continued.
 unfoldable pub fromRecord : (State → Buffers → Outcome) → Setup → ℕ → List ℕ → List ℕ → List ℕ → List ℕ → Resumed
 fromRecord go x w bytes main local out =
     cond (not (admits (settings x (length main) (length local) w))) (asFound 1 main local out)
     (cond (ltb (length out) (longest w) || not (accepts x w bytes)) (asFound 14 main local out)
-    (let box = readRecord bytes in handedOut (go (box .state) (buffers main local (box .cache))) out))
+    (cond (not (replayOk (x .list) (x .table))) (asFound 15 main local out)
+    (let box = readRecord bytes in handedOut (go (box .state) (buffers main local (box .cache))) out)))
 
 -- One step, and a run with a budget.
 abbrev pub restepped : Setup → ℕ → List ℕ → List ℕ → List ℕ → List ℕ → Resumed

@@ -13,12 +13,13 @@ use Rattle.settings.specs.Settings.{admits}
 use Rattle.settings.specs.SettingsLaws.{capacity-ok}
 use Rattle.sections.specs.Words.{AreBytes}
 use Rattle.core_state.specs.State.{State, Shaped}
+use Rattle.replay.specs.Replay.{replayOk}
 use Rattle.bundle_model.specs.declared.Counts.{Counts}
 use Rattle.bundle_model.specs.declared.Readiness.{Readiness}
 use Rattle.bundle_model.specs.declared.Readiness.the-variants.{Ready, Ended, Refused}
 use Rattle.bundle_model.specs.Counts.{plus}
 use Rattle.bundle_model.specs.Bundle.{Outcome, counted, wellFormed, readiness, readyOr}
-use Rattle.bundle_model.specs.BundleLaws.{ready-admits, ready-well-formed}
+use Rattle.bundle_model.specs.BundleLaws.{ready-admits, ready-well-formed, ready-replay}
 use Rattle.step_laws.specs.StackKept.{lent-same}
 use Rattle.run_model.specs.Run.{run}
 use Rattle.run_model.specs.RunLaws.{run-shaped, run-well-formed}
@@ -31,16 +32,16 @@ use Rattle.resume_model.specs.Resume.{Resumed, asFound, boxOf, handedOut
 
 -- What goes on from the record of a box goes on from the box.
 pub from-box : (go : State → Buffers → Outcome) (x : Setup) (p : Box) (main local out : List ℕ) → InWords p → Shaped (p .state) → wellFormed x (p .state) ≡ true
-    → admits (settings x (length main) (length local) (length (p .cache))) ≡ true → longest (length (p .cache)) ≤ length out
+    → admits (settings x (length main) (length local) (length (p .cache))) ≡ true → longest (length (p .cache)) ≤ length out → replayOk (x .list) (x .table) ≡ true
     → fromRecord go x (length (p .cache)) (recordOf p) main local out ≡ handedOut (go (p .state) (buffers main local (p .cache))) out
 unfolding fromRecord
-from-box go x p main local out words shaped well admitted room =
+from-box go x p main local out words shaped well admitted room replayed =
     let g = settings x (length main) (length local) (length (p .cache)) in
     let capacity = capacity-ok g admitted in
-    rw (admitted, le-ltb (length out) (longest (length (p .cache))) room, record-accepted x p words shaped capacity well)
+    rw (admitted, le-ltb (length out) (longest (length (p .cache))) room, record-accepted x p words shaped capacity well, replayed)
     (ap (λ (q : Box). handedOut (go (q .state) (buffers main local (q .cache))) out) (record-read x p words shaped capacity well))
 
--- From the record of a run, whatever it answered, a run with a budget does what it does from the state and buffers that the first one left.
+-- From the record of a run, whatever it answered but 15, a run with a budget does what it does from the state and buffers that the first one left.
 module _ (x : Setup) (m n : ℕ) (s : State) (b : Buffers) (out : List ℕ) (shaped : Shaped s) (words : InWords (boxOf (run x m s b))) (room : longest (length (b .cache)) ≤ length out) where
   abbrev first : Outcome
   first = run x m s b
@@ -48,16 +49,16 @@ module _ (x : Setup) (m n : ℕ) (s : State) (b : Buffers) (out : List ℕ) (sha
   abbrev again : Resumed
   again = resumed x n (length (b .cache)) (recordOf (boxOf (run x m s b))) (run x m s b .buffers .main) (run x m s b .buffers .local) out
 
-  pub resume-goes-on : admits (lent x b) ≡ true → wellFormed x s ≡ true → again ≡ handedOut (run x n (first .state) (first .buffers)) out
-  resume-goes-on admitted well =
+  pub resume-goes-on : admits (lent x b) ≡ true → wellFormed x s ≡ true → replayOk (x .list) (x .table) ≡ true → again ≡ handedOut (run x n (first .state) (first .buffers)) out
+  resume-goes-on admitted well replayed =
       let kept = run-lengths x m s b in
       let w : length (first .buffers .cache) ≡ length (b .cache) = kept .cache in
       let same = ap admits (lent-same x b (first .buffers) kept) ∙ admitted in
       let fits : longest (length (first .buffers .cache)) ≤ length out = subst (λ (k : ℕ). longest k ≤ length out) (sym w) room in
       ap (λ (k : ℕ). resumed x n k (recordOf (boxOf first)) (first .buffers .main) (first .buffers .local) out) (sym w)
-      ∙ from-box (run x n) x (boxOf first) (first .buffers .main) (first .buffers .local) out words (run-shaped x m s b shaped) (run-well-formed x m s b well) same fits
+      ∙ from-box (run x n) x (boxOf first) (first .buffers .main) (first .buffers .local) out words (run-shaped x m s b shaped) (run-well-formed x m s b well) same fits replayed
 
--- A run that is spent went past 1 and 11.
+-- A run that is spent went past 1, 11 and 15.
 spent-ready : (x : Setup) (m : ℕ) (s : State) (b : Buffers) → run x m s b .answer ≡ spent → readiness (lent x b) x s ≡ Ready
 spent-ready x m s b e = go (readiness (lent x b) x s) refl (sym (ap (λ (o : Outcome). o .answer) (run-advanced x s b m)) ∙ e)
   where
@@ -83,7 +84,7 @@ handed-record o out = take-append-seam (recordOf (boxOf o)) (drop (length (recor
 handed-rest : (o : Outcome) (out : List ℕ) → drop (handedOut o out .written) (handedOut o out .out) ≡ drop (handedOut o out .written) out
 handed-rest o out = drop-append-seam (recordOf (boxOf o)) (drop (length (recordOf (boxOf o))) out)
 
--- For every state and every setting: that the first run was spent tells that 1 and 11 let them pass. Of the state is asked that it has 32
+-- For every state, setting, list and table: that the first run was spent tells that 1, 11 and 15 let them pass. Of the state is asked that it has 32
 -- registers and 8 predicates, and of what the first run left that its numbers are words, as all that a function is given or gives has it by
 -- its type.
 pub never-stopped : (x : Setup) (m n : ℕ) (s : State) (b : Buffers) (out : List ℕ) → Shaped s → InWords (boxOf (run x m s b)) → longest (length (b .cache)) ≤ length out
@@ -92,7 +93,7 @@ pub never-stopped : (x : Setup) (m n : ℕ) (s : State) (b : Buffers) (out : Lis
 never-stopped x m n s b out shaped words room e =
     let o = run x m s b in
     let ready = spent-ready x m s b e in
-    let next = resume-goes-on x m n s b out shaped words room (ready-admits (lent x b) x s ready) (ready-well-formed (lent x b) x s ready) in
+    let next = resume-goes-on x m n s b out shaped words room (ready-admits (lent x b) x s ready) (ready-well-formed (lent x b) x s ready) (ready-replay (lent x b) x s ready) in
     let rest = run x n (o .state) (o .buffers) in
     let split : run x (m + n) s b ≡ counted (o .counts) rest = run-split x m n s b ∙ ap (λ (a : Returned). ifSpent a (counted (o .counts) rest) o) e in
     subst (λ (r : Resumed). CarriedOn (run x (m + n) s b) (o .counts) out r) (sym next)
@@ -106,14 +107,17 @@ module _ (x : Setup) (m w : ℕ) (bytes main local out : List ℕ) where
 
   spent-handed : resumed x m w bytes main local out .answer ≡ spent → (accepts x w bytes ≡ true) × (resumed x m w bytes main local out ≡ handedOut there out)
   unfolding fromRecord
-  spent-handed = go (not (admits (settings x (length main) (length local) w))) (ltb (length out) (longest w)) (accepts x w bytes) refl
+  spent-handed = go (not (admits (settings x (length main) (length local) w))) (ltb (length out) (longest w)) (accepts x w bytes) (not (replayOk (x .list) (x .table))) refl
     where
-      go : (t u a : Bool) → accepts x w bytes ≡ a → cond t (asFound 1 main local out) (cond (u || not a) (asFound 14 main local out) (handedOut there out)) .answer ≡ spent
-          → (accepts x w bytes ≡ true) × (cond t (asFound 1 main local out) (cond (u || not a) (asFound 14 main local out) (handedOut there out)) ≡ handedOut there out)
-      go true u a f e = (cc, cc)
-      go false true a f e = (cc, cc)
-      go false false false f e = (cc, cc)
-      go false false true f e = (f, refl)
+      given : Bool → Bool → Bool → Bool → Resumed
+      given t u a r = cond t (asFound 1 main local out) (cond (u || not a) (asFound 14 main local out) (cond r (asFound 15 main local out) (handedOut there out)))
+
+      go : (t u a r : Bool) → accepts x w bytes ≡ a → given t u a r .answer ≡ spent → (accepts x w bytes ≡ true) × (given t u a r ≡ handedOut there out)
+      go true u a r f e = (cc, cc)
+      go false true a r f e = (cc, cc)
+      go false false false r f e = (cc, cc)
+      go false false true true f e = (cc, cc)
+      go false false true false f e = (f, refl)
 
   -- Two calls, the second with the record that stands where the first one's output begins: what one run from the first record with both
   -- budgets gives.

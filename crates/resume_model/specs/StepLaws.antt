@@ -9,13 +9,14 @@ use Rattle.answers.specs.Answer.{Returned, accepted, done, ended, spent, refuse
 use Rattle.settings.specs.Setup.{Setup, Buffers, buffers, settings, lent}
 use Rattle.settings.specs.Settings.{admits}
 use Rattle.core_state.specs.State.{State}
+use Rattle.replay.specs.Replay.{replayOk}
 use Rattle.bundle_model.specs.declared.Counts.{Counts}
 use Rattle.bundle_model.specs.declared.Readiness.{Readiness}
 use Rattle.bundle_model.specs.declared.Readiness.the-variants as ready
 use Rattle.bundle_model.specs.Counts.{noCounts, plus, plus-none}
-use Rattle.bundle_model.specs.Bundle.{Outcome, outcome, counted, readiness, readyOr, step}
-use Rattle.step_laws.specs.StepCases.{isDone, doneOutcome, step-cases}
-use Rattle.run_model.specs.Run.{ifDone, run}
+use Rattle.bundle_model.specs.Bundle.{Outcome, outcome, counted, ifDone, readiness, readyOr, step}
+use Rattle.step_laws.specs.StepCases.{isDone, attemptDone, step-cases}
+use Rattle.run_model.specs.Run.{run}
 use Rattle.record_model.specs.Record.{readRecord, accepts, longest}
 use Rattle.resume_model.specs.Resume.{Resumed, resumedOf, asFound, handedOut, fromRecord, asStep, resumed, restepped}
 
@@ -41,7 +42,7 @@ after-done x o d one = go (readiness (lent x (o .buffers)) x (o .state))
 
 step-run : (x : Setup) (s : State) (b : Buffers) → step x s b ≡ answered (run x 1 s b)
 unfolding run asStep
-step-run x s b = step-cases x s b (λ o. o ≡ answered (after x o)) same (λ g j. after-done x (doneOutcome (lent x b) x s b) refl refl)
+step-run x s b = step-cases x s b (λ o. o ≡ answered (after x o)) same (λ g j. after-done x (attemptDone (lent x b) x s b) refl refl)
   where
     same : (a : Returned) → isDone a ≡ false → outcome a s noCounts b ≡ answered (after x (outcome a s noCounts b))
     same done e = absurd (false≢true (sym e))
@@ -57,11 +58,14 @@ asStepped r = resumedOf (asStep (r .answer) (r .counts .bundles)) (r .counts) (r
 pub restep-resume : (x : Setup) (w : ℕ) (bytes main local out : List ℕ) → restepped x w bytes main local out ≡ asStepped (resumed x 1 w bytes main local out)
 unfolding fromRecord asStep
 restep-resume x w bytes main local out =
-    go (not (admits (settings x (length main) (length local) w))) (ltb (length out) (longest w) || not (accepts x w bytes))
+    go (not (admits (settings x (length main) (length local) w))) (ltb (length out) (longest w) || not (accepts x w bytes)) (not (replayOk (x .list) (x .table)))
   where
-    go : (t u : Bool)
-        → cond t (asFound 1 main local out) (cond u (asFound 14 main local out) (handedOut (step x (readRecord bytes .state) (buffers main local (readRecord bytes .cache))) out))
-        ≡ asStepped (cond t (asFound 1 main local out) (cond u (asFound 14 main local out) (handedOut (run x 1 (readRecord bytes .state) (buffers main local (readRecord bytes .cache))) out)))
-    go true u = refl
-    go false true = refl
-    go false false = ap (λ (o : Outcome). handedOut o out) (step-run x (readRecord bytes .state) (buffers main local (readRecord bytes .cache)))
+    given : Bool → Bool → Bool → Outcome → Resumed
+    given t u r o = cond t (asFound 1 main local out) (cond u (asFound 14 main local out) (cond r (asFound 15 main local out) (handedOut o out)))
+
+    go : (t u r : Bool) → given t u r (step x (readRecord bytes .state) (buffers main local (readRecord bytes .cache)))
+        ≡ asStepped (given t u r (run x 1 (readRecord bytes .state) (buffers main local (readRecord bytes .cache))))
+    go true u r = refl
+    go false true r = refl
+    go false false true = refl
+    go false false false = ap (λ (o : Outcome). handedOut o out) (step-run x (readRecord bytes .state) (buffers main local (readRecord bytes .cache)))

@@ -1,6 +1,6 @@
 // A run with a budget.
 ghost use mathlib.Core.Path.{_≡_};
-ghost use Rattle.settings.specs.Setup.{setup, found, left};
+ghost use Rattle.settings.specs.Setup.{replaying, setup, found, left};
 ghost use Rattle.method_cache.specs.Words.{FixedHeld};
 ghost use Rattle.core_state.specs.State.{Shaped};
 ghost use Rattle.state.specs.Whole.{stateOf};
@@ -50,13 +50,15 @@ fn at_end(a: Answer, ended: bool) -> RunAnswer
 pub fn run(
     start: State,
     code: &[u8],
+    list: &[u8],
+    table: &[u8],
     main: &mut [u8],
     local: &mut [u8],
     cache: &mut [u32],
     config: Config,
     budget: u32,
 ) -> Ran
-    ensures { λ r. ⌜ whole r (left main local cache) ≡ run (setup (now (code .entry)) config) budget (stateOf start) (found main local cache) ⌝ }
+    ensures { λ r. ⌜ whole r (left main local cache) ≡ run (replaying (now (list .entry)) (now (table .entry)) (setup (now (code .entry)) config)) budget (stateOf start) (found main local cache) ⌝ }
     ensures shaped { λ _. ⌜ Shaped (stateOf start) ⌝ }
     ensures fixed { λ r. ⌜ FixedHeld (r .state .held) ⌝ }
 {
@@ -71,6 +73,8 @@ pub fn run(
         &mut held,
         config,
         code,
+        list,
+        table,
         &mut *main,
         &mut *local,
         &mut *cache,

@@ -7,14 +7,14 @@ use Rattle.answers.specs.Answer.{done, ended, spent}
 use Rattle.settings.specs.Setup.{Setup, Buffers, lent}
 use Rattle.core_state.specs.State.{State, ended as hasEnded}
 use Rattle.bundle_model.specs.Counts.{noCounts}
-use Rattle.bundle_model.specs.Bundle.{Outcome, outcome, counted, bundle, readiness, readyOr}
-use Rattle.run_model.specs.Run.{ifDone}
+use Rattle.bundle_model.specs.Bundle.{Outcome, outcome, counted, attempt, readiness, readyOr}
+use Rattle.bundle_model.specs.Bundle.{ifDone}
 
 -- Up to k bundles from a state on, until one is refused or the state has ended; done where it is neither.
 unfoldable pub goesOn : Setup → ℕ → State → Buffers → Outcome
 goesOn x zero s b = outcome done s noCounts b
 goesOn x (suc k) s b =
-    let o = bundle (lent x b) x s b in
+    let o = attempt (lent x b) x s b in
     let rest = goesOn x k (o .state) (o .buffers) in
     cond (hasEnded s (length (x .code))) (outcome ended s noCounts b) (ifDone (o .answer) (counted (o .counts) rest) o)
 

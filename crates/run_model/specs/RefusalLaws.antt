@@ -1,4 +1,4 @@
--- The numbers that a run is refused with: where 1 lets the settings pass and 11 the state, those of a bundle alone.
+-- The numbers that steps and runs are refused with: never 10; and where 1 lets the settings pass and 11 the state, those behind them.
 use Prim.Native.Nat.{ℕ, zero, suc}
 use mathlib.Core.Bool.{Bool, true, false, false≢true, not, cond, _&&_, _||_}
 use mathlib.Core.List.{List, [], _∷_, _++_}
@@ -6,7 +6,7 @@ use mathlib.Core.Path.{_≡_, refl, ap, subst, _∙_}
 use lib.Dec.{eqb}
 use Rattle.word.specs.BoolLaws.{and-left, and-right}
 use Rattle.answers.specs.Answer.{Returned, accepted, done, ended, spent, refused}
-use Rattle.answers.specs.Test.{Test, verdict}
+use Rattle.answers.specs.Test.{Test, test, verdict}
 use Rattle.answers.specs.declared.Verdict.the-variants as verdict
 use Rattle.method_cache.specs.declared.Method.{Method}
 use Rattle.settings.specs.declared.Settings.{Settings}
@@ -15,17 +15,20 @@ use Rattle.settings.specs.Setup.{Setup, Buffers, lent}
 use Rattle.effects.specs.declared.Effect.{Effect}
 use Rattle.effects.specs.declared.Effect.the-variants as effect
 use Rattle.fetch.specs.Fetch.{fetchTests}
+use Rattle.replay.specs.Replay.{replayOk}
 use Rattle.core_state.specs.State.{State, ended as hasEnded}
 use Rattle.bundle_model.specs.declared.Readiness.{Readiness}
 use Rattle.bundle_model.specs.declared.Readiness.the-variants as ready
 use Rattle.bundle_model.specs.Counts.{noCounts}
 use Rattle.bundle_model.specs.Lookup.{lookups, lookupTests}
 use Rattle.bundle_model.specs.Refusal.{effectTests, slotTests, bundleTests}
-use Rattle.bundle_model.specs.Bundle.{outcome, counted, bundle, wellFormed, readiness, readyOr, step}
-use Rattle.step_laws.specs.StepCases.{effectAt, bundle-cases}
+use Rattle.bundle_model.specs.Interrupt.{due, handlerDue, entryLookups, entryTests, taken}
+use Rattle.bundle_model.specs.Bundle.{outcome, counted, attempt, wellFormed, readiness, readyOr, step}
+use Rattle.step_laws.specs.StepCases.{effectAt, attempt-cases}
 use Rattle.step_laws.specs.StackKept.{lent-same, step-lengths}
 use Rattle.step_laws.specs.WellLaws.{step-well-formed}
-use Rattle.run_model.specs.Run.{ifDone, run}
+use Rattle.run_model.specs.Run.{run}
+use Rattle.bundle_model.specs.Bundle.{ifDone}
 
 -- Whether a number is one of these; whether all tests have such numbers.
 abbrev pub among : List ℕ → ℕ → Bool
@@ -52,9 +55,9 @@ numbered-refused ns (t ∷ ts) n p e =
     go true f q h = let same : t .number ≡ n = cc in subst (λ (m : ℕ). among ns m ≡ true) same q
     go false f q h = h f
 
--- The numbers of a bundle, in the order in which they are judged.
+-- The numbers behind 1 and 11, in the order in which they are first judged.
 abbrev pub bundleNumbers : List ℕ
-bundleNumbers = 2 ∷ 3 ∷ 10 ∷ 4 ∷ 5 ∷ 7 ∷ 8 ∷ 6 ∷ 13 ∷ []
+bundleNumbers = 15 ∷ 17 ∷ 13 ∷ 2 ∷ 3 ∷ 16 ∷ 4 ∷ 5 ∷ 7 ∷ 8 ∷ 6 ∷ []
 
 effect-numbered : (g : Settings) (x : Setup) (s : State) (e : Effect) → numbered bundleNumbers (effectTests g x s e) ≡ true
 effect-numbered g x s (effect.Alu a) = refl
@@ -64,7 +67,7 @@ effect-numbered g x s (effect.Load k w r a) = refl
 effect-numbered g x s (effect.Store k w a v) = refl
 effect-numbered g x s (effect.Stack c n m) = refl
 effect-numbered g x s (effect.Transfer d t) = refl
-effect-numbered g x s effect.Exception = refl
+effect-numbered g x s (effect.Trap vector handler) = refl
 
 lookup-numbered : (c : Method) (code bs : List ℕ) → numbered bundleNumbers (lookupTests c code bs) ≡ true
 unfolding lookupTests
@@ -77,47 +80,95 @@ bundle-numbered g x s e =
     numbered-append bundleNumbers (fetchTests (x .code) (s .fetch)) (slotTests g x s e) refl
     (numbered-append bundleNumbers (effectTests g x s e) (lookupTests (x .method) (x .code) (lookups x e)) (effect-numbered g x s e) (lookup-numbered (x .method) (x .code) (lookups x e)))
 
-module _ (x : Setup) where
-  -- What is judged before a bundle refuses nothing then.
-  not-refused : (s : State) (g : Settings) (n : ℕ) → admits g ≡ true → wellFormed x s ≡ true → readiness g x s ≡ ready.Refused n → ⊥
-  unfolding readiness
-  not-refused s g n a w e = go (hasEnded s (g .code)) (rw (a, w) at e)
-    where
-      go : (t : Bool) → cond t ready.Ended ready.Ready ≡ ready.Refused n → ⊥
-      go true f = false≢true cc
-      go false f = false≢true cc
+entry-numbered : (x : Setup) (s : State) → numbered bundleNumbers (entryTests x s) ≡ true
+unfolding entryTests
+entry-numbered x s = go (due x s)
+  where
+    go : (t : Bool) → numbered bundleNumbers (cond t (test 17 (eqb (handlerDue x s) 0) ∷ lookupTests (x .method) (x .code) (entryLookups x s)) []) ≡ true
+    go true = lookup-numbered (x .method) (x .code) (entryLookups x s)
+    go false = refl
 
-  step-number : (s : State) (b : Buffers) (n : ℕ) → admits (lent x b) ≡ true → wellFormed x s ≡ true → step x s b .answer ≡ refused n → among bundleNumbers n ≡ true
+-- Numbers with which steps and runs refuse: those behind 1 and 11, and those with which something that lasts lets them be refused before.
+module _ (x : Setup) (ns : List ℕ) (wider : (n : ℕ) → among bundleNumbers n ≡ true → among ns n ≡ true)
+    (Holds : State → Buffers → Type 0) (lasts : (s : State) (b : Buffers) → Holds s b → Holds (step x s b .state) (step x s b .buffers))
+    (before : (s : State) (b : Buffers) (n : ℕ) → Holds s b → readiness (lent x b) x s ≡ ready.Refused n → among ns n ≡ true) where
+  step-among : (s : State) (b : Buffers) (n : ℕ) → Holds s b → step x s b .answer ≡ refused n → among ns n ≡ true
   unfolding step
-  step-number s b n a w e = go (readiness (lent x b) x s) refl e
+  step-among s b n h e = go (readiness (lent x b) x s) refl e
     where
-      go : (r : Readiness) → readiness (lent x b) x s ≡ r → readyOr r s b (bundle (lent x b) x s b) .answer ≡ refused n → among bundleNumbers n ≡ true
-      go ready.Ready f h = bundle-cases (lent x b) x s b (λ o. o .answer ≡ refused n → among bundleNumbers n ≡ true)
-          (λ m j q. let same : m ≡ n = cc in numbered-refused bundleNumbers (bundleTests (lent x b) x s (effectAt x s)) n (bundle-numbered (lent x b) x s (effectAt x s)) (j ∙ ap verdict.Refused same)) (λ j q. cc) h
-      go ready.Ended f h = cc
-      go (ready.Refused m) f h = absurd (not-refused s (lent x b) m a w f)
+      go : (r : Readiness) → readiness (lent x b) x s ≡ r → readyOr r s b (attempt (lent x b) x s b) .answer ≡ refused n → among ns n ≡ true
+      go ready.Ready f p = attempt-cases (lent x b) x s b (λ o. o .answer ≡ refused n → among ns n ≡ true)
+          (λ m j q. let same : m ≡ n = cc in wider n (numbered-refused bundleNumbers (entryTests x s ++ bundleTests (lent x b) x (taken x s) (effectAt x (taken x s))) n
+          (numbered-append bundleNumbers (entryTests x s) _ (entry-numbered x s) (bundle-numbered (lent x b) x (taken x s) (effectAt x (taken x s)))) (j ∙ ap verdict.Refused same))) (λ j q. cc) p
+      go ready.Ended f p = cc
+      go (ready.Refused m) f p = let same : m ≡ n = cc in before s b n h (f ∙ ap ready.Refused same)
 
-  pub run-number : (k : ℕ) (s : State) (b : Buffers) (n : ℕ) → admits (lent x b) ≡ true → wellFormed x s ≡ true → run x k s b .answer ≡ refused n → among bundleNumbers n ≡ true
+  run-among : (k : ℕ) (s : State) (b : Buffers) (n : ℕ) → Holds s b → run x k s b .answer ≡ refused n → among ns n ≡ true
   unfolding run
-  run-number zero s b n a w e = go (readiness (lent x b) x s) refl e
+  run-among zero s b n h e = go (readiness (lent x b) x s) refl e
     where
-      go : (r : Readiness) → readiness (lent x b) x s ≡ r → readyOr r s b (outcome spent s noCounts b) .answer ≡ refused n → among bundleNumbers n ≡ true
-      go ready.Ready f h = cc
-      go ready.Ended f h = cc
-      go (ready.Refused m) f h = absurd (not-refused s (lent x b) m a w f)
-  run-number (suc k) s b n a w e =
-      let o = step x s b in
-      let same = ap admits (lent-same x b (o .buffers) (step-lengths x s b)) ∙ a in
-      go (o .answer) refl e (run-number k (o .state) (o .buffers) n same (step-well-formed x s b w))
+      go : (r : Readiness) → readiness (lent x b) x s ≡ r → readyOr r s b (outcome spent s noCounts b) .answer ≡ refused n → among ns n ≡ true
+      go ready.Ready f p = cc
+      go ready.Ended f p = cc
+      go (ready.Refused m) f p = let same : m ≡ n = cc in before s b n h (f ∙ ap ready.Refused same)
+  run-among (suc k) s b n h e = go (step x s b .answer) refl e (run-among k (step x s b .state) (step x s b .buffers) n (lasts s b h))
     where
       go : (t : Returned) → step x s b .answer ≡ t
           → ifDone t (counted (step x s b .counts) (run x k (step x s b .state) (step x s b .buffers))) (step x s b) .answer ≡ refused n
-          → (run x k (step x s b .state) (step x s b .buffers) .answer ≡ refused n → among bundleNumbers n ≡ true) → among bundleNumbers n ≡ true
-      go done f h rest = rest h
-      go accepted f h rest = step-number s b n a w h
-      go ended f h rest = step-number s b n a w h
-      go spent f h rest = step-number s b n a w h
-      go (refused m) f h rest = step-number s b n a w h
+          → (run x k (step x s b .state) (step x s b .buffers) .answer ≡ refused n → among ns n ≡ true) → among ns n ≡ true
+      go done f p rest = rest p
+      go accepted f p rest = step-among s b n h p
+      go ended f p rest = step-among s b n h p
+      go spent f p rest = step-among s b n h p
+      go (refused m) f p rest = step-among s b n h p
+
+module _ (x : Setup) where
+  -- What is judged before a bundle has one of three numbers, and where 1 and 11 let pass it is 15.
+  before-number : (g : Settings) (s : State) (n : ℕ) → readiness g x s ≡ ready.Refused n → among (1 ∷ 11 ∷ bundleNumbers) n ≡ true
+  unfolding readiness
+  before-number g s n = go (admits g) (wellFormed x s) (replayOk (x .list) (x .table)) (hasEnded s (g .code))
+    where
+      go : (u y w z : Bool) → cond (not u) (ready.Refused 1) (cond (not y) (ready.Refused 11) (cond (not w) (ready.Refused 15) (cond z ready.Ended ready.Ready))) ≡ ready.Refused n
+          → among (1 ∷ 11 ∷ bundleNumbers) n ≡ true
+      go false y w z e = let same : 1 ≡ n = cc in subst (λ (m : ℕ). among (1 ∷ 11 ∷ bundleNumbers) m ≡ true) same refl
+      go true false w z e = let same : 11 ≡ n = cc in subst (λ (m : ℕ). among (1 ∷ 11 ∷ bundleNumbers) m ≡ true) same refl
+      go true true false z e = let same : 15 ≡ n = cc in subst (λ (m : ℕ). among (1 ∷ 11 ∷ bundleNumbers) m ≡ true) same refl
+      go true true true true e = cc
+      go true true true false e = cc
+
+  ready-number : (g : Settings) (s : State) (n : ℕ) → admits g ≡ true → wellFormed x s ≡ true → readiness g x s ≡ ready.Refused n → among bundleNumbers n ≡ true
+  unfolding readiness
+  ready-number g s n a w e = go (replayOk (x .list) (x .table)) (hasEnded s (g .code)) (rw (a, w) at e)
+    where
+      go : (w z : Bool) → cond (not w) (ready.Refused 15) (cond z ready.Ended ready.Ready) ≡ ready.Refused n → among bundleNumbers n ≡ true
+      go false z f = let same : 15 ≡ n = cc in subst (λ (m : ℕ). among bundleNumbers m ≡ true) same refl
+      go true true f = cc
+      go true false f = cc
+
+  -- From settings that 1 lets pass and a state that 11 lets pass a run is refused with another number.
+  abbrev Let : State → Buffers → Type 0
+  Let s b = (admits (lent x b) ≡ true) × (wellFormed x s ≡ true)
+
+  pub run-number : (k : ℕ) (s : State) (b : Buffers) (n : ℕ) → admits (lent x b) ≡ true → wellFormed x s ≡ true → run x k s b .answer ≡ refused n → among bundleNumbers n ≡ true
+  run-number k s b n a w =
+      run-among x bundleNumbers (λ m p. p) Let
+      (λ t d h. (ap admits (lent-same x d (step x t d .buffers) (step-lengths x t d)) ∙ h .0, step-well-formed x t d (h .1)))
+      (λ t d m h. ready-number (lent x d) t m (h .0) (h .1)) k s b n (a, w)
+
+  -- No step and no run is refused with 10, whatever is handed in.
+  more : (n : ℕ) → among bundleNumbers n ≡ true → among (1 ∷ 11 ∷ bundleNumbers) n ≡ true
+  more n p = go (eqb n 1) (eqb n 11) (among bundleNumbers n) p
+    where
+      go : (t u v : Bool) → v ≡ true → (t || (u || v)) ≡ true
+      go true u v e = refl
+      go false true v e = refl
+      go false false v e = e
+
+  pub step-never-ten : (s : State) (b : Buffers) → step x s b .answer ≡ refused 10 → ⊥
+  step-never-ten s b e = false≢true (step-among x (1 ∷ 11 ∷ bundleNumbers) more (λ t d. Unit {0}) (λ t d h. tt) (λ t d m h. before-number (lent x d) t m) s b 10 tt e)
+
+  pub run-never-ten : (k : ℕ) (s : State) (b : Buffers) → run x k s b .answer ≡ refused 10 → ⊥
+  run-never-ten k s b e = false≢true (run-among x (1 ∷ 11 ∷ bundleNumbers) more (λ t d. Unit {0}) (λ t d h. tt) (λ t d m h. before-number (lent x d) t m) k s b 10 tt e)
 
   -- A state that 11 describes is refused by every step and run, with 1 or 11, and all stays as found.
   unready : (s : State) (g : Settings) → wellFormed x s ≡ false → readiness g x s ≡ ready.Refused (cond (admits g) 11 1)

@@ -1,26 +1,19 @@
 -- A run with a budget: the bundle repeated, and beside it the list of the bundles that it tries.
 use Prim.Native.Nat.{ℕ, zero, suc, _+_}
 use mathlib.Core.List.{List, [], _∷_, _++_}
-use Rattle.answers.specs.Answer.{Returned, accepted, done, ended, spent, refused}
+use Rattle.answers.specs.Answer.{Returned, spent}
 use Rattle.core_state.specs.State.{State}
 use Rattle.bundle_model.specs.declared.Counts.{Counts}
 use Rattle.bundle_model.specs.declared.Readiness.{Readiness}
 use Rattle.bundle_model.specs.declared.Readiness.the-variants.{Ready, Ended, Refused}
-use Rattle.bundle_model.specs.Bundle.{Outcome, outcome, counted, readiness, readyOr, step}
+use Rattle.bundle_model.specs.Interrupt.{entryLookups, taken}
+use Rattle.bundle_model.specs.Bundle.{Outcome, outcome, counted, ifDone, readiness, readyOr, step}
 use Rattle.settings.specs.Setup.{Buffers, lent, Setup}
 use Rattle.bundle_model.specs.Lookup.{lookups}
 use Rattle.step_laws.specs.StepCases.{effectAt}
 use Rattle.bundle_model.specs.Counts.{noCounts, plus}
 
--- By cases: a bundle done, and every other answer.
-abbrev pub ifDone : {A : Type 0} → Returned → A → A → A
-ifDone done a other = a
-ifDone accepted a other = other
-ifDone ended a other = other
-ifDone spent a other = other
-ifDone (refused n) a other = other
-
--- A run with no budget left: 1, 11, ended, spent.
+-- A run with no budget left: 1, 11, 15, ended, spent.
 abbrev pub stopped : Setup → State → Buffers → Outcome
 stopped x s b = readyOr (readiness (lent x b) x s) s b (outcome spent s noCounts b)
 
@@ -32,7 +25,7 @@ run x (suc k) s b =
     let rest = run x k (o .state) (o .buffers) in
     ifDone (o .answer) (counted (o .counts) rest) o
 
--- A tried bundle: its fetch address, whether it was done or refused and with which number, the counts so far, and the state and
+-- A tried bundle: its fetch address, which is the handler's where a record is taken with it, whether it was done or refused and with which number, the counts so far, and the state and
 -- the buffers after it.
 pub record Tried : Type 0 where
   pub fetch : ℕ
@@ -56,7 +49,7 @@ unfoldable pub tries : Setup → ℕ → State → Buffers → Counts → List T
 tries x zero s b before = []
 tries x (suc k) s b before =
     let o = step x s b in
-    let t = triedAt (s .fetch) before o in
+    let t = triedAt (taken x s .fetch) before o in
     let rest = tries x k (o .state) (o .buffers) (t .counts) in
     whenReady (readiness (lent x b) x s) (t ∷ ifDone (o .answer) rest [])
 
@@ -72,9 +65,12 @@ unfoldable pub doneIn : List Tried → ℕ
 doneIn [] = 0
 doneIn (t ∷ rest) = ifDone (t .answer) 1 0 + doneIn rest
 
--- The bases that a run looks up in the method cache, in order: those of the bundles that it does.
+-- The bases that a run looks up in the method cache, in order: those of the bundles that it does, of each first that of a record taken.
+abbrev pub bundleLookups : Setup → State → List ℕ
+bundleLookups x s = entryLookups x s ++ lookups x (effectAt x (taken x s))
+
 unfoldable pub basesLooked : Setup → ℕ → State → Buffers → List ℕ
 basesLooked x zero s b = []
 basesLooked x (suc k) s b =
     let o = step x s b in
-    ifDone (o .answer) (lookups x (effectAt x s) ++ basesLooked x k (o .state) (o .buffers)) []
+    ifDone (o .answer) (bundleLookups x s ++ basesLooked x k (o .state) (o .buffers)) []

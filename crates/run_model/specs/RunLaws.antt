@@ -12,7 +12,8 @@ use Rattle.bundle_model.specs.Counts.{noCounts, plus, none-plus, plus-plus}
 use Rattle.bundle_model.specs.Bundle.{Outcome, outcome, counted, wellFormed, readiness, readyOr, step}
 use Rattle.step_laws.specs.KeptLaws.{step-shaped}
 use Rattle.step_laws.specs.WellLaws.{step-well-formed}
-use Rattle.run_model.specs.Run.{ifDone, run}
+use Rattle.run_model.specs.Run.{run}
+use Rattle.bundle_model.specs.Bundle.{ifDone}
 
 pub counted-counted : (c d : Counts) (o : Outcome) → counted (plus c d) o ≡ counted c (counted d o)
 counted-counted c d o = ap (λ (x : Counts). outcome (o .answer) (o .state) x (o .buffers)) (plus-plus c d (o .counts))

@@ -11,10 +11,11 @@ use Rattle.bundle_model.specs.declared.Counts.{Counts}
 use Rattle.bundle_model.specs.declared.Readiness.{Readiness}
 use Rattle.bundle_model.specs.declared.Readiness.the-variants as ready
 use Rattle.bundle_model.specs.Counts.{noCounts}
-use Rattle.bundle_model.specs.Bundle.{Outcome, outcome, counted, bundle, readiness, readyOr, step}
-use Rattle.step_laws.specs.StepCases.{bundle-cases}
+use Rattle.bundle_model.specs.Bundle.{Outcome, outcome, counted, attempt, readiness, readyOr, step}
+use Rattle.step_laws.specs.StepCases.{attempt-cases}
 use Rattle.step_laws.specs.StackKept.{SameLengths, lengths-same, step-lengths}
-use Rattle.run_model.specs.Run.{ifDone, run}
+use Rattle.run_model.specs.Run.{run}
+use Rattle.bundle_model.specs.Bundle.{ifDone}
 use Rattle.run_model.specs.RunLaws.{counted-counted, counted-none}
 use Rattle.run_model.specs.Loop.{goesOn, ending}
 use Rattle.run_model.specs.LoopLaws.{run-advanced}
@@ -46,8 +47,8 @@ step-not-spent : (x : Setup) (s : State) (b : Buffers) → isSpent (step x s b .
 unfolding step
 step-not-spent x s b = go (readiness (lent x b) x s)
   where
-    go : (r : Readiness) → isSpent (readyOr r s b (bundle (lent x b) x s b) .answer) ≡ false
-    go ready.Ready = bundle-cases (lent x b) x s b (λ o. isSpent (o .answer) ≡ false) (λ n j. refl) (λ j. refl)
+    go : (r : Readiness) → isSpent (readyOr r s b (attempt (lent x b) x s b) .answer) ≡ false
+    go ready.Ready = attempt-cases (lent x b) x s b (λ o. isSpent (o .answer) ≡ false) (λ n j. refl) (λ j. refl)
     go ready.Ended = refl
     go (ready.Refused n) = refl
 

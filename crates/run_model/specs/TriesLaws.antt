@@ -9,11 +9,13 @@ use Rattle.core_state.specs.State.{State}
 use Rattle.bundle_model.specs.declared.Counts.{Counts}
 use Rattle.bundle_model.specs.declared.Readiness.{Readiness}
 use Rattle.bundle_model.specs.declared.Readiness.the-variants.{Ready, Ended, Refused}
-use Rattle.bundle_model.specs.Bundle.{Outcome, outcome, counted, bundle, readiness, readyOr, step}
-use Rattle.step_laws.specs.StepCases.{isDone, bundle-cases, step-cases}
-use Rattle.run_model.specs.Run.{ifDone, run, Tried, triedAt, whenReady, tries, endOf, doneIn}
+use Rattle.bundle_model.specs.Bundle.{Outcome, outcome, counted, attempt, readiness, readyOr, step}
+use Rattle.step_laws.specs.StepCases.{isDone, attempt-cases, step-cases}
+use Rattle.run_model.specs.Run.{run, Tried, triedAt, whenReady, tries, endOf, doneIn}
+use Rattle.bundle_model.specs.Bundle.{ifDone}
 use Rattle.run_model.specs.RunLaws.{counted-counted, counted-none}
 use Rattle.settings.specs.Setup.{Buffers, lent, Setup}
+use Rattle.bundle_model.specs.Interrupt.{taken}
 use Rattle.bundle_model.specs.Counts.{noCounts, plus}
 
 -- How many bundles a step counts: 1 where it is done.
@@ -29,9 +31,9 @@ step-one x s b = step-cases x s b (λ o. o .counts .bundles ≡ ifDone (o .answe
 
 -- What a step gives where no bundle is tried.
 step-readiness : (x : Setup) (s : State) (b : Buffers) (r : Readiness) → readiness (lent x b) x s ≡ r
-    → step x s b ≡ readyOr r s b (bundle (lent x b) x s b)
+    → step x s b ≡ readyOr r s b (attempt (lent x b) x s b)
 unfolding step
-step-readiness x s b r e = ap (λ (y : Readiness). readyOr y s b (bundle (lent x b) x s b)) e
+step-readiness x s b r e = ap (λ (y : Readiness). readyOr y s b (attempt (lent x b) x s b)) e
 
 -- A step never answers spent.
 step-spent : (x : Setup) (s : State) (b : Buffers) → step x s b .answer ≡ spent → (i k : ℕ) → i ≡ k
@@ -39,7 +41,7 @@ step-spent x s b e = go (readiness (lent x b) x s) refl
   where
     go : (r : Readiness) → readiness (lent x b) x s ≡ r → (i k : ℕ) → i ≡ k
     go Ready p =
-        bundle-cases (lent x b) x s b (λ o. o .answer ≡ spent → (i k : ℕ) → i ≡ k) (λ n j q i k. cc) (λ j q i k. cc)
+        attempt-cases (lent x b) x s b (λ o. o .answer ≡ spent → (i k : ℕ) → i ≡ k) (λ n j q i k. cc) (λ j q i k. cc)
         (ap (λ (o : Outcome). o .answer) (sym (step-readiness x s b Ready p)) ∙ e)
     go Ended p = λ i k. let q : ended ≡ spent = ap (λ (o : Outcome). o .answer) (sym (step-readiness x s b Ended p)) ∙ e in cc
     go (Refused n) p = λ i k. let q : refused n ≡ spent = ap (λ (o : Outcome). o .answer) (sym (step-readiness x s b (Refused n) p)) ∙ e in cc
@@ -50,7 +52,7 @@ module _ (x : Setup) (s : State) (b : Buffers) (before : Counts) where
   going rest o = counted before (ifDone (o .answer) (counted (o .counts) (rest (o .state) (o .buffers))) o)
 
   abbrev listed : (State → Buffers → Counts → List Tried) → Readiness → Outcome → List Tried
-  listed rest r o = whenReady r (triedAt (s .fetch) before o ∷ ifDone (o .answer) (rest (o .state) (o .buffers) (plus before (o .counts))) [])
+  listed rest r o = whenReady r (triedAt (taken x s .fetch) before o ∷ ifDone (o .answer) (rest (o .state) (o .buffers) (plus before (o .counts))) [])
 
   by-answer : (rest : State → Buffers → Outcome) (list : State → Buffers → Counts → List Tried)
       → ((s′ : State) (b′ : Buffers) (c : Counts) → counted c (rest s′ b′) ≡ endOf x s′ b′ c (list s′ b′ c))

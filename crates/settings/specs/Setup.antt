@@ -1,7 +1,7 @@
 -- What is handed to a run: what stays the same during it, and what is lent for writing.
 use Prim.Native.Nat.{ℕ, _+_}
 use mathlib.Core.Bool.{Bool, _&&_}
-use mathlib.Core.List.{List}
+use mathlib.Core.List.{List, []}
 use denote.Ref.{RefT, now}
 use denote.Triple.Both.{Both}
 use lib.Dec.{leb, ltb}
@@ -10,16 +10,23 @@ use Rattle.method_cache.specs.declared.Method.{Method}
 use Rattle.settings.specs.declared.Config.{Config}
 use Rattle.settings.specs.declared.Settings.{Settings}
 
--- What stays the same: the code, the stack area, which is main memory from lo to hi, and the method cache's capacity.
+-- What stays the same: the code, the replay's list and table, the stack area, which is main memory from lo to hi, and the method cache's
+-- capacity.
 pub record Setup : Type 0 where
   pub code : List ℕ
+  pub list : List ℕ
+  pub table : List ℕ
   pub lo : ℕ
   pub hi : ℕ
   pub method : Method
 
--- The setup of the code lent and the numbers handed over beside it.
+-- The setup of the code lent and the numbers handed over beside it, where nothing is replayed.
 abbrev pub setup : List ℕ → Config → Setup
-setup code c = record { code = code; lo = c .lo; hi = c .hi; method = c .method }
+setup code c = record { code = code; list = []; table = []; lo = c .lo; hi = c .hi; method = c .method }
+
+-- The setup with what is replayed: a list of interrupts and a table of handlers.
+abbrev pub replaying : List ℕ → List ℕ → Setup → Setup
+replaying list table x = record { code = x .code; list = list; table = table; lo = x .lo; hi = x .hi; method = x .method }
 
 -- What is lent for writing: main memory, local memory, and the words of the stack cache.
 pub record Buffers : Type 0 where
@@ -47,9 +54,9 @@ settings x main local words = record { code = length (x .code); main = main; loc
 abbrev pub lent : Setup → Buffers → Settings
 lent x b = settings x (length (b .main)) (length (b .local)) (length (b .cache))
 
--- The setup of settings and code.
+-- The setup of settings and code, where nothing is replayed.
 abbrev pub setupOf : List ℕ → Settings → Setup
-setupOf code g = record { code = code; lo = g .lo; hi = g .hi; method = g .method }
+setupOf code g = record { code = code; list = []; table = []; lo = g .lo; hi = g .hi; method = g .method }
 
 -- The bytes of main memory that belong to the stack.
 unfoldable pub isStackByte : Setup → ℕ → Bool

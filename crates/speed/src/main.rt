@@ -15,13 +15,15 @@ use text::Number;
 use text::fields::same;
 use text::numbers::decimal;
 
-// What is handed in beside the workload's name, and what belongs to the workload: its entry and its method cache.
+// What is handed in beside the workload's name, and what belongs to the workload: its entry, its method cache, and how many interrupts are
+// replayed.
 pub struct Setting {
     pub budget: u32,
     pub main: u32,
     pub words: u32,
     pub entry: u32,
     pub method: Method,
+    pub records: u32,
 }
 
 fn put_code(code: &mut [u8], words: &[u32]) {
@@ -30,6 +32,23 @@ fn put_code(code: &mut [u8], words: &[u32]) {
     while i < words.len() {
         big_endian::write_word(&mut *code, at, words[i]);
         at = std::num::wrapping_add_u32(at, 4);
+        i += 1;
+    }
+}
+
+// Room for 131,072 interrupts.
+pub type List = [u8; 1048576];
+
+// The interrupts, one every hundred bundles, of the mat and of the photo cell in turn.
+fn put_list(list: &mut List, records: u32) {
+    let mut number: u32 = 0;
+    let mut at: u32 = 0;
+    let mut i: u32 = 0;
+    while i < records {
+        number = std::num::wrapping_add_u32(number, 100);
+        big_endian::write_word(&mut *list, at, number);
+        big_endian::write_word(&mut *list, std::num::wrapping_add_u32(at, 4), 1 + i % 2);
+        at = std::num::wrapping_add_u32(at, 8);
         i += 1;
     }
 }
@@ -97,6 +116,8 @@ fn run_workload(
     s: Setting,
     words: &[u32],
     code: &mut [u8],
+    list: &[u8],
+    table: &[u8],
     main: &mut [u8],
     local: &mut [u8],
     cache: &mut [u32],
@@ -118,6 +139,8 @@ fn run_workload(
             let r = run::run(
                 state,
                 &*code,
+                list,
+                table,
                 &mut *main,
                 &mut *local,
                 &mut *cache,
@@ -134,6 +157,8 @@ fn cut(
     s: Setting,
     words: &[u32],
     code: &mut [u8],
+    list: &[u8],
+    table: &[u8],
     main: &mut [u8],
     local: &mut [u8],
     cache: &mut [u32],
@@ -145,6 +170,8 @@ fn cut(
         s,
         words,
         &mut code[..n],
+        list,
+        table,
         &mut main[..m],
         &mut *local,
         &mut cache[..w],
@@ -152,13 +179,34 @@ fn cut(
 }
 
 // Main memory and cache have one place more than the greatest that is accepted, so that settings beyond the limits are refused.
-fn measure(name: &[u8], words: &[u32], s: Setting) {
+fn measure_on(name: &[u8], words: &[u32], s: Setting, list: &[u8]) {
     let mut code = [0u8; 256];
     let mut main = [0u8; 65537];
     let mut local = [0u8; 1024];
     let mut cache = [0u32; 513];
     io::write_all(STDOUT_FILENO, name);
-    cut(s, words, &mut code, &mut main, &mut local, &mut cache);
+    cut(
+        s,
+        words,
+        &mut code,
+        list,
+        &workload::TABLE,
+        &mut main,
+        &mut local,
+        &mut cache,
+    );
+}
+
+fn cut_list(name: &[u8], words: &[u32], s: Setting, list: &List) {
+    let r = least(s.records as usize * 8, 1048576);
+    let all = &list[..];
+    measure_on(name, words, s, &all[0..r]);
+}
+
+fn measure(name: &[u8], words: &[u32], s: Setting) {
+    let mut list = [0u8; 1048576];
+    put_list(&mut list, s.records);
+    cut_list(name, words, s, &list);
 }
 
 // A word of the command line as a number, 0 where it is none.
@@ -188,6 +236,20 @@ fn with_method(s: Setting) -> Setting {
             blocks: 4,
             bytes: 96,
         },
+        records: 0,
+    }
+}
+
+// The same with an interrupt every hundred bundles.
+fn with_interrupts(s: Setting) -> Setting {
+    let method = s.method;
+    Setting {
+        budget: s.budget,
+        main: s.main,
+        words: s.words,
+        entry: s.entry,
+        method,
+        records: 131072,
     }
 }
 
@@ -208,13 +270,16 @@ fn measure_wanted(asked: &[u8], s: Setting) {
     if wanted(asked, b"methods") {
         measure(b"methods", &workload::METHODS, with_method(s));
     }
+    if wanted(asked, b"interrupts") {
+        measure(b"interrupts", &workload::INTERRUPTS, with_interrupts(s));
+    }
 }
 
 fn main() {
     if os::arg_count() != 5 {
         io::write_all(
             STDERR_FILENO,
-            b"usage: speed loop|calls|memory|products|methods|all BUDGET MAINLEN W\n",
+            b"usage: speed loop|calls|memory|products|methods|interrupts|all BUDGET MAINLEN W\n",
         );
         return;
     }
@@ -228,6 +293,7 @@ fn main() {
             blocks: 0,
             bytes: 0,
         },
+        records: 0,
     };
     let mut asked = io::buffer();
     let n = os::arg(1, &mut asked);

@@ -17,7 +17,7 @@ use Rattle.state.specs.declared.State as struct
 use Rattle.state.specs.declared.Stepped as struct-step
 
 unfoldable pub stateOf : struct.State → State
-stateOf s = state (s .registers) (s .predicates) (s .specials) (s .fetch) (s .base) (s .transfer) (s .load) (further (s .products) (heldIn (s .held)))
+stateOf s = state (s .registers) (s .predicates) (s .specials) (s .fetch) (s .base) (s .transfer) (s .load) (further (s .products) (heldIn (s .held)) (s .replay))
 
 -- The core of a struct State, which is canonical and makes its state; and any canonical core that makes this state is the same.
 abbrev pub coreOf : struct.State → Core
@@ -29,6 +29,7 @@ coreOf s =
       transfer = transferWords (s .transfer);
       load = loadWords (s .load);
       products = product.productWords (s .products);
+      replay = s .replay;
     }
 
 pub core-canonical : (s : struct.State) → Canonical (coreOf s)
@@ -36,7 +37,7 @@ core-canonical s = record { transfer = words-fixed (s .transfer); load = load-fi
 
 pub core-joined : (s : struct.State) → withHeld (joined (s .registers) (s .predicates) (coreOf s)) (heldIn (s .held)) ≡ stateOf s
 unfolding stateOf
-core-joined s = λ i. state (s .registers) (s .predicates) (s .specials) (s .fetch) (s .base) (transfer-back (s .transfer) i) (load-back (s .load) i) (further (product.products-back (s .products) i) (heldIn (s .held)))
+core-joined s = λ i. state (s .registers) (s .predicates) (s .specials) (s .fetch) (s .base) (transfer-back (s .transfer) i) (load-back (s .load) i) (further (product.products-back (s .products) i) (heldIn (s .held)) (s .replay))
 
 pub core-determined : (s : struct.State) (rs : List ℕ) (ps : List Bool) (c : Core) (h : List ℕ) → Canonical c → withHeld (joined rs ps c) h ≡ stateOf s → c ≡ coreOf s
 core-determined s rs ps c h k e =

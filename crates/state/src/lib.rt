@@ -9,6 +9,7 @@ use bundle_model::Counts;
 use core_state::WaitingLoad;
 use core_state::WaitingTransfer;
 use products::Products;
+use replay::Replay;
 
 pub struct State {
     pub registers: [u32; 32],
@@ -22,6 +23,8 @@ pub struct State {
     pub products: Products,
     // How many blocks the method cache holds, and then their bases, the oldest first. A count above 16 reads as 16.
     pub held: [u32; 17],
+    // Whether a handler is active, and how far the replay of recorded interrupts is.
+    pub replay: Replay,
 }
 
 // A step's answer, with the state handed back and the counts of that one bundle.

@@ -13,6 +13,7 @@ use answers::Verdict;
 use core_state::WaitingLoad;
 use core_state::WaitingTransfer;
 use products::Products;
+use replay::Replay;
 use settings::Config;
 
 fn clear(cache: &mut [u32])
@@ -49,6 +50,11 @@ impl State {
             load: WaitingLoad::Nothing,
             products: Products::Nothing,
             held: [0; 17],
+            replay: Replay {
+                active: false,
+                place: 0,
+                done: 0,
+            },
         }
     }
 

@@ -1,6 +1,6 @@
 // The state of the core, by value, and what is done to it.
 ghost use mathlib.Core.Path.{_≡_};
-ghost use Rattle.settings.specs.Setup.{setup, found, left};
+ghost use Rattle.settings.specs.Setup.{replaying, setup, found, left};
 ghost use Rattle.method_cache.specs.Words.{heldIn, FixedHeld};
 ghost use Rattle.core_state.specs.State.{withHeld};
 ghost use Rattle.core_state.specs.Core.{joined};
@@ -31,6 +31,7 @@ impl State {
         let load = load_words(landing);
         let under_way = self.products;
         let products = product_words(under_way);
+        let replay = self.replay;
         Core {
             specials,
             fetch: self.fetch,
@@ -38,6 +39,7 @@ impl State {
             transfer,
             load,
             products,
+            replay,
         }
     }
 
@@ -52,6 +54,7 @@ impl State {
         let load = waiting_load(landing);
         let under_way = core.products;
         let products = products_in(under_way);
+        let replay = core.replay;
         State {
             registers,
             predicates,
@@ -62,20 +65,23 @@ impl State {
             load,
             products,
             held,
+            replay,
         }
     }
 
-    // One step: settings and state are judged, an ended state is left as it is, and else the bundle is done or refused. The words of
-    // the blocks held are handed back in their one form.
+    // One step: settings, state, list and table are judged, an ended state is left as it is, and else the bundle is done or refused, with the
+    // record of the list that is due. The words of the blocks held are handed back in their one form.
     pub fn step(
         self,
         code: &[u8],
+        list: &[u8],
+        table: &[u8],
         main: &mut [u8],
         local: &mut [u8],
         cache: &mut [u32],
         config: Config,
     ) -> Stepped
-        ensures { λ r. ⌜ full (steppedOf r) (left main local cache) ≡ step (setup (now (code .entry)) config) (stateOf self) (found main local cache) ⌝ }
+        ensures { λ r. ⌜ full (steppedOf r) (left main local cache) ≡ step (replaying (now (list .entry)) (now (table .entry)) (setup (now (code .entry)) config)) (stateOf self) (found main local cache) ⌝ }
         ensures fixed { λ r. ⌜ FixedHeld (r .state .held) ⌝ }
     {
         let mut registers = self.registers;
@@ -89,6 +95,8 @@ impl State {
             &mut held,
             config,
             code,
+            list,
+            table,
             &mut *main,
             &mut *local,
             &mut *cache,

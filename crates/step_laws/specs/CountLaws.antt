@@ -21,7 +21,7 @@ use Rattle.settings.specs.declared.Settings.{Settings}
 use Rattle.settings.specs.Settings.{admits}
 use Rattle.settings.specs.SettingsLaws.{words-small, capacity-ok}
 use Rattle.effects.specs.declared.Transfer.{Transfer}
-use Rattle.effects.specs.declared.Transfer.the-variants.{Br, Call, Block}
+use Rattle.effects.specs.declared.Transfer.the-variants.{Br, Call, Block, Xret}
 use Rattle.effects.specs.declared.Effect.{Effect}
 use Rattle.effects.specs.declared.Effect.the-variants as effect
 use Rattle.core_state.specs.State.{State, withHeld}
@@ -37,10 +37,11 @@ use Rattle.answers.specs.Test.{verdict as verdictOf}
 use Rattle.answers.specs.TestLaws.{fine-both}
 use Rattle.bundle_model.specs.Lookup.{lookups, lookupTests}
 use Rattle.bundle_model.specs.Refusal.{effectTests, slotTests}
-use Rattle.bundle_model.specs.Bundle.{undelayedCycles, cyclesOf, spilledBy, filledBy, countsOf, bundle}
-use Rattle.step_laws.specs.StepCases.{effectAt, bundle-cases}
+use Rattle.bundle_model.specs.Bundle.{undelayedCycles, cyclesOf, spilledBy, filledBy, countsOf, bundle, attempt}
+use Rattle.bundle_model.specs.Interrupt.{taken}
+use Rattle.step_laws.specs.StepCases.{Passes, attemptDone, effectAt, bundle-cases, attempt-cases}
 use Rattle.step_laws.specs.StackKept.{Passed, fine-effect, fine-lookups, stack-accepted}
-use Rattle.step_laws.specs.LookupLaws.{Found, misses-small, fetched-small}
+use Rattle.step_laws.specs.LookupLaws.{Found, misses-small, fetched-small, entry-found, entry-misses, entry-fetched}
 use Rattle.settings.specs.Setup.{Setup, Buffers}
 use Rattle.bundle_model.specs.Counts.{Few, Fit, plus, countsIn, few-none, few-plus, few-fit}
 
@@ -82,6 +83,7 @@ undelayed-small : (t : Transfer) → undelayedCycles t ≤ 4
 undelayed-small (Br target) = omega arith
 undelayed-small (Call target) = omega arith
 undelayed-small (Block target base) = omega arith
+undelayed-small (Xret target base) = omega arith
 
 -- What slot one has a bundle count, by the two figures of its lookups.
 module _ (g : Settings) (x : Setup) (s : State) (h : g .words ≤ 512) where
@@ -97,7 +99,7 @@ module _ (g : Settings) (x : Setup) (s : State) (h : g .words ≤ 512) where
       go : (y : Bool) → cond y 1 (undelayedCycles t) ≤ 4
       go true = omega arith
       go false = undelayed-small t
-  cycles-few effect.Exception = omega arith
+  cycles-few (effect.Trap vector handler) = omega arith
 
   moved-few : (e : Effect) → Passed g x s e → (spilledBy g s e ≤ 512) × (filledBy s e ≤ 512)
   moved-few (effect.Alu a) p = (omega arith, omega arith)
@@ -108,7 +110,7 @@ module _ (g : Settings) (x : Setup) (s : State) (h : g .words ≤ 512) where
   moved-few (effect.Stack c n m) p =
       (le-trans (spills-few c (g .words) (s .specials .st) (s .specials .ss) n (stack-accepted g x s c n m p)) h, le-trans (fills-few c (g .words) (s .specials .st) (s .specials .ss) n (stack-accepted g x s c n m p)) h)
   moved-few (effect.Transfer d t) p = (omega arith, omega arith)
-  moved-few effect.Exception p = (omega arith, omega arith)
+  moved-few (effect.Trap vector handler) p = (omega arith, omega arith)
 
   effect-few : (e : Effect) → capacityOk (x .method) ≡ true → Passed g x s e → Found x e → Few 1 (countsOf g x s e)
   effect-few e ok p f =
@@ -126,6 +128,29 @@ pub bundle-few : (g : Settings) (x : Setup) (s : State) (b : Buffers) → admits
 bundle-few g x s b h m =
     bundle-cases g x s b (λ o. Few 1 (o .counts)) (λ n j. few-none 1)
     (λ j. effect-few g x s (words-small g h) (effectAt x s) (sym (ap capacityOk m) ∙ capacity-ok g h) (fine-effect g x s j (effectAt x s) refl) (fine-lookups g x s j))
+
+-- So are those of a bundle as it is tried: the record's lookup and slot one's miss twice at most.
+pub attempt-few : (g : Settings) (x : Setup) (s : State) (b : Buffers) → admits g ≡ true → g .method ≡ x .method → Few 1 (attempt g x s b .counts)
+attempt-few g x s b h m = attempt-cases g x s b (λ o. Few 1 (o .counts)) (λ n j. few-none 1) both
+  where
+    ok : capacityOk (x .method) ≡ true
+    ok = sym (ap capacityOk m) ∙ capacity-ok g h
+
+    both : Passes g x s → Few 1 (attemptDone g x s b .counts)
+    both j =
+        let t = taken x s in
+        let e = effectAt x t in
+        let p = fine-effect g x t (j .slots) e refl in
+        let f = fine-lookups g x t (j .slots) in
+        let l = entry-found x s (j .entry) in
+        record {
+          bundles = omega arith;
+          cycles = omega (arith, cycles-few g x t (words-small g h) e);
+          spilled = omega (arith, moved-few g x t (words-small g h) e p .0);
+          filled = omega (arith, moved-few g x t (words-small g h) e p .1);
+          misses = omega (arith, misses-small x t e ok f, entry-misses x s ok l);
+          fetched = omega (arith, fetched-small x t e ok f, entry-fetched x s ok l);
+        }
 
 -- So are those of a slot one that no test refuses.
 slot-few : (g : Settings) (x : Setup) (s : State) (e : Effect) → admits g ≡ true → g .method ≡ x .method → verdictOf (slotTests g x s e) ≡ verdict.Fine → Few 1 (countsOf g x s e)

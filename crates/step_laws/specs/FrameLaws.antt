@@ -21,6 +21,7 @@ use Rattle.core_state.specs.State.{State}
 use Rattle.effects.specs.declared.Effect.{Effect}
 use Rattle.effects.specs.declared.Effect.the-variants as effect
 use Rattle.memory.specs.Access.{stored, storeScale, mainOpen, mainWritable, accessOpen}
+use Rattle.bundle_model.specs.Interrupt.{taken}
 use Rattle.bundle_model.specs.Bundle.{area, buffersAfter, step}
 use Rattle.step_laws.specs.StepCases.{effectAt, step-cases}
 use Rattle.step_laws.specs.StackKept.{stored-lengths, area-same, stackMoved-outside, Passed, passed-open}
@@ -41,12 +42,12 @@ mayWrite x (effect.Load k w r a) i = false
 mayWrite x (effect.Store k w a v) i = storesByte k a (2 ^ storeScale w) i
 mayWrite x (effect.Stack c n m) i = isStackByte x i
 mayWrite x (effect.Transfer d t) i = false
-mayWrite x effect.Exception i = false
+mayWrite x (effect.Trap vector handler) i = false
 
 -- A byte that n bytes from a on do not touch lies before or behind them.
 beside : (i a n : ℕ) → touches i (i + 1) a n ≡ false → (i < a) ⊎ (a + n ≤ i)
 beside i a n e =
-    let x : Setup = record { code = []; lo = i; hi = i + 1; method = record { on = false; blocks = 0; bytes = 0 } } in
+    let x : Setup = record { code = []; list = []; table = []; lo = i; hi = i + 1; method = record { on = false; blocks = 0; bytes = 0 } } in
     untouched x i a n e (stack-byte x i (omega arith) (omega arith))
 
 -- A store leaves the bytes of main memory that it does not write.
@@ -68,13 +69,13 @@ effect-main g x s b p q (effect.Load k w r a) i e = refl
 effect-main g x s b p q (effect.Store k w a v) i e = stored-main b k (2 ^ storeScale w) a v i e
 effect-main g x s b p q (effect.Stack c n m) i e = stackMoved-outside g x s c n b p q i e
 effect-main g x s b p q (effect.Transfer d t) i e = refl
-effect-main g x s b p q effect.Exception i e = refl
+effect-main g x s b p q (effect.Trap vector handler) i e = refl
 
 -- So does a step, with no condition.
-pub step-main : (x : Setup) (s : State) (b : Buffers) (i : ℕ) → mayWrite x (effectAt x s) i ≡ false → getD (step x s b .buffers .main) i 0 ≡ getD (b .main) i 0
+pub step-main : (x : Setup) (s : State) (b : Buffers) (i : ℕ) → mayWrite x (effectAt x (taken x s)) i ≡ false → getD (step x s b .buffers .main) i 0 ≡ getD (b .main) i 0
 step-main x s b i e =
     step-cases x s b (λ o. getD (o .buffers .main) i 0 ≡ getD (b .main) i 0) (λ a p. refl)
-    (λ p j. effect-main (lent x b) x s b (area-ordered (lent x b) (p .admitted)) (area-inside (lent x b) (p .admitted)) (effectAt x s) i e)
+    (λ p j. effect-main (lent x b) x (taken x s) b (area-ordered (lent x b) (p .admitted)) (area-inside (lent x b) (p .admitted)) (effectAt x (taken x s)) i e)
 
 -- A store of any kind that no test refuses.
 module _ (g : Settings) (x : Setup) (s : State) (k : AccessKind) (w : StoreWidth) (a v : ℕ) (b : Buffers) (p : Passed g x s (effect.Store k w a v)) where

@@ -14,9 +14,9 @@ use Rattle.word.specs.BoolLaws.{and-right}
 use Rattle.settings.specs.declared.Settings.{Settings}
 use Rattle.products.specs.declared.Product.{Product}
 use Rattle.products.specs.Products.{dueProduct, nearerProducts}
-use Rattle.core_state.specs.State.{State, Shaped, state, withRegister, withPredicate, withPredicates, withSpecial, withSpecials, predicatesOf, withFlow, goingOn, landing, landed, withProducts, withArrival, arrived, withHeld, transferred, waitOk}
+use Rattle.core_state.specs.State.{State, Shaped, state, withRegister, withPredicate, withPredicates, withSpecial, withSpecials, specials, predicatesOf, withFlow, withDone, entered, goingOn, landing, landed, withProducts, withArrival, arrived, withHeld, onePlaceOn, transferred, waitOk}
 use Rattle.effects.specs.declared.Transfer.{Transfer}
-use Rattle.effects.specs.declared.Transfer.the-variants.{Br, Call, Block}
+use Rattle.effects.specs.declared.Transfer.the-variants.{Br, Call, Block, Xret}
 use Rattle.core_state.specs.declared.WaitingTransfer.{WaitingTransfer}
 use Rattle.core_state.specs.declared.WaitingTransfer.the-variants as transfer
 use Rattle.core_state.specs.declared.WaitingLoad.{WaitingLoad}
@@ -27,8 +27,10 @@ use Rattle.effects.specs.declared.Effect.{Effect}
 use Rattle.effects.specs.declared.Effect.the-variants as effect
 use Rattle.alu_effects.specs.declared.Specials.{Specials}
 use Rattle.core_state.specs.Writes.{writeAlu, delaySlots, nearer, begun}
-use Rattle.bundle_model.specs.Bundle.{writeOne, onward, written, bundle, step}
-use Rattle.step_laws.specs.StepCases.{bundle-cases, step-cases}
+use Rattle.bundle_model.specs.Interrupt.{handlerDue, taken}
+use Rattle.bundle_model.specs.InterruptLaws.{taken-cases}
+use Rattle.bundle_model.specs.Bundle.{writeOne, onward, written, bundle, attempt, step}
+use Rattle.step_laws.specs.StepCases.{bundle-cases, attempt-cases, step-cases}
 use Rattle.settings.specs.Setup.{Buffers, lent, Setup}
 
 -- A special register written changes special registers alone, and s0 the predicates alone.
@@ -63,33 +65,45 @@ arrived-cases P s h = go (dueProduct (s .further .products))
     go none = h _
     go (some p) = h _
 
--- The end of a bundle changes srb, sro, fetch address, base and the waiting transfer alone, and a transfer that waits then waits
--- 1 to 3 bundles if the one before did.
+-- Special registers whose last four, to which calls and handlers return, are these.
+abbrev pub linked : Specials → ℕ → ℕ → ℕ → ℕ → Specials
+linked x srb sro sxb sxo = specials (x .sl) (x .sh) (x .ss) (x .st) srb sro sxb sxo
+
+-- The end of a bundle changes these, fetch address, base, the waiting transfer and the handler's mark alone, and a transfer that waits then
+-- waits 1 to 3 bundles if the one before did.
 abbrev pub Onward : (State → Type 0) → WaitingTransfer → State → Type 0
-Onward P waiting onto = (srb sro fetch base : ℕ) (w : WaitingTransfer) → (waitOk waiting ≡ true → waitOk w ≡ true) → P (withFlow onto srb sro fetch base w)
+Onward P waiting onto =
+    (srb sro sxb sxo fetch base : ℕ) (w : WaitingTransfer) (active : Bool) → (waitOk waiting ≡ true → waitOk w ≡ true)
+    → P (withFlow onto (linked (onto .specials) srb sro sxb sxo) fetch base w active)
 
 module _ (P : State → Type 0) (following : ℕ) (onto : State) where
   transferred-cases : (waiting : WaitingTransfer) → Onward P waiting onto → (t : Transfer) → P (transferred onto t following)
   unfolding transferred
-  transferred-cases waiting h (Br target) = h _ _ _ _ _ (λ p. refl)
-  transferred-cases waiting h (Call target) = h _ _ _ _ _ (λ p. refl)
-  transferred-cases waiting h (Block target base) = h _ _ _ _ _ (λ p. refl)
+  transferred-cases waiting h (Br target) = h _ _ _ _ _ _ _ _ (λ p. refl)
+  transferred-cases waiting h (Call target) = h _ _ _ _ _ _ _ _ (λ p. refl)
+  transferred-cases waiting h (Block target base) = h _ _ _ _ _ _ _ _ (λ p. refl)
+  transferred-cases waiting h (Xret target base) = h _ _ _ _ _ _ _ _ (λ p. refl)
 
   begun-cases : (waiting : WaitingTransfer) → Onward P waiting onto → (delayed : Bool) (t : Transfer) → P (begun delayed t following onto)
   unfolding delaySlots
-  begun-cases waiting h true (Br target) = h _ _ _ _ _ (λ p. refl)
-  begun-cases waiting h true (Call target) = h _ _ _ _ _ (λ p. refl)
-  begun-cases waiting h true (Block target base) = h _ _ _ _ _ (λ p. refl)
+  begun-cases waiting h true (Br target) = h _ _ _ _ _ _ _ _ (λ p. refl)
+  begun-cases waiting h true (Call target) = h _ _ _ _ _ _ _ _ (λ p. refl)
+  begun-cases waiting h true (Block target base) = h _ _ _ _ _ _ _ _ (λ p. refl)
+  begun-cases waiting h true (Xret target base) = h _ _ _ _ _ _ _ _ (λ p. refl)
   begun-cases waiting h false t = transferred-cases waiting h t
 
+  pub entered-cases : (waiting : WaitingTransfer) → Onward P waiting onto → (handler : ℕ) → P (entered onto handler following)
+  unfolding entered
+  entered-cases waiting h handler = h _ _ _ _ _ _ _ _ (λ p. refl)
+
   nearer-cases : (waiting : WaitingTransfer) → Onward P waiting onto → P (nearer waiting following onto)
-  nearer-cases transfer.Nothing h = h _ _ _ _ _ (λ p. p)
+  nearer-cases transfer.Nothing h = h _ _ _ _ _ _ _ _ (λ p. p)
   nearer-cases (transfer.Waits t n) h = go (leb n 1) refl
     where
       go : (u : Bool) → leb n 1 ≡ u → P (cond u (transferred onto t following) (goingOn onto following (transfer.Waits t (n - 1))))
       go true e = transferred-cases (transfer.Waits t n) h t
       go false e =
-          h _ _ _ _ _ (λ p.
+          h _ _ _ _ _ _ _ _ (λ p.
           rw (le-leb 1 (n - 1) (omega (arith, leb-false n 1 e)), le-leb (n - 1) 3 (omega (arith, leb-true n 3 (and-right (leb 1 n) (leb n 3) p)))))
 
   pub onward-cases : (e : Effect) (waiting : WaitingTransfer) → Onward P waiting onto → P (onward e waiting following onto)
@@ -100,7 +114,7 @@ module _ (P : State → Type 0) (following : ℕ) (onto : State) where
   onward-cases (effect.Store k w a v) waiting h = nearer-cases waiting h
   onward-cases (effect.Stack c n m) waiting h = nearer-cases waiting h
   onward-cases (effect.Transfer d t) waiting h = begun-cases waiting h d t
-  onward-cases effect.Exception waiting h = nearer-cases waiting h
+  onward-cases (effect.Trap vector handler) waiting h = entered-cases waiting h handler
 
 -- A property of the registers and one of the predicates that no write ends: r0 and p0 are never written.
 pub record Lasting (R : List ℕ → Type 0) (P : List Bool → Type 0) : Type 0 where
@@ -145,7 +159,7 @@ module _ (R : List ℕ → Type 0) (P : List Bool → Type 0) (k : Lasting R P) 
   writeOne-lasts g b from (effect.Store j w a v) onto h = h
   writeOne-lasts g b from (effect.Stack c n m) onto h = h
   writeOne-lasts g b from (effect.Transfer d t) onto h = h
-  writeOne-lasts g b from effect.Exception onto h = h
+  writeOne-lasts g b from (effect.Trap vector handler) onto h = h
 
   -- They hold after all the writes of a bundle.
   pub written-lasts : (g : Settings) (b : Buffers) (s : State) (one : Effect) (two : AluEffect) (following : ℕ) → Has R P s → Has R P (written g b s one two following)
@@ -153,7 +167,7 @@ module _ (R : List ℕ → Type 0) (P : List Bool → Type 0) (k : Lasting R P) 
   written-lasts g b s one two following h =
       let onto = arrived-cases (Has R P) (landed s) (λ x. landed-lasts s h) in
       let t = writeAlu-lasts two (writeOne g b s one (arrived (landed s))) (writeOne-lasts g b s one (arrived (landed s)) onto) in
-      onward-cases (Has R P) following _ one (s .transfer) (λ srb sro fetch base w q. t)
+      onward-cases (Has R P) following _ one (s .transfer) (λ srb sro sxb sxo fetch base w active q. t)
 
 -- The lengths last.
 lengths-last : Lasting (λ l. length l ≡ 32) (λ l. length l ≡ 8)
@@ -174,6 +188,21 @@ held-shaped h = record { registers = h .registers; predicates = h .predicates }
 pub bundle-shaped : (g : Settings) (x : Setup) (s : State) (b : Buffers) → Shaped s → Shaped (bundle g x s b .state)
 bundle-shaped g x s b h = bundle-cases g x s b (λ o. Shaped (o .state)) (λ n j. h) (λ j. held-shaped (written-shaped g b s _ _ _ h))
 
+-- So does taking a record.
+taken-shaped : (x : Setup) (s : State) → Shaped s → Shaped (taken x s)
+taken-shaped x s h =
+    taken-cases Shaped x s h (λ e held. entered-cases (λ t. Shaped (withHeld (onePlaceOn t) held)) (s .fetch) s (s .transfer)
+    (λ srb sro sxb sxo fetch base w active q. record { registers = h .registers; predicates = h .predicates }) (handlerDue x s))
+
+-- So does a bundle as it is tried.
+done-shaped : {s : State} → Shaped s → Shaped (withDone s)
+done-shaped h = record { registers = h .registers; predicates = h .predicates }
+
+pub attempt-shaped : (g : Settings) (x : Setup) (s : State) (b : Buffers) → Shaped s → Shaped (attempt g x s b .state)
+attempt-shaped g x s b h =
+    attempt-cases g x s b (λ o. Shaped (o .state)) (λ n j. h) (λ j. done-shaped (held-shaped (written-shaped g b (taken x s) _ _ _ (taken-shaped x s h))))
+
 -- So does a step.
 pub step-shaped : (x : Setup) (s : State) (b : Buffers) → Shaped s → Shaped (step x s b .state)
-step-shaped x s b h = step-cases x s b (λ o. Shaped (o .state)) (λ a p. h) (λ p j. held-shaped (written-shaped (lent x b) b s _ _ _ h))
+step-shaped x s b h =
+    step-cases x s b (λ o. Shaped (o .state)) (λ a p. h) (λ p j. done-shaped (held-shaped (written-shaped (lent x b) b (taken x s) _ _ _ (taken-shaped x s h))))

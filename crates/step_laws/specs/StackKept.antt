@@ -36,8 +36,9 @@ use Rattle.answers.specs.TestLaws.{fine-applies, fine-both}
 use Rattle.memory.specs.Access.{stored, storeScale, accessOpen, accessTests}
 use Rattle.bundle_model.specs.Lookup.{lookups, lookupTests}
 use Rattle.bundle_model.specs.Refusal.{effectTests, slotTests, bundleTests}
-use Rattle.bundle_model.specs.Bundle.{area, withArea, stackMoved, buffersAfter, writeOne, written, bundle, step}
-use Rattle.step_laws.specs.StepCases.{effectAt, judged, bundle-cases, bundle-fine, bundle-done-as, step-cases}
+use Rattle.bundle_model.specs.Bundle.{area, withArea, stackMoved, buffersAfter, writeOne, written, bundle, attempt, step}
+use Rattle.bundle_model.specs.Interrupt.{taken}
+use Rattle.step_laws.specs.StepCases.{effectAt, judged, bundle-cases, bundle-fine, bundle-done-as, attempt-cases, step-cases}
 use Rattle.step_laws.specs.KeptLaws.{writeAlu-cases, onward-cases}
 use Rattle.step_laws.specs.LookupLaws.{Found}
 use Rattle.settings.specs.Setup.{Setup, Buffers, settings, lent, isStackByte}
@@ -88,17 +89,22 @@ buffersAfter-lengths g x s (effect.Load k w r a) b h = lengths-same b
 buffersAfter-lengths g x s (effect.Store k w a v) b h = stored-lengths b k (2 ^ storeScale w) a v
 buffersAfter-lengths g x s (effect.Stack c n m) b h = stackMoved-lengths g x s c n b h
 buffersAfter-lengths g x s (effect.Transfer d t) b h = lengths-same b
-buffersAfter-lengths g x s effect.Exception b h = lengths-same b
+buffersAfter-lengths g x s (effect.Trap vector handler) b h = lengths-same b
 
 -- So does a bundle.
 pub bundle-lengths : (g : Settings) (x : Setup) (s : State) (b : Buffers) → x .lo ≤ x .hi → SameLengths b (bundle g x s b .buffers)
 bundle-lengths g x s b h = bundle-cases g x s b (λ o. SameLengths b (o .buffers)) (λ n j. lengths-same b) (λ j. buffersAfter-lengths g x s (effectAt x s) b h)
 
+-- So does a bundle as it is tried.
+pub attempt-lengths : (g : Settings) (x : Setup) (s : State) (b : Buffers) → x .lo ≤ x .hi → SameLengths b (attempt g x s b .buffers)
+attempt-lengths g x s b h =
+    attempt-cases g x s b (λ o. SameLengths b (o .buffers)) (λ n j. lengths-same b) (λ j. buffersAfter-lengths g x (taken x s) (effectAt x (taken x s)) b h)
+
 -- So does a step, with no condition: where it does its bundle the settings are inside the limits.
 pub step-lengths : (x : Setup) (s : State) (b : Buffers) → SameLengths b (step x s b .buffers)
 step-lengths x s b =
     step-cases x s b (λ o. SameLengths b (o .buffers)) (λ a p. lengths-same b)
-    (λ p j. buffersAfter-lengths (lent x b) x s (effectAt x s) b (area-ordered (lent x b) (p .admitted)))
+    (λ p j. buffersAfter-lengths (lent x b) x (taken x s) (effectAt x (taken x s)) b (area-ordered (lent x b) (p .admitted)))
 
 -- Buffers of the same lengths make the same settings.
 pub lent-same : (x : Setup) (b b′ : Buffers) → SameLengths b b′ → lent x b′ ≡ lent x b
@@ -249,7 +255,7 @@ module _ (g : Settings) (x : Setup) (b : Buffers) (s : State) (c : StackControl)
       × (written g b s (effect.Stack c n m) two following .specials .ss ≡ spillAfter c (g .words) (s .specials .st) (s .specials .ss) n)
   unfolding written writeOne
   written-stack =
-      onward-cases is following _ (effect.Stack c n m) (s .transfer) (λ srb sro fetch base w q. writeAlu-cases is two _ (λ rs ps. (refl, refl)))
+      onward-cases is following _ (effect.Stack c n m) (s .transfer) (λ srb sro sxb sxo fetch base w active q. writeAlu-cases is two _ (λ rs ps. (refl, refl)))
     where
       is : State → Type 0
       is t = (t .specials .st ≡ topAfter c (s .specials .st) n) × (t .specials .ss ≡ spillAfter c (g .words) (s .specials .st) (s .specials .ss) n)

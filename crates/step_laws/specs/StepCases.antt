@@ -1,10 +1,11 @@
--- A bundle and a step by their cases: without Done nothing changes.
+-- A bundle, a bundle as it is tried, and a step by their cases: without Done nothing changes.
 use Prim.Native.Nat.{ℕ}
-use mathlib.Core.Bool.{Bool, true, false, not, cond}
-use mathlib.Core.Path.{_≡_, refl, ap, _∙_}
+use mathlib.Core.Bool.{Bool, true, false, not, cond, false≢true}
+use mathlib.Core.List.{_++_}
+use mathlib.Core.Path.{_≡_, refl, sym, ap, _∙_}
 use lib.ListN.{length}
 use Rattle.settings.specs.declared.Settings.{Settings}
-use Rattle.core_state.specs.State.{State, startOf, ended as hasEnded}
+use Rattle.core_state.specs.State.{State, startOf, withDone, ended as hasEnded}
 use Rattle.effects.specs.declared.Effect.{Effect}
 use Rattle.answers.specs.declared.Verdict.{Verdict}
 use Rattle.answers.specs.declared.Verdict.the-variants as verdict
@@ -13,21 +14,24 @@ use Rattle.answers.specs.Answer.{Returned, accepted, done, ended, spent, refuse
 use Rattle.settings.specs.Settings.{admits}
 use Rattle.effects.specs.Effect.{slotOne, slotTwo}
 use Rattle.bundle_model.specs.Refusal.{bundleTests}
-use Rattle.bundle_model.specs.Bundle.{buffersAfter, stateDone, countsOf, Outcome, outcome, refusedOr, bundle, wellFormed, readiness, readyOr, step}
+use Rattle.replay.specs.Replay.{replayOk}
+use Rattle.answers.specs.TestLaws.{andThen, verdict-append}
+use Rattle.bundle_model.specs.Interrupt.{entryTests, entryCounts, taken}
+use Rattle.bundle_model.specs.Bundle.{buffersAfter, stateDone, countsOf, Outcome, outcome, refusedOr, bundle, finished, attempt, wellFormed, readiness, readyOr, step}
 use Rattle.settings.specs.Setup.{Buffers, lent, Setup}
 use Rattle.answers.specs.Test.{verdict as verdictOf}
-use Rattle.bundle_model.specs.Counts.{noCounts}
+use Rattle.bundle_model.specs.Counts.{noCounts, plus}
 use Rattle.fetch.specs.Fetch.{bundleAt, followingAt}
 
 -- What slot one does at the fetch address, how the bundle there is judged, and its outcome where it is done.
 abbrev pub effectAt : Setup → State → Effect
-effectAt x s = slotOne (startOf s) (bundleAt (x .code) (s .fetch))
+effectAt x s = slotOne (startOf (x .table) s) (bundleAt (x .code) (s .fetch))
 
 abbrev pub judged : Settings → Setup → State → Verdict
 judged g x s = verdictOf (bundleTests g x s (effectAt x s))
 
 abbrev pub stateAfter : Settings → Setup → State → Buffers → State
-stateAfter g x s b = stateDone g x b s (effectAt x s) (slotTwo (startOf s) (bundleAt (x .code) (s .fetch))) (followingAt (x .code) (s .fetch))
+stateAfter g x s b = stateDone g x b s (effectAt x s) (slotTwo (startOf (x .table) s) (bundleAt (x .code) (s .fetch))) (followingAt (x .code) (s .fetch))
 
 abbrev pub doneOutcome : Settings → Setup → State → Buffers → Outcome
 doneOutcome g x s b = outcome done (stateAfter g x s b) (countsOf g x s (effectAt x s)) (buffersAfter g x s (effectAt x s) b)
@@ -63,10 +67,39 @@ module _ (g : Settings) (x : Setup) (s : State) (b : Buffers) where
 
   -- What a bundle that answers Done leaves, where slot one's effect is known.
   pub bundle-done-as : (e : Effect) → effectAt x s ≡ e → bundle g x s b .answer ≡ done
-      → bundle g x s b ≡ outcome done (stateDone g x b s e (slotTwo (startOf s) (bundleAt (x .code) (s .fetch))) (followingAt (x .code) (s .fetch))) (countsOf g x s e) (buffersAfter g x s e b)
+      → bundle g x s b ≡ outcome done (stateDone g x b s e (slotTwo (startOf (x .table) s) (bundleAt (x .code) (s .fetch))) (followingAt (x .code) (s .fetch))) (countsOf g x s e) (buffersAfter g x s e b)
   bundle-done-as e p d =
       bundle-done (bundle-fine d)
-      ∙ ap (λ (y : Effect). outcome done (stateDone g x b s y (slotTwo (startOf s) (bundleAt (x .code) (s .fetch))) (followingAt (x .code) (s .fetch))) (countsOf g x s y) (buffersAfter g x s y b)) p
+      ∙ ap (λ (y : Effect). outcome done (stateDone g x b s y (slotTwo (startOf (x .table) s) (bundleAt (x .code) (s .fetch))) (followingAt (x .code) (s .fetch))) (countsOf g x s y) (buffersAfter g x s y b)) p
+
+-- A bundle as it is tried: a record that is due is let pass, and then the bundle from the state with the record taken.
+pub record Passes (g : Settings) (x : Setup) (s : State) : Type 0 where
+  pub entry : verdictOf (entryTests x s) ≡ verdict.Fine
+  pub slots : judged g x (taken x s) ≡ verdict.Fine
+
+-- Its outcome where it is done.
+abbrev pub attemptDone : Settings → Setup → State → Buffers → Outcome
+attemptDone g x s b =
+    let o = doneOutcome g x (taken x s) b in outcome done (withDone (o .state)) (plus (entryCounts x s) (o .counts)) (o .buffers)
+
+module _ (g : Settings) (x : Setup) (s : State) (b : Buffers) where
+  -- What holds of an outcome that changes nothing and of the one done holds of a bundle as it is tried.
+  pub attempt-cases : (P : Outcome → Type 0)
+      → ((n : ℕ) → verdictOf (entryTests x s ++ bundleTests g x (taken x s) (effectAt x (taken x s))) ≡ verdict.Refused n → P (outcome (refused n) s noCounts b))
+      → (Passes g x s → P (attemptDone g x s b)) → P (attempt g x s b)
+  unfolding attempt
+  attempt-cases P ref fine = go (verdictOf (entryTests x s)) refl
+    where
+      inner : Verdict → Verdict
+      inner v = andThen v (judged g x (taken x s))
+
+      all : verdictOf (entryTests x s ++ bundleTests g x (taken x s) (effectAt x (taken x s))) ≡ inner (verdictOf (entryTests x s))
+      all = verdict-append (entryTests x s) (bundleTests g x (taken x s) (effectAt x (taken x s)))
+
+      go : (v : Verdict) → verdictOf (entryTests x s) ≡ v → P (refusedOr v s b (finished s b (entryCounts x s) (bundle g x (taken x s) b)))
+      go verdict.Fine e =
+          bundle-cases g x (taken x s) b (λ o. P (finished s b (entryCounts x s) o)) (λ n j. ref n (all ∙ ap inner e ∙ j)) (λ j. fine (record { entry = e; slots = j }))
+      go (verdict.Refused n) e = ref n (all ∙ ap inner e)
 
 -- Whether an answer is done.
 abbrev pub isDone : Returned → Bool
@@ -76,10 +109,12 @@ isDone ended = false
 isDone spent = false
 isDone (refused n) = false
 
--- What a step goes past before it does its bundle: settings inside the limits, a well-formed state that has not ended.
+-- What a step goes past before it does its bundle: settings inside the limits, a well-formed state, a list and a table that 15 lets pass,
+-- and a state that has not ended.
 pub record Going (x : Setup) (s : State) (b : Buffers) : Type 0 where
   pub admitted : admits (lent x b) ≡ true
   pub well-formed : wellFormed x s ≡ true
+  pub replay : replayOk (x .list) (x .table) ≡ true
   pub not-ended : hasEnded s (length (x .code)) ≡ false
 
 module _ (x : Setup) (s : State) (b : Buffers) where
@@ -93,42 +128,49 @@ module _ (x : Setup) (s : State) (b : Buffers) where
   unfolding step readiness
   step-state p q = rw (p, q)
 
-  -- Where the code has ended, a step leaves all as it is.
-  pub step-ended : admits (lent x b) ≡ true → wellFormed x s ≡ true → hasEnded s (length (x .code)) ≡ true → step x s b ≡ outcome ended s noCounts b
+  -- A step with a list or a table that 15 describes is refused with it and changes nothing.
+  pub step-replay : admits (lent x b) ≡ true → wellFormed x s ≡ true → replayOk (x .list) (x .table) ≡ false → step x s b ≡ outcome (refused 15) s noCounts b
   unfolding step readiness
-  step-ended p q r = rw (p, q, r)
+  step-replay p q r = rw (p, q, r)
 
-  -- Any other step is its bundle.
-  pub step-bundle : Going x s b → step x s b ≡ bundle (lent x b) x s b
+  -- Where the code has ended, a step leaves all as it is.
+  pub step-ended : admits (lent x b) ≡ true → wellFormed x s ≡ true → replayOk (x .list) (x .table) ≡ true → hasEnded s (length (x .code)) ≡ true
+      → step x s b ≡ outcome ended s noCounts b
   unfolding step readiness
-  step-bundle p = rw (p .admitted, p .well-formed, p .not-ended)
+  step-ended p q v r = rw (p, q, v, r)
+
+  -- Any other step is its bundle as it is tried.
+  pub step-attempt : Going x s b → step x s b ≡ attempt (lent x b) x s b
+  unfolding step readiness
+  step-attempt p = rw (p .admitted, p .well-formed, p .replay, p .not-ended)
 
   -- What holds of the outcome of a step that changes nothing and of one whose bundle is done holds of a step.
   pub step-cases : (P : Outcome → Type 0) → ((a : Returned) → isDone a ≡ false → P (outcome a s noCounts b))
-      → (Going x s b → judged (lent x b) x s ≡ verdict.Fine → P (doneOutcome (lent x b) x s b)) → P (step x s b)
+      → (Going x s b → Passes (lent x b) x s → P (attemptDone (lent x b) x s b)) → P (step x s b)
   unfolding step readiness
-  step-cases P same fine = go (admits (lent x b)) (wellFormed x s) (hasEnded s (length (x .code))) refl refl refl
+  step-cases P same fine = go (admits (lent x b)) (wellFormed x s) (replayOk (x .list) (x .table)) (hasEnded s (length (x .code))) refl refl refl refl
     where
-      go : (u y z : Bool) → admits (lent x b) ≡ u → wellFormed x s ≡ y → hasEnded s (length (x .code)) ≡ z
-          → P (readyOr (cond (not u) (ready.Refused 1) (cond (not y) (ready.Refused 11) (cond z ready.Ended ready.Ready))) s b (bundle (lent x b) x s b))
-      go false y z p q r = same (refused 1) refl
-      go true false z p q r = same (refused 11) refl
-      go true true true p q r = same ended refl
-      go true true false p q r =
-          bundle-cases (lent x b) x s b P (λ n j. same (refused n) refl) (fine (record { admitted = p; well-formed = q; not-ended = r }))
+      go : (u y w z : Bool) → admits (lent x b) ≡ u → wellFormed x s ≡ y → replayOk (x .list) (x .table) ≡ w → hasEnded s (length (x .code)) ≡ z
+          → P (readyOr (cond (not u) (ready.Refused 1) (cond (not y) (ready.Refused 11) (cond (not w) (ready.Refused 15) (cond z ready.Ended ready.Ready)))) s b (attempt (lent x b) x s b))
+      go false y w z p q v r = same (refused 1) refl
+      go true false w z p q v r = same (refused 11) refl
+      go true true false z p q v r = same (refused 15) refl
+      go true true true true p q v r = same ended refl
+      go true true true false p q v r =
+          attempt-cases (lent x b) x s b P (λ n j. same (refused n) refl) (fine (record { admitted = p; well-formed = q; replay = v; not-ended = r }))
 
   -- A step that answers anything but Done changes nothing.
   pub step-unchanged : (a : Returned) → isDone a ≡ false → step x s b .answer ≡ a → step x s b ≡ outcome a s noCounts b
   step-unchanged a p = step-cases (λ o. o .answer ≡ a → o ≡ outcome a s noCounts b) (λ c q e. ap (λ (x : Returned). outcome x s noCounts b) e) (λ q j e. cc)
 
-  -- A step that answers Done went past 1, 11 and ended.
+  -- A step that answers Done went past 1, 11, 15 and ended.
   pub step-going : step x s b .answer ≡ done → Going x s b
-  step-going = step-cases (λ o. o .answer ≡ done → Going x s b) (λ c q e. record { admitted = cc; well-formed = cc; not-ended = cc }) (λ q j e. q)
+  step-going = step-cases (λ o. o .answer ≡ done → Going x s b) (λ c q e. record { admitted = cc; well-formed = cc; replay = cc; not-ended = cc }) (λ q j e. q)
 
   -- Its bundle was judged fine.
-  pub step-fine : step x s b .answer ≡ done → judged (lent x b) x s ≡ verdict.Fine
-  step-fine = step-cases (λ o. o .answer ≡ done → judged (lent x b) x s ≡ verdict.Fine) (λ c q e. cc) (λ q j e. j)
+  pub step-fine : step x s b .answer ≡ done → Passes (lent x b) x s
+  step-fine = step-cases (λ o. o .answer ≡ done → Passes (lent x b) x s) (λ c q e. record { entry = cc; slots = cc }) (λ q j e. j)
 
   -- Its outcome is that of the bundle done.
-  pub step-done : step x s b .answer ≡ done → step x s b ≡ doneOutcome (lent x b) x s b
-  step-done e = step-bundle (step-going e) ∙ bundle-done (lent x b) x s b (step-fine e)
+  pub step-done : step x s b .answer ≡ done → step x s b ≡ attemptDone (lent x b) x s b
+  step-done = step-cases (λ o. o .answer ≡ done → o ≡ attemptDone (lent x b) x s b) (λ c q e. absurd (false≢true (sym q ∙ ap isDone e))) (λ q j e. refl)

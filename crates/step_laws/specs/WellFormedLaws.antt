@@ -80,7 +80,7 @@ loadBegun b (effect.Load k w r a) = load.Waits r (loadedValue b k w a)
 loadBegun b (effect.Store k w a v) = load.Nothing
 loadBegun b (effect.Stack c n m) = load.Nothing
 loadBegun b (effect.Transfer d t) = load.Nothing
-loadBegun b effect.Exception = load.Nothing
+loadBegun b (effect.Trap vector handler) = load.Nothing
 
 -- A load that has landed waits no more.
 landed-load : (s : State) → landed s .load ≡ load.Nothing
@@ -101,14 +101,14 @@ writeOne-load g b from (effect.Load j w r a) onto h = refl
 writeOne-load g b from (effect.Store j w a v) onto h = h
 writeOne-load g b from (effect.Stack c n m) onto h = h
 writeOne-load g b from (effect.Transfer d t) onto h = h
-writeOne-load g b from effect.Exception onto h = h
+writeOne-load g b from (effect.Trap vector handler) onto h = h
 
 -- The load that waits after a bundle is the one that slot one began.
 pub written-load : (g : Settings) (b : Buffers) (s : State) (one : Effect) (two : AluEffect) (following : ℕ) → written g b s one two following .load ≡ loadBegun b one
 unfolding written
 written-load g b s one two following =
     let t = writeOne-load g b s one (arrived (landed s)) (arrived-cases (λ x. x .load ≡ load.Nothing) (landed s) (λ x. landed-load s)) in
-    onward-cases (λ x. x .load ≡ loadBegun b one) following _ one (s .transfer) (λ srb sro fetch base w q. writeAlu-cases (λ x. x .load ≡ loadBegun b one) two _ (λ rs ps. t))
+    onward-cases (λ x. x .load ≡ loadBegun b one) following _ one (s .transfer) (λ srb sro sxb sxo fetch base w active q. writeAlu-cases (λ x. x .load ≡ loadBegun b one) two _ (λ rs ps. t))
 
 -- A load that lands leaves the products under way and the blocks held.
 landed-further : (s : State) → landed s .further ≡ s .further
@@ -130,7 +130,7 @@ writeOne-products g b from (effect.Load j w r a) onto h = room-ok _ h
 writeOne-products g b from (effect.Store j w a v) onto h = room-ok _ h
 writeOne-products g b from (effect.Stack c n m) onto h = room-ok _ h
 writeOne-products g b from (effect.Transfer d t) onto h = room-ok _ h
-writeOne-products g b from effect.Exception onto h = room-ok _ h
+writeOne-products g b from (effect.Trap vector handler) onto h = room-ok _ h
 
 -- So does a bundle: each product under way came one bundle nearer, which makes room.
 written-products : (g : Settings) (b : Buffers) (s : State) (one : Effect) (two : AluEffect) (following : ℕ) → productsOk (s .further .products) ≡ true
@@ -140,7 +140,7 @@ written-products g b s one two following h =
     let nearer = subst (λ (f : Further). hasRoom (nearerProducts (f .products)) ≡ true) (sym (landed-further s)) (nearer-room (s .further .products) h) in
     let room = arrived-cases (λ x. hasRoom (x .further .products) ≡ true) (landed s) (λ x. nearer) in
     let t = writeOne-products g b s one (arrived (landed s)) room in
-    onward-cases (λ x. productsOk (x .further .products) ≡ true) following _ one (s .transfer) (λ srb sro fetch base w q.
+    onward-cases (λ x. productsOk (x .further .products) ≡ true) following _ one (s .transfer) (λ srb sro sxb sxo fetch base w active q.
     writeAlu-cases (λ x. productsOk (x .further .products) ≡ true) two _ (λ rs ps. t))
 
 -- r0 stays zero and p0 true.
@@ -162,6 +162,6 @@ written-well-formed g b s one two following p h =
       zero-register = t .0;
       true-predicate = t .1;
       load = ap loadOk (written-load g b s one two following) ∙ p;
-      transfer = onward-cases (λ x. waitOk (x .transfer) ≡ true) following _ one (s .transfer) (λ srb sro fetch base w q. q (h .transfer));
+      transfer = onward-cases (λ x. waitOk (x .transfer) ≡ true) following _ one (s .transfer) (λ srb sro sxb sxo fetch base w active q. q (h .transfer));
       products = written-products g b s one two following (h .products);
     }

@@ -2,7 +2,7 @@
 use Prim.Native.Nat.{ℕ}
 use mathlib.Core.Bool.{Bool, true, false, cond}
 use mathlib.Core.Option.{Option, none, some}
-use mathlib.Core.Path.{_≡_, refl, subst}
+use mathlib.Core.Path.{_≡_, refl, sym, subst}
 use native.Mathlib.Omega.{arith}
 use borrow.Author.Tests.{le-leb}
 use Rattle.word.specs.Word.{add}
@@ -25,11 +25,15 @@ use Rattle.alu_effects.specs.declared.AluEffect.the-variants as alu
 use Rattle.effects.specs.declared.Effect.the-variants as effect
 use Rattle.effects.specs.Effect.{Start, effectOf, stackEffect, slotOneEffect, slotOne}
 use Rattle.alu_effects.specs.AluEffects.{holds}
-use Rattle.core_state.specs.State.{State, startOf, loadOk}
-use Rattle.bundle_model.specs.Bundle.{Outcome, bundle, wellFormed, step}
-use Rattle.step_laws.specs.StepCases.{effectAt, bundle-cases, bundle-done, step-cases}
-use Rattle.step_laws.specs.WellFormedLaws.{loadBegun, well-parts, well-held, well-formed-again, well-formed-parts, well-formed-whole, written-well-formed}
-use Rattle.step_laws.specs.LookupLaws.{held-kept}
+use Rattle.core_state.specs.State.{State, startOf, withDone, entered, onePlaceOn, loadOk, partsOk}
+use Rattle.answers.specs.declared.Verdict.the-variants as verdict
+use Rattle.answers.specs.Test.{verdict as verdictOf}
+use Rattle.bundle_model.specs.Interrupt.{due, handlerDue, entryTests, taken}
+use Rattle.bundle_model.specs.InterruptLaws.{due-taken, none-taken}
+use Rattle.bundle_model.specs.Bundle.{Outcome, bundle, attempt, wellFormed, step}
+use Rattle.step_laws.specs.StepCases.{effectAt, bundle-cases, bundle-done, attempt-cases, step-cases}
+use Rattle.step_laws.specs.WellFormedLaws.{WellFormed, loadBegun, well-parts, well-held, well-formed-again, well-formed-parts, well-formed-whole, written-well-formed}
+use Rattle.step_laws.specs.LookupLaws.{held-kept, entry-found, entry-kept}
 use Rattle.step_laws.specs.StackKept.{fine-lookups}
 
 module _ (b : Buffers) (s : Start) where
@@ -84,11 +88,39 @@ pub bundle-well-formed : (g : Settings) (x : Setup) (s : State) (b : Buffers) �
 bundle-well-formed g x s b ok h =
     let parts = well-formed-parts s (well-parts x s h) in
     bundle-cases g x s b (λ o. wellFormed x (o .state) ≡ true) (λ n j. h) (λ j.
-    well-formed-again x _ _ (well-formed-whole _ (written-well-formed g b s (effectAt x s) _ _ (decoded-ok b (startOf s) (wordAt (x .code) (s .fetch)) (wordAt (x .code) (add (s .fetch) 4))) parts))
+    well-formed-again x _ _ (well-formed-whole _ (written-well-formed g b s (effectAt x s) _ _ (decoded-ok b (startOf (x .table) s) (wordAt (x .code) (s .fetch)) (wordAt (x .code) (add (s .fetch) 4))) parts))
     (held-kept x s (effectAt x s) ok (fine-lookups g x s j) (well-held x s h)))
+
+-- So does a bundle as it is tried: the record taken, the bundle, and one bundle more of the replay.
+pub taken-well-formed : (x : Setup) (s : State) → capacityOk (x .method) ≡ true → verdictOf (entryTests x s) ≡ verdict.Fine → wellFormed x s ≡ true → wellFormed x (taken x s) ≡ true
+unfolding entered
+taken-well-formed x s ok f h = go (due x s) refl
+  where
+    entering : (t : State) → partsOk s ≡ true → t ≡ onePlaceOn (entered s (handlerDue x s) (s .fetch)) → partsOk t ≡ true
+    entering t p e =
+        let w = well-formed-parts s p in
+        well-formed-whole t (subst WellFormed (sym e) (record { zero-register = w .zero-register; true-predicate = w .true-predicate; load = w .load; transfer = refl; products = w .products }))
+
+    go : (t : Bool) → due x s ≡ t → wellFormed x (taken x s) ≡ true
+    go true e =
+        subst (λ (y : State). wellFormed x y ≡ true) (sym (due-taken x s e))
+        (well-formed-again x _ _ (entering _ (well-parts x s h) refl) (entry-kept x s ok (entry-found x s f) (well-held x s h)))
+    go false e = subst (λ (y : State). wellFormed x y ≡ true) (sym (none-taken x s e)) h
+
+done-well-formed : (x : Setup) (s : State) → wellFormed x s ≡ true → wellFormed x (withDone s) ≡ true
+unfolding wellFormed partsOk
+done-well-formed x s h = h
+
+pub attempt-well-formed : (g : Settings) (x : Setup) (s : State) (b : Buffers) → capacityOk (x .method) ≡ true → wellFormed x s ≡ true → wellFormed x (attempt g x s b .state) ≡ true
+attempt-well-formed g x s b ok h =
+    attempt-cases g x s b (λ o. wellFormed x (o .state) ≡ true) (λ n j. h) (λ j.
+    done-well-formed x _ (subst (λ (o : Outcome). wellFormed x (o .state) ≡ true) (bundle-done g x (taken x s) b (j .slots))
+    (bundle-well-formed g x (taken x s) b ok (taken-well-formed x s ok (j .entry) h))))
 
 -- So does a step.
 pub step-well-formed : (x : Setup) (s : State) (b : Buffers) → wellFormed x s ≡ true → wellFormed x (step x s b .state) ≡ true
 step-well-formed x s b h =
     step-cases x s b (λ o. wellFormed x (o .state) ≡ true) (λ a p. h) (λ p j.
-    subst (λ (o : Outcome). wellFormed x (o .state) ≡ true) (bundle-done (lent x b) x s b j) (bundle-well-formed (lent x b) x s b (capacity-ok (lent x b) (p .admitted)) h))
+    let ok = capacity-ok (lent x b) (p .admitted) in
+    done-well-formed x _ (subst (λ (o : Outcome). wellFormed x (o .state) ≡ true) (bundle-done (lent x b) x (taken x s) b (j .slots))
+    (bundle-well-formed (lent x b) x (taken x s) b ok (taken-well-formed x s ok (j .entry) h))))

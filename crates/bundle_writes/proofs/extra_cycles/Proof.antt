@@ -15,6 +15,9 @@ enum-told-2 c = search needs
 enum-told-3 : tie.Need-enum-told-3
 enum-told-3 c = search needs
 
+enum-told-4 : tie.Need-enum-told-4
+enum-told-4 c = search needs
+
 returns-2 : tie.Need-returns-2
 returns-2 c = rw (c .before .before .if1 .left, c .enum-told .given .1) refl
 
@@ -24,6 +27,9 @@ returns-3 c = rw (c .before .before .if1 .left, c .enum-told2 .given .1) refl
 returns-4 : tie.Need-returns-4
 returns-4 c = rw (c .before .before .if1 .left, c .enum-told3 .given .1) refl
 
+returns-5 : tie.Need-returns-5
+returns-5 c = rw (c .before .before .if1 .left, c .enum-told4 .given .1) refl
+
 pub extra-cycles-spec : {M : Type 1} → statement M
 extra-cycles-spec =
-    tie.close (tie.spec returns enum-told enum-told-2 enum-told-3 returns-2 returns-3 returns-4)
+    tie.close (tie.spec returns enum-told enum-told-2 enum-told-3 enum-told-4 returns-2 returns-3 returns-4 returns-5)

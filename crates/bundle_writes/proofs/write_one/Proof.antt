@@ -4,7 +4,7 @@ use mathlib.Core.Path.{_≡_, refl, _∙_}
 use denote.Enum.Declared.{tagOf}
 use types.Run.{OneOf, miss}
 use Rattle.effects.specs.declared.Effect.{Effect}
-use Rattle.effects.specs.declared.Effect.the-variants.{Alu, Special, Product, Load, Store, Stack, Transfer, Exception}
+use Rattle.effects.specs.declared.Effect.the-variants.{Alu, Special, Product, Load, Store, Stack, Transfer, Trap}
 use Rattle.effects.proofs.Effect.{the-type}
 use Rattle.products.specs.declared.ProductWords.{ProductWords}
 use Rattle.core_state.specs.State.{State}
@@ -28,7 +28,7 @@ nothing-written loaded st ss onto (Load k w r a) h = absurd (miss others 3 tt h)
 nothing-written loaded st ss onto (Store k w a v) h = refl
 nothing-written loaded st ss onto (Stack c n m) h = absurd (miss others 5 tt h)
 nothing-written loaded st ss onto (Transfer d t) h = refl
-nothing-written loaded st ss onto Exception h = refl
+nothing-written loaded st ss onto (Trap n handler) h = refl
 
 load-left : (loaded : ℕ) (l : LoadWords) (e : Effect) → OneOf others (tagOf the-type e) → l ≡ loadAfter e loaded l
 load-left loaded l (Alu a) h = refl
@@ -38,7 +38,7 @@ load-left loaded l (Load k w r a) h = absurd (miss others 3 tt h)
 load-left loaded l (Store k w a v) h = refl
 load-left loaded l (Stack c n m) h = refl
 load-left loaded l (Transfer d t) h = refl
-load-left loaded l Exception h = refl
+load-left loaded l (Trap n handler) h = refl
 
 products-left : (p : ProductWords) (e : Effect) → OneOf others (tagOf the-type e) → p ≡ productsAfter e p
 products-left p (Alu a) h = refl
@@ -48,7 +48,7 @@ products-left p (Load k w r a) h = refl
 products-left p (Store k w a v) h = refl
 products-left p (Stack c n m) h = refl
 products-left p (Transfer d t) h = refl
-products-left p Exception h = refl
+products-left p (Trap n handler) h = refl
 
 enum-known-one : tie.Need-enum-known-one
 enum-known-one c = c .match .keys1

@@ -19,6 +19,12 @@ enum-known-t-3 c = c .match .keys3
 keep-transfer-requires-3 : tie.Need-keep-transfer-requires-3
 keep-transfer-requires-3 c κs = tt
 
+enum-known-t-4 : tie.Need-enum-known-t-4
+enum-known-t-4 c = c .match .keys4
+
+keep-transfer-requires-4 : tie.Need-keep-transfer-requires-4
+keep-transfer-requires-4 c κs = tt
+
 returns : tie.Need-returns
 returns c = rw (c .before .before .before .t .given .1) (c .keep-transfer .ensures)
 
@@ -27,6 +33,9 @@ returns-2 c = rw (c .before .before .before .t2 .given .1) (c .keep-transfer2 .e
 
 returns-3 : tie.Need-returns-3
 returns-3 c = rw (c .before .before .before .t3 .given .1) (c .keep-transfer3 .ensures)
+
+returns-4 : tie.Need-returns-4
+returns-4 c = rw (c .before .before .before .t4 .given .1) (c .keep-transfer4 .ensures)
 
 pub keep-target-spec : {M : Type 1} → statement M
 keep-target-spec =
@@ -38,6 +47,9 @@ keep-target-spec =
     keep-transfer-requires-2
     enum-known-t-3
     keep-transfer-requires-3
+    enum-known-t-4
+    keep-transfer-requires-4
     returns
     returns-2
-    returns-3)
+    returns-3
+    returns-4)

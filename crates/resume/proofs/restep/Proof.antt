@@ -1,7 +1,7 @@
 use Rattle.resume_model.specs.StepLaws.{asStepped, restep-resume}
 use Rattle.resume_model.specs.Resume.{resumedOf}
 use Rattle.answers.specs.Answer.{Returned}
-use Rattle.settings.specs.Setup.{setup}
+use Rattle.settings.specs.Setup.{replaying, setup}
 use mathlib.Core.Path.{sym, ap, _∙_}
 use denote.Ref.{now}
 use borrow.Author.Needs.{needs}
@@ -12,31 +12,25 @@ use Rattle.resume.proofs.restep.Lts as lts
 use Rattle.resume.proofs.as_step.Reads as as-step-reads
 use Rattle.resume.proofs.resume.Reads as resume-reads
 
--- src/lib.rt:171:9
 resume-requires : tie.Need-resume-requires
 resume-requires c κs = search needs
 
--- src/lib.rt:184:17
 as-step-requires : tie.Need-as-step-requires
 as-step-requires c κs = search needs
 
--- src/lib.rt:160:1
 same-length : tie.Need-same-length
 same-length c = search needs
 
--- src/lib.rt:160:1
 same-length-2 : tie.Need-same-length-2
 same-length-2 c = search needs
 
--- src/lib.rt:160:1
 same-length-3 : tie.Need-same-length-3
 same-length-3 c = search needs
 
--- src/lib.rt:160:1
 returns : tie.Need-returns
 returns c =
-    let a = c .before .before .before .before .before .before .before .before .before .before .before .before .before .before .before .before .before .args in
-    let x = setup (now (a .code)) (a .config) in
+    let a = c .before .before .before .before .before .before .before .before .before .before .before .before .before .before .before .before .before .before .before .args in
+    let x = replaying (now (a .list)) (now (a .table)) (setup (now (a .code)) (a .config)) in
     let r = c .before .before .before .before .before .before .before .before .resume in
     ap (λ (y : Returned). resumedOf y (r .result .counts) (r .result .written) (r .last .1 .1 .0) (r .last .1 .1 .1 .0) (r .last .1 .1 .1 .1 .0)) (c .as-step .ensures)
     ∙ ap asStepped (r .ensures)

@@ -1,6 +1,6 @@
 use Rattle.resume.specs.GoingLaws.{bad-settings, no-room, room-of, short-of}
 use Rattle.settings.specs.Settings.{admits}
-use Rattle.settings.specs.Setup.{setup, settings}
+use Rattle.settings.specs.Setup.{replaying, setup, settings}
 use borrow.Author.Tests.{not-true, not-false}
 use lib.ListN.{length}
 use mathlib.Core.Path.{sym, ap, _∙_}
@@ -16,67 +16,55 @@ use Rattle.resume.proofs.with_cache.Reads as with-cache-reads
 use Rattle.settings.proofs.Config.settings.Reads as settings-reads
 use Rattle.settings.proofs.Settings.admits.Reads as admits-reads
 
--- src/lib.rt:157:9
 settings-requires : tie.Need-settings-requires
 settings-requires c κs = search needs
 
--- src/lib.rt:158:9
 admits-requires : tie.Need-admits-requires
 admits-requires c κs = search needs
 
--- src/lib.rt:159:9
 turned-away-requires : tie.Need-turned-away-requires
 turned-away-requires c κs = search needs
 
--- src/lib.rt:159:9
 returns : tie.Need-returns
 returns c =
-    let a = c .before .before .before .before .before .before .before .before .before .args in
-    let x = setup (now (a .code)) (a .config) in
+    let a = c .before .before .before .before .before .before .before .before .before .before .before .args in
+    let x = replaying (now (a .list)) (now (a .table)) (setup (now (a .code)) (a .config)) in
     let g = settings x (length (now (a .main))) (length (now (a .local))) (a .words) in
     let refused = ap admits (sym (c .before .before .before .settings .ensures)) ∙ sym (c .before .before .admits .ensures) ∙ not-true _ (c .before .if1 .taken) in
     c .turned-away .ensures _ _ _ ∙ bad-settings x (a .budget) (a .words) (now (a .bytes)) (now (a .main)) (now (a .local)) (now (a .out)) refused
 
--- src/lib.rt:161:20
 longest-requires : tie.Need-longest-requires
 longest-requires c κs = search needs
 
--- src/lib.rt:162:9
 turned-away-requires-2 : tie.Need-turned-away-requires-2
 turned-away-requires-2 c κs = search needs
 
--- src/lib.rt:162:9
 returns-2 : tie.Need-returns-2
 returns-2 c =
-    let a = c .before .before .before .before .before .before .before .before .before .before .before .args in
-    let x = setup (now (a .code)) (a .config) in
+    let a = c .before .before .before .before .before .before .before .before .before .before .before .before .before .args in
+    let x = replaying (now (a .list)) (now (a .table)) (setup (now (a .code)) (a .config)) in
     let g = settings x (length (now (a .main))) (length (now (a .local))) (a .words) in
     let admitted = ap admits (sym (c .before .before .before .before .before .settings .ensures)) ∙ sym (c .before .before .before .before .admits .ensures) ∙ not-false _ (c .before .before .before .if1 .left) in
     c .turned-away2 .ensures _ _ _ ∙ no-room x (a .budget) (a .words) (now (a .bytes)) (now (a .main)) (now (a .local)) (now (a .out)) admitted
     (short-of g (length (now (a .out))) (c .before .before .longest .result) admitted (c .before .before .longest .ensures) (c .before .if2 .taken))
 
--- src/lib.rt:164:5
 with-cache-requires : tie.Need-with-cache-requires
 with-cache-requires c κs =
-    let a = c .before .before .before .before .before .before .before .before .before .before .before .before .before .args in
-    let x = setup (now (a .code)) (a .config) in
+    let a = c .before .before .before .before .before .before .before .before .before .before .before .before .before .before .before .args in
+    let x = replaying (now (a .list)) (now (a .table)) (setup (now (a .code)) (a .config)) in
     let g = settings x (length (now (a .main))) (length (now (a .local))) (a .words) in
     let admitted = ap admits (sym (c .before .before .before .before .before .before .before .settings .ensures)) ∙ sym (c .before .before .before .before .before .before .admits .ensures) ∙ not-false _ (c .before .before .before .before .before .if1 .left) in
     (admitted, room-of g (length (now (a .out))) (c .before .before .before .before .longest .result) admitted (c .before .before .before .before .longest .ensures) (c .before .before .before .if2 .left))
 
--- src/lib.rt:145:1
 same-length : tie.Need-same-length
 same-length c = search needs
 
--- src/lib.rt:145:1
 same-length-2 : tie.Need-same-length-2
 same-length-2 c = search needs
 
--- src/lib.rt:145:1
 same-length-3 : tie.Need-same-length-3
 same-length-3 c = search needs
 
--- src/lib.rt:145:1
 returns-3 : tie.Need-returns-3
 returns-3 c = search needs
 

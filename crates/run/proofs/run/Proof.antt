@@ -2,7 +2,7 @@ use mathlib.Core.Path.{_≡_, sym, ap, subst, _∙_}
 use lib.ListN.{length}
 use mathlib.Core.List.{[]}
 use Rattle.method_cache.specs.Words.{heldIn, FixedHeld}
-use Rattle.settings.specs.Setup.{setup, buffers}
+use Rattle.settings.specs.Setup.{replaying, setup, buffers}
 use Rattle.core_state.specs.declared.Core.{Core}
 use Rattle.core_state.specs.State.{State, withHeld, ended}
 use Rattle.core_state.specs.Core.{joined}
@@ -44,11 +44,11 @@ same-length-3 c = search needs
 returns : tie.Need-returns
 unfolding stateOf ended
 returns c =
-    let a = c .before .before .before .before .before .before .before .before .before .before .before .before .before .before .before .before .before .before .before .before .before .before .before .before .before .before .before .before .args in
-    let x = setup (a .code .now) (a .config) in
+    let a = c .before .before .before .before .before .before .before .before .before .before .before .before .before .before .before .before .before .before .before .before .before .before .before .before .before .before .before .before .before .before .args in
+    let x = replaying (a .list .now) (a .table .now) (setup (a .code .now) (a .config)) in
     let b = buffers (a .main .now) (a .local .now) (a .cache .now) in
-    let regs : length (a .start .registers) ≡ 32 = search (needs, c .before .before .before .before .before .before .before .before .before .before .before .before .before .before .before .before .before .before .before .before .before .before .before .before .before .before .before .before .good .0) in
-    let preds : length (a .start .predicates) ≡ 8 = search (needs, c .before .before .before .before .before .before .before .before .before .before .before .before .before .before .before .before .before .before .before .before .before .before .before .before .before .before .before .before .good .0) in
+    let regs : length (a .start .registers) ≡ 32 = search (needs, c .before .before .before .before .before .before .before .before .before .before .before .before .before .before .before .before .before .before .before .before .before .before .before .before .before .before .before .before .before .before .good .0) in
+    let preds : length (a .start .predicates) ≡ 8 = search (needs, c .before .before .before .before .before .before .before .before .before .before .before .before .before .before .before .before .before .before .before .before .before .before .before .before .before .before .before .before .before .before .good .0) in
     let r = c .before .before .before .before .before .before .before .before .before .before .before .advance in
     let w = c .before .before .before .before .before .before .before .before .before .before .before .before .before .before .before .before .before .before .before .tidy .last .0 in
     let t = tidied (a .start) w (c .before .before .before .before .before .before .before .before .before .before .before .before .before .before .before .before .before .before .before .tidy .ensures .1) (c .before .before .before .before .before .before .before .before .before .before .before .before .before .before .before .before .before .before .before .tidy .ensures .0) in

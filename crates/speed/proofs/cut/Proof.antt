@@ -27,19 +27,19 @@ slice-relend-prefix-run-workload : tie.Need-slice-relend-prefix-run-workload
 slice-relend-prefix-run-workload c = search needs
 
 slice-aggregate-run-workload : tie.Need-slice-aggregate-run-workload
-slice-aggregate-run-workload c = sym (length-take-le _ (c .before .before .before .before .before .before .before .before .before .before .before .args .code .now) (omega (arith, c .before .before .before .before .before .least .ensures)))
+slice-aggregate-run-workload c = sym (length-take-le _ (c .before .before .before .before .before .before .before .before .before .before .before .before .before .args .code .now) (omega (arith, c .before .before .before .before .before .least .ensures)))
 
 slice-relend-prefix-run-workload-2 : tie.Need-slice-relend-prefix-run-workload-2
 slice-relend-prefix-run-workload-2 c = search needs
 
 slice-aggregate-run-workload-2 : tie.Need-slice-aggregate-run-workload-2
-slice-aggregate-run-workload-2 c = sym (length-take-le _ (c .before .before .before .before .before .before .before .before .before .before .before .before .args .main .now) (omega (arith, c .before .before .before .before .least2 .ensures)))
+slice-aggregate-run-workload-2 c = sym (length-take-le _ (c .before .before .before .before .before .before .before .before .before .before .before .before .before .before .args .main .now) (omega (arith, c .before .before .before .before .least2 .ensures)))
 
 slice-relend-prefix-run-workload-3 : tie.Need-slice-relend-prefix-run-workload-3
 slice-relend-prefix-run-workload-3 c = search needs
 
 slice-aggregate-run-workload-3 : tie.Need-slice-aggregate-run-workload-3
-slice-aggregate-run-workload-3 c = sym (length-take-le _ (c .before .before .before .before .before .before .before .before .before .before .before .before .before .before .args .cache .now) (omega (arith, c .before .before .before .before .least3 .ensures)))
+slice-aggregate-run-workload-3 c = sym (length-take-le _ (c .before .before .before .before .before .before .before .before .before .before .before .before .before .before .before .before .args .cache .now) (omega (arith, c .before .before .before .before .least3 .ensures)))
 
 run-workload-requires : tie.Need-run-workload-requires
 run-workload-requires c κs = tt

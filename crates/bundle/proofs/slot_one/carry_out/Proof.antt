@@ -9,7 +9,7 @@ use Rattle.core_state.specs.Core.{joined}
 use denote.Enum.Declared.{tagOf}
 use types.Run.{OneOf, miss}
 use Rattle.effects.specs.declared.Effect.{Effect}
-use Rattle.effects.specs.declared.Effect.the-variants.{Alu, Special, Product, Load, Store, Stack, Transfer, Exception}
+use Rattle.effects.specs.declared.Effect.the-variants.{Alu, Special, Product, Load, Store, Stack, Transfer, Trap}
 use Rattle.effects.proofs.Effect.{the-type}
 use Rattle.settings.specs.declared.Settings.{Settings}
 use Rattle.answers.specs.Test.{verdict}
@@ -19,11 +19,18 @@ use Rattle.bundle_model.specs.Refusal.{slotTests}
 use Rattle.bundle_model.specs.Bundle.{buffersAfter}
 use Rattle.bundle_model.specs.Execute.{plainly, carriedAs, carriedOut, Tallied}
 use Rattle.bundle_model.specs.ExecuteLaws.{load-carried, store-carried}
-use Rattle.bundle_model.specs.TallyLaws.{tallied-refused, tallied-as, tallied-none}
+use Rattle.bundle_model.specs.TallyLaws.{tallied-as, tallied-none}
 use Rattle.bundle.proofs.slot_one.carry_out.Statement.{statement}
 use Rattle.bundle.proofs.slot_one.carry_out.Tie as tie
+use Rattle.bundle.proofs.slot_one.carry_out.Reads as reads
+use Rattle.bundle.proofs.slot_one.carry_out.Lts as lts
+use Rattle.bundle.proofs.stack_moves.do_stack.Reads as do-stack-reads
+use Rattle.bundle.proofs.transfers.do_transfer.Reads as do-transfer-reads
+use Rattle.bundle.proofs.transfers.do_trap.Reads as do-trap-reads
+use Rattle.bundle_model.proofs.outcome.nothing.Reads as nothing-reads
+use Rattle.bundle_writes.proofs.slot_one.do_load.Reads as do-load-reads
+use Rattle.bundle_writes.proofs.slot_one.do_store.Reads as do-store-reads
 
--- The effects that are not told apart by name.
 abbrev others : List ℕ
 others = 0 ∷ 1 ∷ 2 ∷ []
 
@@ -36,7 +43,7 @@ plain g x s b (Load k w r a) h = absurd (miss others 3 tt h)
 plain g x s b (Store k w a v) h = absurd (miss others 4 tt h)
 plain g x s b (Stack c n m) h = absurd (miss others 5 tt h)
 plain g x s b (Transfer d t) h = absurd (miss others 6 tt h)
-plain g x s b Exception h = absurd (miss others 7 tt h)
+plain g x s b (Trap n handler) h = absurd (miss others 7 tt h)
 
 plain-tallied : (g : Settings) (x : Setup) (t : State) (w c : List ℕ) (r : Carried) (e : Effect) → OneOf others (tagOf the-type e) → Tallied r g x (withHeld t (heldIn w)) e w w c c
 plain-tallied g x t w c r (Alu a) h = tallied-none g x t w (Alu a) refl r c refl refl refl
@@ -46,7 +53,7 @@ plain-tallied g x t w c r (Load k z n a) h = absurd (miss others 3 tt h)
 plain-tallied g x t w c r (Store k z a v) h = absurd (miss others 4 tt h)
 plain-tallied g x t w c r (Stack z n m) h = absurd (miss others 5 tt h)
 plain-tallied g x t w c r (Transfer d y) h = absurd (miss others 6 tt h)
-plain-tallied g x t w c r Exception h = absurd (miss others 7 tt h)
+plain-tallied g x t w c r (Trap n handler) h = absurd (miss others 7 tt h)
 
 enum-known-one : tie.Need-enum-known-one
 enum-known-one c = search needs
@@ -72,8 +79,11 @@ enum-known-one-4 c = search needs
 do-transfer-requires : tie.Need-do-transfer-requires
 do-transfer-requires c κs = search needs
 
-enum-told : tie.Need-enum-told
-enum-told c = search needs
+enum-known-one-5 : tie.Need-enum-known-one-5
+enum-known-one-5 c = search needs
+
+do-trap-requires : tie.Need-do-trap-requires
+do-trap-requires c κs = search needs
 
 nothing-requires : tie.Need-nothing-requires
 nothing-requires c κs = search needs
@@ -134,10 +144,9 @@ returns-4 c =
     rw (c .before .before .before .before .one4 .given .1) (λ rs ps. c .do-transfer .ensures rs ps (buffers (a .main .now) (a .local .now) (a .cache .now)))
 
 returns-5 : tie.Need-returns-5
-unfolding carriedOut buffersAfter verdict slotTests lookupTests
 returns-5 c =
-    let a = c .before .before .before .before .before .before .args in
-    rw (c .enum-told .given .1) (λ rs ps. (refl, tallied-refused 10 (a .g) (setupOf (a .code .now) (a .g)) (joined rs ps (a .core)) (a .held .now) (a .counts .now) Exception))
+    let a = c .before .before .before .before .before .before .before .before .before .before .args in
+    rw (c .before .before .before .before .one5 .given .1) (λ rs ps. c .do-trap .ensures rs ps (buffers (a .main .now) (a .local .now) (a .cache .now)))
 
 returns-6 : tie.Need-returns-6
 returns-6 c =
@@ -159,7 +168,8 @@ carry-out-spec =
     do-stack-requires
     enum-known-one-4
     do-transfer-requires
-    enum-told
+    enum-known-one-5
+    do-trap-requires
     nothing-requires
     same-length
     same-length-2

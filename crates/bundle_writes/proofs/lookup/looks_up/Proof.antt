@@ -19,6 +19,12 @@ enum-known-t-2 c = search needs
 cast-result-2 : tie.Need-cast-result-2
 cast-result-2 c = search needs
 
+enum-known-t-3 : tie.Need-enum-known-t-3
+enum-known-t-3 c = search needs
+
+cast-result-3 : tie.Need-cast-result-3
+cast-result-3 c = search needs
+
 returns : tie.Need-returns
 unfolding basesOf
 returns c = rw (c .enum-told .given .1) refl
@@ -31,6 +37,10 @@ returns-3 : tie.Need-returns-3
 unfolding basesOf
 returns-3 c = rw (c .before .before .t2 .given .1) refl
 
+returns-4 : tie.Need-returns-4
+unfolding basesOf
+returns-4 c = rw (c .before .before .t3 .given .1) refl
+
 pub looks-up-spec : {M : Type 1} → statement M
 looks-up-spec =
     tie.close
@@ -40,6 +50,9 @@ looks-up-spec =
     cast-result
     enum-known-t-2
     cast-result-2
+    enum-known-t-3
+    cast-result-3
     returns
     returns-2
-    returns-3)
+    returns-3
+    returns-4)

@@ -126,6 +126,24 @@ room-line-requires c κs = tt
 enum-told-19 : tie.Need-enum-told-19
 enum-told-19 c = search needs
 
+two-numbers-requires-3 : tie.Need-two-numbers-requires-3
+two-numbers-requires-3 c κs = tt
+
+enum-told-20 : tie.Need-enum-told-20
+enum-told-20 c = search needs
+
+two-numbers-requires-4 : tie.Need-two-numbers-requires-4
+two-numbers-requires-4 c κs = tt
+
+enum-told-21 : tie.Need-enum-told-21
+enum-told-21 c = search needs
+
+whole-requires-5 : tie.Need-whole-requires-5
+whole-requires-5 c κs = tt
+
+enum-told-22 : tie.Need-enum-told-22
+enum-told-22 c = search needs
+
 returns : tie.Need-returns
 unfolding lineAfter
 returns c = rw (c .before .enum-told .given .1) (c .case-line .ensures)
@@ -208,7 +226,19 @@ returns-20 c = rw (c .before .enum-told18 .given .1) (c .room-line .ensures)
 
 returns-21 : tie.Need-returns-21
 unfolding lineAfter
-returns-21 c = rw (c .enum-told19 .given .1)
+returns-21 c = rw (c .before .enum-told19 .given .1) (c .two-numbers3 .ensures)
+
+returns-22 : tie.Need-returns-22
+unfolding lineAfter
+returns-22 c = rw (c .before .enum-told20 .given .1) (c .two-numbers4 .ensures)
+
+returns-23 : tie.Need-returns-23
+unfolding lineAfter
+returns-23 c = rw (c .before .enum-told21 .given .1) (c .whole5 .ensures)
+
+returns-24 : tie.Need-returns-24
+unfolding lineAfter
+returns-24 c = rw (c .enum-told22 .given .1)
 
 pub after-keyword-spec : {M : Type 1} → statement M
 after-keyword-spec =
@@ -255,6 +285,12 @@ after-keyword-spec =
     enum-told-18
     room-line-requires
     enum-told-19
+    two-numbers-requires-3
+    enum-told-20
+    two-numbers-requires-4
+    enum-told-21
+    whole-requires-5
+    enum-told-22
     returns
     returns-2
     returns-3
@@ -275,4 +311,7 @@ after-keyword-spec =
     returns-18
     returns-19
     returns-20
-    returns-21)
+    returns-21
+    returns-22
+    returns-23
+    returns-24)

@@ -43,6 +43,12 @@ three-numbers-requires c κs = tt
 enum-told-4 : tie.Need-enum-told-4
 enum-told-4 c = c .match .keys4
 
+three-numbers-requires-2 : tie.Need-three-numbers-requires-2
+three-numbers-requires-2 c κs = tt
+
+enum-told-5 : tie.Need-enum-told-5
+enum-told-5 c = c .match .keys5
+
 returns-2 : tie.Need-returns-2
 unfolding transfer lineAfter
 returns-2 c = rw (← c .before .before .before .before .before .before .next-field .ensures .0, ne-eqb _ _ (c .before .before .before .before .before .if1 .left), ← c .before .before .before .transfer-kind .ensures, c .before .enum-told .given .1) (c .two-numbers .ensures)
@@ -57,7 +63,11 @@ returns-4 c = rw (← c .before .before .before .before .before .before .next-fi
 
 returns-5 : tie.Need-returns-5
 unfolding transfer lineAfter
-returns-5 c = rw (← c .before .before .before .before .before .next-field .ensures .0, ne-eqb _ _ (c .before .before .before .before .if1 .left), ← c .before .before .transfer-kind .ensures, c .enum-told4 .given .1)
+returns-5 c = rw (← c .before .before .before .before .before .before .next-field .ensures .0, ne-eqb _ _ (c .before .before .before .before .before .if1 .left), ← c .before .before .before .transfer-kind .ensures, c .before .enum-told4 .given .1) (c .three-numbers2 .ensures)
+
+returns-6 : tie.Need-returns-6
+unfolding transfer lineAfter
+returns-6 c = rw (← c .before .before .before .before .before .next-field .ensures .0, ne-eqb _ _ (c .before .before .before .before .if1 .left), ← c .before .before .transfer-kind .ensures, c .enum-told5 .given .1)
 
 pub transfer-line-spec : {M : Type 1} → statement M
 transfer-line-spec =
@@ -76,7 +86,10 @@ transfer-line-spec =
     enum-told-3
     three-numbers-requires
     enum-told-4
+    three-numbers-requires-2
+    enum-told-5
     returns-2
     returns-3
     returns-4
-    returns-5)
+    returns-5
+    returns-6)

@@ -39,11 +39,14 @@ element-write-kept c = search needs
 element-write-kept-2 : tie.Need-element-write-kept-2 Inv-loop μ-loop
 element-write-kept-2 c = search needs
 
+element-write-kept-3 : tie.Need-element-write-kept-3 Inv-loop μ-loop
+element-write-kept-3 c = search needs
+
 returns : tie.Need-returns Inv-loop μ-loop
 unfolding forgotten
 returns c = let l = c .before .loop in
     let e : l .i ≡ CASE-END = omega arith in
-    ap (λ (m : List ℕ). set (set m 3 16) 56 1) (rw e at (l .inv .1))
+    ap (λ (m : List ℕ). set (set (set m 3 16) 56 1) 152400 0) (rw e at (l .inv .1))
 
 pub forget-case-spec : {M : Type 1} → statement M
 forget-case-spec =
@@ -58,4 +61,5 @@ forget-case-spec =
     loop-again
     element-write-kept
     element-write-kept-2
+    element-write-kept-3
     returns)

@@ -12,7 +12,7 @@ use Rattle.case_notes.proofs.description.give.Tie as tie
 
 -- The lines that say nothing of the numbers.
 abbrev others : List ℕ
-others = 0 ∷ 1 ∷ 2 ∷ 3 ∷ 4 ∷ 18 ∷ 19 ∷ 20 ∷ 21 ∷ 22 ∷ 23 ∷ 24 ∷ 25 ∷ 28 ∷ 29 ∷ 31 ∷ 32 ∷ []
+others = 0 ∷ 1 ∷ 2 ∷ 3 ∷ 4 ∷ 18 ∷ 19 ∷ 20 ∷ 21 ∷ 22 ∷ 23 ∷ 24 ∷ 25 ∷ 28 ∷ 29 ∷ 31 ∷ 32 ∷ 34 ∷ []
 
 other-line : (said : Line) (kept : List ℕ) → OneOf others (tagOf the-type said) → given said kept ≡ fine kept
 unfolding given
@@ -49,6 +49,8 @@ other-line (Line.Record list) kept h = refl
 other-line (Line.RecordBytes n) kept h = absurd (miss others 30 tt h)
 other-line Line.Save kept h = refl
 other-line (Line.Resume asked room) kept h = refl
+other-line (Line.Xret target base wait) kept h = absurd (miss others 33 tt h)
+other-line (Line.Replay r) kept h = refl
 
 enum-known-said : tie.Need-enum-known-said
 enum-known-said c = c .match .keys1
@@ -89,8 +91,8 @@ give-once-requires-3 c κs = tt
 enum-known-said-7 : tie.Need-enum-known-said-7
 enum-known-said-7 c = c .match .keys7
 
-give-register-requires : tie.Need-give-register-requires
-give-register-requires c κs = tt
+give-one-of-32-requires : tie.Need-give-one-of-32-requires
+give-one-of-32-requires c κs = tt
 
 enum-known-said-8 : tie.Need-enum-known-said-8
 enum-known-said-8 c = c .match .keys8
@@ -146,6 +148,12 @@ enum-known-said-16 c = c .match .keys16
 give-once-requires-4 : tie.Need-give-once-requires-4
 give-once-requires-4 c κs = tt
 
+enum-known-said-17 : tie.Need-enum-known-said-17
+enum-known-said-17 c = c .match .keys17
+
+give-transfer-requires-4 : tie.Need-give-transfer-requires-4
+give-transfer-requires-4 c κs = tt
+
 returns : tie.Need-returns
 unfolding given
 returns c = rw (c .before .before .before .said .given .1) (c .give-length .ensures)
@@ -171,7 +179,7 @@ returns-6 c = rw (c .before .before .before .said6 .given .1) (c .give-once3 .en
 
 returns-7 : tie.Need-returns-7
 unfolding given
-returns-7 c = rw (c .before .before .before .said7 .given .1) (c .give-register .ensures)
+returns-7 c = rw (c .before .before .before .said7 .given .1) (c .give-one-of-32 .ensures)
 
 returns-8 : tie.Need-returns-8
 unfolding given
@@ -209,7 +217,11 @@ unfolding given
 returns-16 c = rw (c .before .before .before .said16 .given .1) (c .give-once4 .ensures)
 
 returns-17 : tie.Need-returns-17
-returns-17 c = rw (other-line _ (c .before .args .kept .now) (c .match .keys17))
+unfolding given
+returns-17 c = rw (c .before .before .before .said17 .given .1) (c .give-transfer4 .ensures)
+
+returns-18 : tie.Need-returns-18
+returns-18 c = rw (other-line _ (c .before .args .kept .now) (c .match .keys18))
 
 pub give-spec : {M : Type 1} → statement M
 give-spec =
@@ -228,7 +240,7 @@ give-spec =
     enum-known-said-6
     give-once-requires-3
     enum-known-said-7
-    give-register-requires
+    give-one-of-32-requires
     enum-known-said-8
     give-predicate-requires
     enum-known-said-9
@@ -247,6 +259,8 @@ give-spec =
     give-method-requires
     enum-known-said-16
     give-once-requires-4
+    enum-known-said-17
+    give-transfer-requires-4
     returns
     returns-2
     returns-3
@@ -263,4 +277,5 @@ give-spec =
     returns-14
     returns-15
     returns-16
-    returns-17)
+    returns-17
+    returns-18)

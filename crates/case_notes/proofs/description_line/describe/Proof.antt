@@ -13,7 +13,7 @@ use Rattle.case_notes.proofs.description_line.describe.Tie as tie
 
 -- The lines that fill no buffer but the kept numbers.
 abbrev others : List ℕ
-others = 0 ∷ 1 ∷ 2 ∷ 5 ∷ 6 ∷ 7 ∷ 8 ∷ 9 ∷ 10 ∷ 11 ∷ 12 ∷ 13 ∷ 14 ∷ 15 ∷ 16 ∷ 17 ∷ 21 ∷ 22 ∷ 23 ∷ 24 ∷ 25 ∷ 26 ∷ 27 ∷ 30 ∷ 31 ∷ 32 ∷ []
+others = 0 ∷ 1 ∷ 2 ∷ 5 ∷ 6 ∷ 7 ∷ 8 ∷ 9 ∷ 10 ∷ 11 ∷ 12 ∷ 13 ∷ 14 ∷ 15 ∷ 16 ∷ 17 ∷ 21 ∷ 22 ∷ 23 ∷ 24 ∷ 25 ∷ 26 ∷ 27 ∷ 30 ∷ 31 ∷ 32 ∷ 33 ∷ []
 
 module _ (line code main local cache kept : List ℕ) where
   other-line : (said : Line) → OneOf others (tagOf the-type said) → describedBy line code main local cache kept said ≡ inKept line code main local cache kept (given said kept)
@@ -51,6 +51,8 @@ module _ (line code main local cache kept : List ℕ) where
   other-line (Line.RecordBytes n) h = refl
   other-line Line.Save h = refl
   other-line (Line.Resume asked room) h = refl
+  other-line (Line.Xret target base wait) h = refl
+  other-line (Line.Replay r) h = absurd (miss others 34 tt h)
 
 enum-known-said : tie.Need-enum-known-said
 enum-known-said c = c .match .keys1
@@ -79,17 +81,23 @@ take-list-requires c κs = tt
 enum-known-said-5 : tie.Need-enum-known-said-5
 enum-known-said-5 c = c .match .keys5
 
-memory-word-requires : tie.Need-memory-word-requires
-memory-word-requires c κs = tt
+give-replay-requires : tie.Need-give-replay-requires
+give-replay-requires c κs = tt
 
 enum-known-said-6 : tie.Need-enum-known-said-6
 enum-known-said-6 c = c .match .keys6
 
-memory-word-requires-2 : tie.Need-memory-word-requires-2
-memory-word-requires-2 c κs = tt
+memory-word-requires : tie.Need-memory-word-requires
+memory-word-requires c κs = tt
 
 enum-known-said-7 : tie.Need-enum-known-said-7
 enum-known-said-7 c = c .match .keys7
+
+memory-word-requires-2 : tie.Need-memory-word-requires-2
+memory-word-requires-2 c κs = tt
+
+enum-known-said-8 : tie.Need-enum-known-said-8
+enum-known-said-8 c = c .match .keys8
 
 cache-word-requires : tie.Need-cache-word-requires
 cache-word-requires c κs = tt
@@ -115,18 +123,22 @@ returns-4 c = rw (c .before .before .before .said4 .given .1, ← c .take-list .
 
 returns-5 : tie.Need-returns-5
 unfolding describedBy
-returns-5 c = rw (c .before .before .before .before .said5 .given .1, ← c .memory-word .ensures)
+returns-5 c = rw (c .before .before .before .said5 .given .1, ← c .give-replay .ensures)
 
 returns-6 : tie.Need-returns-6
 unfolding describedBy
-returns-6 c = rw (c .before .before .before .before .said6 .given .1, ← c .memory-word2 .ensures)
+returns-6 c = rw (c .before .before .before .before .said6 .given .1, ← c .memory-word .ensures)
 
 returns-7 : tie.Need-returns-7
 unfolding describedBy
-returns-7 c = rw (c .before .before .before .before .said7 .given .1, ← c .cache-word .ensures)
+returns-7 c = rw (c .before .before .before .before .said7 .given .1, ← c .memory-word2 .ensures)
 
 returns-8 : tie.Need-returns-8
-returns-8 c = rw (other-line _ _ _ _ _ _ _ (c .before .before .match .keys8), ← c .give .ensures)
+unfolding describedBy
+returns-8 c = rw (c .before .before .before .before .said8 .given .1, ← c .cache-word .ensures)
+
+returns-9 : tie.Need-returns-9
+returns-9 c = rw (other-line _ _ _ _ _ _ _ (c .before .before .match .keys9), ← c .give .ensures)
 
 pub describe-spec : {M : Type 1} → statement M
 describe-spec =
@@ -141,10 +153,12 @@ describe-spec =
     enum-known-said-4
     take-list-requires
     enum-known-said-5
-    memory-word-requires
+    give-replay-requires
     enum-known-said-6
-    memory-word-requires-2
+    memory-word-requires
     enum-known-said-7
+    memory-word-requires-2
+    enum-known-said-8
     cache-word-requires
     give-requires
     returns
@@ -154,4 +168,5 @@ describe-spec =
     returns-5
     returns-6
     returns-7
-    returns-8)
+    returns-8
+    returns-9)

@@ -25,6 +25,12 @@ slice-aggregate-say-kept-3 c = search needs
 say-kept-requires-3 : tie.Need-say-kept-requires-3
 say-kept-requires-3 c κs = search needs
 
+slice-aggregate-say-kept-4 : tie.Need-slice-aggregate-say-kept-4
+slice-aggregate-say-kept-4 c = search needs
+
+say-kept-requires-4 : tie.Need-say-kept-requires-4
+say-kept-requires-4 c κs = search needs
+
 slice-aggregate-put : tie.Need-slice-aggregate-put
 slice-aggregate-put c = search needs
 
@@ -57,8 +63,15 @@ same-length-4 c = search needs
 
 returns-4 : tie.Need-returns-4
 unfolding transferLine
-returns-4 c = let n = c .before .before .before .before .before .match .rest in
-    rw (← c .before .before .before .before .before .before .number .ensures, ne-eqb _ _ (n .1), ne-eqb _ _ (n .0 .1), ne-eqb _ _ (n .0 .0 .1)) (c .before .before .put .ensures)
+returns-4 c = rw (← c .before .before .before .before .before .before .number .ensures, c .before .before .before .before .before .match .keys4) (c .before .before .say-kept4 .ensures)
+
+same-length-5 : tie.Need-same-length-5
+same-length-5 c = search needs
+
+returns-5 : tie.Need-returns-5
+unfolding transferLine
+returns-5 c = let n = c .before .before .before .before .before .match .rest in
+    rw (← c .before .before .before .before .before .before .number .ensures, ne-eqb _ _ (n .1), ne-eqb _ _ (n .0 .1), ne-eqb _ _ (n .0 .0 .1), ne-eqb _ _ (n .0 .0 .0 .1)) (c .before .before .put .ensures)
 
 pub put-transfer-spec : {M : Type 1} → statement M
 put-transfer-spec =
@@ -71,6 +84,8 @@ put-transfer-spec =
     say-kept-requires-2
     slice-aggregate-say-kept-3
     say-kept-requires-3
+    slice-aggregate-say-kept-4
+    say-kept-requires-4
     slice-aggregate-put
     put-requires
     same-length
@@ -80,4 +95,6 @@ put-transfer-spec =
     same-length-3
     returns-3
     same-length-4
-    returns-4)
+    returns-4
+    same-length-5
+    returns-5)

@@ -16,14 +16,18 @@ put-products-requires c κs = search needs
 put-held-requires : tie.Need-put-held-requires
 put-held-requires c κs = search needs
 
+put-replay-requires : tie.Need-put-replay-requires
+put-replay-requires c κs = search needs
+
 same-length : tie.Need-same-length
 same-length c = search needs
 
 returns : tie.Need-returns
 unfolding waitingText
-returns c = text-then _ _ _ _ _ (c .before .before .before .before .before .before .before .before .before .before .before .before .before .before .put-transfer .ensures)
-    (text-then _ _ _ _ _ (c .before .before .before .before .before .before .before .before .before .before .put-load .ensures)
-    (text-then _ _ _ _ _ (c .before .before .before .before .before .before .put-products .ensures) (c .before .before .put-held .ensures)))
+returns c = text-then _ _ _ _ _ (c .before .before .before .before .before .before .before .before .before .before .before .before .before .before .before .before .before .before .put-transfer .ensures)
+    (text-then _ _ _ _ _ (c .before .before .before .before .before .before .before .before .before .before .before .before .before .before .put-load .ensures)
+    (text-then _ _ _ _ _ (c .before .before .before .before .before .before .before .before .before .before .put-products .ensures)
+    (text-then _ _ _ _ _ (c .before .before .before .before .before .before .put-held .ensures) (c .before .before .put-replay .ensures))))
 
 pub put-waiting-spec : {M : Type 1} → statement M
 put-waiting-spec =
@@ -33,5 +37,6 @@ put-waiting-spec =
     put-load-requires
     put-products-requires
     put-held-requires
+    put-replay-requires
     same-length
     returns)

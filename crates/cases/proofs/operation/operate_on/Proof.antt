@@ -16,7 +16,7 @@ part-operate-start : tie.Need-part-operate-start
 part-operate-start c = omega arith
 
 part-operate-end : tie.Need-part-operate-end
-part-operate-end c = omega (arith, c .before .before .extents-of .ensures .0, c .before .before .before .before .before .before .before .before .pre .0)
+part-operate-end c = omega (arith, c .before .before .extents-of .ensures .0, c .before .before .before .before .before .before .before .before .before .before .pre .0)
 
 sub-operate-2 : tie.Need-sub-operate-2
 sub-operate-2 c = omega arith
@@ -25,7 +25,7 @@ part-operate-start-2 : tie.Need-part-operate-start-2
 part-operate-start-2 c = omega arith
 
 part-operate-end-2 : tie.Need-part-operate-end-2
-part-operate-end-2 c = omega (arith, c .before .before .before .extents-of .ensures .1, c .before .before .before .before .before .before .before .before .before .pre .1)
+part-operate-end-2 c = omega (arith, c .before .before .before .extents-of .ensures .1, c .before .before .before .before .before .before .before .before .before .before .before .pre .1)
 
 sub-operate-3 : tie.Need-sub-operate-3
 sub-operate-3 c = omega arith
@@ -34,7 +34,7 @@ part-operate-start-3 : tie.Need-part-operate-start-3
 part-operate-start-3 c = omega arith
 
 part-operate-end-3 : tie.Need-part-operate-end-3
-part-operate-end-3 c = omega (arith, c .before .before .before .before .extents-of .ensures .2, c .before .before .before .before .before .before .before .before .before .before .pre .2)
+part-operate-end-3 c = omega (arith, c .before .before .before .before .extents-of .ensures .2, c .before .before .before .before .before .before .before .before .before .before .before .before .pre .2)
 
 sub-operate-4 : tie.Need-sub-operate-4
 sub-operate-4 c = omega arith
@@ -43,7 +43,7 @@ part-operate-start-4 : tie.Need-part-operate-start-4
 part-operate-start-4 c = omega arith
 
 part-operate-end-4 : tie.Need-part-operate-end-4
-part-operate-end-4 c = omega (arith, c .before .before .before .before .before .extents-of .ensures .3, c .before .before .before .before .before .before .before .before .before .before .before .pre .3)
+part-operate-end-4 c = omega (arith, c .before .before .before .before .before .extents-of .ensures .3, c .before .before .before .before .before .before .before .before .before .before .before .before .before .pre .3)
 
 operate-requires : tie.Need-operate-requires
 operate-requires c κs = tt

@@ -35,6 +35,15 @@ no-transfer-requires-3 c κs = tt
 go-on-requires-3 : tie.Need-go-on-requires-3
 go-on-requires-3 c κs = tt
 
+enum-known-transfer-4 : tie.Need-enum-known-transfer-4
+enum-known-transfer-4 c = c .match .keys4
+
+no-transfer-requires-4 : tie.Need-no-transfer-requires-4
+no-transfer-requires-4 c κs = tt
+
+go-on-requires-4 : tie.Need-go-on-requires-4
+go-on-requires-4 c κs = tt
+
 returns : tie.Need-returns
 unfolding transferred
 returns c = let w = c .go-on .ensures in record { state = λ rs ps. rw (c .before .before .before .transfer .given .1) (w .state rs ps ∙ rw (c .before .no-transfer .ensures, transfer-back transfer.Nothing)); transfer = w .transfer ∙ c .before .no-transfer .ensures; load = w .load; products = w .products }
@@ -46,6 +55,10 @@ returns-2 c = let w = c .go-on2 .ensures in record { state = λ rs ps. rw (c .be
 returns-3 : tie.Need-returns-3
 unfolding transferred
 returns-3 c = let w = c .go-on3 .ensures in record { state = λ rs ps. rw (c .before .before .before .transfer3 .given .1) (w .state rs ps ∙ rw (c .before .no-transfer3 .ensures, transfer-back transfer.Nothing)); transfer = w .transfer ∙ c .before .no-transfer3 .ensures; load = w .load; products = w .products }
+
+returns-4 : tie.Need-returns-4
+unfolding transferred
+returns-4 c = let w = c .go-on4 .ensures in record { state = λ rs ps. rw (c .before .before .before .before .transfer4 .given .1) (w .state rs ps ∙ rw (c .before .no-transfer4 .ensures, transfer-back transfer.Nothing)); transfer = w .transfer ∙ c .before .no-transfer4 .ensures; load = w .load; products = w .products }
 
 pub transfer-spec : {M : Type 1} → statement M
 transfer-spec =
@@ -61,6 +74,10 @@ transfer-spec =
     enum-known-transfer-3
     no-transfer-requires-3
     go-on-requires-3
+    enum-known-transfer-4
+    no-transfer-requires-4
+    go-on-requires-4
     returns
     returns-2
-    returns-3)
+    returns-3
+    returns-4)

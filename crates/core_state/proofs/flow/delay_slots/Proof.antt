@@ -11,6 +11,9 @@ enum-told-2 c = c .match .keys2
 enum-told-3 : tie.Need-enum-told-3
 enum-told-3 c = c .match .keys3
 
+enum-told-4 : tie.Need-enum-told-4
+enum-told-4 c = c .match .keys4
+
 returns : tie.Need-returns
 unfolding delaySlots
 returns c = rw (c .enum-told .given .1)
@@ -23,6 +26,10 @@ returns-3 : tie.Need-returns-3
 unfolding delaySlots
 returns-3 c = rw (c .enum-told3 .given .1)
 
+returns-4 : tie.Need-returns-4
+unfolding delaySlots
+returns-4 c = rw (c .enum-told4 .given .1)
+
 pub delay-slots-spec : {M : Type 1} → statement M
 delay-slots-spec =
-    tie.close (tie.spec enum-told enum-told-2 enum-told-3 returns returns-2 returns-3)
+    tie.close (tie.spec enum-told enum-told-2 enum-told-3 enum-told-4 returns returns-2 returns-3 returns-4)

@@ -13,7 +13,11 @@ returns-2 c = rw (ne-eqb _ _ (c .before .before .if1 .left), eq-eqb _ _ (c .if2 
 
 returns-3 : tie.Need-returns-3
 unfolding transferIn
-returns-3 c = rw (ne-eqb _ _ (c .before .before .if1 .left), ne-eqb _ _ (c .if2 .left))
+returns-3 c = rw (ne-eqb _ _ (c .before .before .before .before .if1 .left), ne-eqb _ _ (c .before .before .if2 .left), eq-eqb _ _ (c .if3 .taken))
+
+returns-4 : tie.Need-returns-4
+unfolding transferIn
+returns-4 c = rw (ne-eqb _ _ (c .before .before .before .before .if1 .left), ne-eqb _ _ (c .before .before .if2 .left), ne-eqb _ _ (c .if3 .left))
 
 pub transfer-in-spec : {M : Type 1} → statement M
-transfer-in-spec = tie.close (tie.spec returns returns-2 returns-3)
+transfer-in-spec = tie.close (tie.spec returns returns-2 returns-3 returns-4)

@@ -25,8 +25,8 @@ returns c = rw (c .enum-told .given .1)
 
 returns-2 : tie.Need-returns-2
 returns-2 c =
-    let a = c .before .before .before .args in
-    let Of : Instruction → Type 0 = λ x. c .slot-one-effect .result ≡ slotOneEffect (start (a .registers .now) (a .predicates .now) (a .specials) (a .fetch)) x in
+    let a = c .before .before .before .before .args in
+    let Of : Instruction → Type 0 = λ x. c .slot-one-effect .result ≡ slotOneEffect (start (a .registers .now) (a .predicates .now) (a .specials) (a .fetch) (a .table .now)) x in
     let e = c .slot-one-effect .ensures in
     ⊎-elim (λ w. rw (w .1 .given .1) (subst Of (w .3) e)) (⊎-elim (λ w. rw (w .1 .given .1) (subst Of (w .3) e)) (λ w. rw (w .1 .given .1) (subst Of (w .3) e))) (c .before .match .came)
 

@@ -17,16 +17,16 @@ enum-told-3 : tie.Need-enum-told-3
 enum-told-3 c = c .match .keys4
 
 returns : tie.Need-returns
-returns c = λ x f. rw (c .enum-told .given .1)
+returns c = λ x f table. rw (c .enum-told .given .1)
 
 returns-2 : tie.Need-returns-2
-returns-2 c = λ x f. rw (c .enum-told2 .given .1)
+returns-2 c = λ x f table. rw (c .enum-told2 .given .1)
 
 returns-3 : tie.Need-returns-3
-returns-3 c = λ x f. rw (c .before .before .b .given .1) (c .slot-two-effect .ensures)
+returns-3 c = λ x f table. rw (c .before .before .b .given .1) (c .slot-two-effect .ensures)
 
 returns-4 : tie.Need-returns-4
-returns-4 c = λ x f. rw (c .enum-told3 .given .1)
+returns-4 c = λ x f table. rw (c .enum-told3 .given .1)
 
 pub slot-two-spec : {M : Type 1} → statement M
 slot-two-spec =

@@ -60,31 +60,31 @@ add-requires-3 c κs = tt
 
 returns : tie.Need-returns
 unfolding transferOf
-returns c = λ ps. rw (c .before .before .t .given .1, ← c .shift-left .ensures)
+returns c = λ ps table. rw (c .before .before .t .given .1, ← c .shift-left .ensures)
 
 returns-2 : tie.Need-returns-2
 unfolding transferOf
-returns-2 c = λ ps. rw (c .before .before .t2 .given .1, ← c .register .ensures)
+returns-2 c = λ ps table. rw (c .before .before .t2 .given .1, ← c .register .ensures)
 
 returns-3 : tie.Need-returns-3
 unfolding transferOf
-returns-3 c = λ ps. rw (c .before .before .before .before .t3 .given .1, c .add .ensures, c .before .shift-left2 .ensures, c .before .before .unsigned .ensures, toZ-ofZ w32 (c .before .before .before .before .t3 .given .0 .0) (record { sfits = c .before .before .before .known-told3 .given .0 .1 }))
+returns-3 c = λ ps table. rw (c .before .before .before .before .t3 .given .1, c .add .ensures, c .before .shift-left2 .ensures, c .before .before .unsigned .ensures, toZ-ofZ w32 (c .before .before .before .before .t3 .given .0 .0) (record { sfits = c .before .before .before .known-told3 .given .0 .1 }))
 
 returns-4 : tie.Need-returns-4
 unfolding transferOf
-returns-4 c = λ ps. rw (c .before .before .t4 .given .1, ← c .register2 .ensures)
+returns-4 c = λ ps table. rw (c .before .before .t4 .given .1, ← c .register2 .ensures)
 
 returns-5 : tie.Need-returns-5
 unfolding transferOf
-returns-5 c = λ ps. rw (c .before .before .t5 .given .1, ← c .shift-left3 .ensures)
+returns-5 c = λ ps table. rw (c .before .before .t5 .given .1, ← c .shift-left3 .ensures)
 
 returns-6 : tie.Need-returns-6
 unfolding transferOf
-returns-6 c = λ ps. rw (c .before .before .before .before .t6 .given .1, ← c .before .before .register3 .ensures, ← c .before .register4 .ensures, ← c .add2 .ensures)
+returns-6 c = λ ps table. rw (c .before .before .before .before .t6 .given .1, ← c .before .before .register3 .ensures, ← c .before .register4 .ensures, ← c .add2 .ensures)
 
 returns-7 : tie.Need-returns-7
 unfolding transferOf
-returns-7 c = λ ps. rw (c .before .enum-told .given .1, ← c .add3 .ensures)
+returns-7 c = λ ps table. rw (c .before .enum-told .given .1, ← c .add3 .ensures)
 
 pub transfer-of-spec : {M : Type 1} → statement M
 transfer-of-spec =

@@ -1,6 +1,6 @@
 use Rattle.entries.specs.Entries.{calledOf, called}
 use Rattle.resume_model.specs.Resume.{restepped}
-use Rattle.settings.specs.Setup.{setup}
+use Rattle.settings.specs.Setup.{replaying, setup}
 use Rattle.settings.specs.declared.Config.{Config}
 use Prim.Native.Nat.{ℕ, _-_}
 use mathlib.Core.Path.{ap, _∙_}
@@ -41,11 +41,11 @@ same-length-3 c = search needs
 -- src/running.rt:21:1
 returns : tie.Need-returns
 returns c =
-    let a = c .before .before .before .before .before .before .before .before .before .before .before .before .before .before .before .before .before .args in
+    let a = c .before .before .before .before .before .before .before .before .before .before .before .before .before .before .before .before .before .before .before .args in
     let r = c .before .before .before .before .before .before .before .restep in
     ap (λ (n : ℕ). calledOf n (r .last .1 .1 .0) (r .last .1 .1 .1 .0) (r .last .1 .1 .1 .1 .0)) (c .number-of .ensures)
     ∙ ap called (r .ensures)
-    ∙ ap (λ (k : Config). called (restepped (setup (now (a .code)) k) (a .words) (now (a .stopped)) (now (a .main)) (now (a .local)) (now (a .out)))) (c .before .before .before .before .before .before .before .before .before .before .before .config-of .ensures)
+    ∙ ap (λ (k : Config). called (restepped (replaying (now (a .list)) (now (a .table)) (setup (now (a .code)) k)) (a .words) (now (a .stopped)) (now (a .main)) (now (a .local)) (now (a .out)))) (c .before .before .before .before .before .before .before .before .before .before .before .config-of .ensures)
 
 pub laqemdit-step-spec : {M : Type 1} → statement M
 laqemdit-step-spec =

@@ -9,16 +9,13 @@ use Rattle.record_parts.proofs.form.is_transfer.Reads as reads
 use Rattle.record_parts.proofs.form.is_transfer.Lts as lts
 use Rattle.sections.proofs.word_at.Reads as word-at-reads
 
--- src/form.rt:23:9
 word-at-requires : tie.Need-word-at-requires
 word-at-requires c κs = search needs
 
--- src/form.rt:25:9
 returns : tie.Need-returns
 unfolding isTransfer
 returns c = rw (words-length (now (c .before .before .before .args .part)), ← c .before .word-at .ensures, le-leb _ _ (c .if1 .taken))
 
--- src/form.rt:19:1
 returns-2 : tie.Need-returns-2
 unfolding isTransfer
 returns-2 c = rw (words-length (now (c .before .before .before .args .part)), ← c .before .word-at .ensures, lt-leb _ _ (c .if1 .left))

@@ -11,7 +11,7 @@ product-words-requires : tie.Need-product-words-requires
 product-words-requires c κs = tt
 
 returns : tie.Need-returns
-returns c = rw (c .before .before .transfer-words .ensures, c .before .load-words .ensures, c .product-words .ensures)
+returns c = rw (c .before .before .before .transfer-words .ensures, c .before .before .load-words .ensures, c .before .product-words .ensures)
 
 pub core-spec : {M : Type 1} → statement M
 core-spec = tie.close (tie.spec transfer-words-requires load-words-requires product-words-requires returns)

@@ -14,7 +14,7 @@ products-in-requires c κs = tt
 
 returns : tie.Need-returns
 unfolding stateOf
-returns c = (rw (c .before .before .before .before .waiting-transfer .ensures, c .before .before .waiting-load .ensures, c .products-in .ensures) refl, refl)
+returns c = (rw (c .before .before .before .before .before .waiting-transfer .ensures, c .before .before .before .waiting-load .ensures, c .before .products-in .ensures) refl, refl)
 
 pub join-spec : {M : Type 1} → statement M
 join-spec =

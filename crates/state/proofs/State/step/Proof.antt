@@ -1,6 +1,6 @@
 use mathlib.Core.Path.{sym, ap, subst, _∙_}
 use Rattle.method_cache.specs.Words.{heldIn, FixedHeld}
-use Rattle.settings.specs.Setup.{setup, buffers}
+use Rattle.settings.specs.Setup.{replaying, setup, buffers}
 use Rattle.core_state.specs.declared.Core.{Core}
 use Rattle.core_state.specs.State.{State, withHeld}
 use Rattle.core_state.specs.Core.{joined}
@@ -34,8 +34,8 @@ same-length-3 c = search needs
 
 returns : tie.Need-returns
 returns c =
-    let a = c .before .before .before .before .before .before .before .before .before .before .before .before .before .before .before .before .before .before .before .before .before .before .before .before .before .before .args in
-    let x = setup (a .code .now) (a .config) in
+    let a = c .before .before .before .before .before .before .before .before .before .before .before .before .before .before .before .before .before .before .before .before .before .before .before .before .before .before .before .before .args in
+    let x = replaying (a .list .now) (a .table .now) (setup (a .code .now) (a .config)) in
     let b = buffers (a .main .now) (a .local .now) (a .cache .now) in
     let t = tidied (a .self) (c .before .before .before .before .before .before .before .before .before .before .before .before .before .before .before .before .before .tidy .last .0) (c .before .before .before .before .before .before .before .before .before .before .before .before .before .before .before .before .before .tidy .ensures .1) (c .before .before .before .before .before .before .before .before .before .before .before .before .before .before .before .before .before .tidy .ensures .0) in
     let start = ap (λ (y : Core). withHeld (joined (a .self .registers) (a .self .predicates) y) (heldIn (c .before .before .before .before .before .before .before .before .before .before .before .before .before .before .before .before .before .tidy .last .0))) (c .before .before .before .before .before .before .before .before .before .before .before .before .before .before .before .before .core .ensures) ∙ t .0 in (

@@ -1,0 +1,3 @@
+-- Open first: Replay.antt.
+pub mod Replay
+pub mod ReplayLaws
