@@ -3,9 +3,10 @@ use Prim.Native.Nat.{ℕ}
 use mathlib.Core.Bool.{true}
 use mathlib.Core.Option.{some}
 use mathlib.Core.Path.{_≡_, sym, ap, subst, _∙_}
+use mathlib.Core.List.{List}
 use lib.ListN.{length, getElem?}
 use Rattle.answers.specs.Answer.{accepted}
-use Rattle.settings.specs.Setup.{Setup, Buffers}
+use Rattle.settings.specs.Setup.{Setup, replaying, Buffers}
 use Rattle.core_state.specs.State.{Shaped}
 use Rattle.bundle_model.specs.Counts.{noCounts}
 use Rattle.bundle_model.specs.Bundle.{Outcome, wellFormed}
@@ -31,15 +32,18 @@ pub record Ran-as (x : Setup) (budget : ℕ) (start : struct.State) (b : Buffers
   pub shaped : Shaped (stateOf start)
 
 -- The check has accepted the code, and two runs of it, from well-formed states that agree on everything public, met no stopping event: then
--- they returned the same answer and the same counts, and left what agrees.
-pub even-returns : (x : Setup) (budget : ℕ) (m : Marking) (q₁ q₂ : struct.State) (b₁ b₂ : Buffers) (v : Checked) (r₁ r₂ : Ran) (after₁ after₂ : Buffers)
-    → returned v ≡ checked x (length (b₁ .main)) (length (b₁ .local)) (length (b₁ .cache)) m → v ≡ Accepted
-    → Ran-as x budget q₁ b₁ r₁ after₁ → Ran-as x budget q₂ b₂ r₂ after₂
+-- they returned the same answer and the same counts, and left what agrees. The check is asked without list and table, of which it says nothing.
+pub even-returns : (z : Setup) (list table : List ℕ) (budget : ℕ) (m : Marking) (q₁ q₂ : struct.State) (b₁ b₂ : Buffers) (v : Checked) (r₁ r₂ : Ran) (after₁ after₂ : Buffers)
+    → returned v ≡ checked z (length (b₁ .main)) (length (b₁ .local)) (length (b₁ .cache)) m → v ≡ Accepted
+    → let x = replaying list table z in
+    Ran-as x budget q₁ b₁ r₁ after₁ → Ran-as x budget q₂ b₂ r₂ after₂
     → wellFormed x (stateOf q₁) ≡ true → wellFormed x (stateOf q₂) ≡ true → Agree m x (stateOf q₁) b₁ (stateOf q₂) b₂
     → ((j : ℕ) (t : Tried) → getElem? (tries x budget (stateOf q₁) b₁ noCounts) j ≡ some t → ¬ Stops m (x .code) t)
     → ((j : ℕ) (t : Tried) → getElem? (tries x budget (stateOf q₂) b₂ noCounts) j ≡ some t → ¬ Stops m (x .code) t)
     → SameOutcome m x (whole r₁ after₁) (whole r₂ after₂)
-even-returns x budget m q₁ q₂ b₁ b₂ v r₁ r₂ after₁ after₂ c e p₁ p₂ w₁ w₂ a n₁ n₂ =
+unfolding checked
+even-returns z list table budget m q₁ q₂ b₁ b₂ v r₁ r₂ after₁ after₂ c e p₁ p₂ w₁ w₂ a n₁ n₂ =
+    let x = replaying list table z in
     subst (λ (o : Outcome). SameOutcome m x o (whole r₂ after₂)) (sym (p₁ .outcome))
     (subst (λ (o : Outcome). SameOutcome m x (run x budget (stateOf q₁) b₁) o) (sym (p₂ .outcome))
     (even-runs x budget m (stateOf q₁) (stateOf q₂) b₁ b₂ (sym c ∙ ap returned e) (p₁ .shaped) (p₂ .shaped) w₁ w₂ a n₁ n₂))
