@@ -2,6 +2,7 @@
 pub mod Run
 pub mod RunLaws
 pub mod RefusalLaws
+pub mod ReplayLaws
 pub mod SplitLaws
 pub mod TriesLaws
 pub mod Loop
