@@ -1,4 +1,5 @@
 // What the ALU, compare, predicate and multiply functions give.
+#![tactic(auto)]
 ghost use Rattle.std.specs.Prelude.{◌≡◌};
 ghost use Rattle.alu.specs.Alu.{arithmetic, multiply, compare, combine};
 

@@ -1,9 +1,10 @@
 // What an operation that either slot can hold does, as a value, and the special registers that an operation can read.
+#![tactic(auto)]
 pub mod either_slot;
 pub mod special;
 
 // What either slot can do.
-#[derive(Drop)]
+#[derive(Clone, Copy)]
 pub enum AluEffect {
     Nothing,
     Register { rd: u32, value: u32 },
@@ -11,7 +12,7 @@ pub enum AluEffect {
 }
 
 // The special registers beside s0, which is the predicates.
-#[derive(Drop)]
+#[derive(Clone, Copy)]
 pub struct Specials {
     pub sl: u32,
     pub sh: u32,

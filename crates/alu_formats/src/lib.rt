@@ -1,4 +1,5 @@
 // The ALU formats: what either slot can hold, and the long immediate.
+#![tactic(auto)]
 ghost use Rattle.std.specs.Prelude.{◌≡◌};
 ghost use Rattle.std.proofs.Math.Option.{some};
 ghost use Rattle.isa.specs.Format.{reading, row};
@@ -8,7 +9,7 @@ ghost use Rattle.alu_formats.specs.Readings.{alu_found};
 
 use isa::{AluOperation, AluRow, CompareRow, Op2, PredicateOperand, PredicateRow};
 
-#[derive(Drop)]
+#[derive(Clone, Copy)]
 pub enum AluReading {
     Nothing,
     Found(AluOperation),

@@ -1,4 +1,5 @@
 // The text of a bundle, read: what a case file asks to be written.
+#![tactic(auto)]
 pub mod reading;
 
 use case_file::Reason;
@@ -6,7 +7,7 @@ use encoder::Written;
 use isa::Instruction;
 
 // An instruction, and the position after it.
-#[derive(Drop)]
+#[derive(Clone, Copy)]
 pub enum InstructionRead {
     Found {
         instruction: Instruction,
@@ -16,7 +17,7 @@ pub enum InstructionRead {
 }
 
 // The words of the bundle whose text is the rest of a line, or what is wrong with it.
-#[derive(Drop)]
+#[derive(Clone, Copy)]
 pub enum WordsRead {
     Words(Written),
     Mistake(Reason),

@@ -1,4 +1,5 @@
 // The one table by which the text of instructions is read and put, and the text of operands.
+#![tactic(auto)]
 pub mod operand_text;
 pub mod operands;
 pub mod table;
@@ -6,21 +7,21 @@ pub mod table;
 use case_file::Reason;
 
 // An operand: its number, and whether `!` stands before it. A special register's number is that of its field.
-#[derive(Drop)]
+#[derive(Clone, Copy)]
 pub struct Operand {
     pub negated: bool,
     pub number: u32,
 }
 
 // An instruction's name: its form's place in the table, and the number of its function.
-#[derive(Drop)]
+#[derive(Clone, Copy)]
 pub struct Mnemonic {
     pub form: u32,
     pub function: u32,
 }
 
 // An operand, and the position after its field.
-#[derive(Drop)]
+#[derive(Clone, Copy)]
 pub enum OperandRead {
     Found { operand: Operand, next: usize },
     Mistake(Reason),

@@ -1,4 +1,5 @@
 // What an operation and a bundle are found to break. Where `guard` is a parameter it says whether the guard is private.
+#![tactic(auto)]
 ghost use Rattle.std.specs.Prelude.{true, ◌≡◌};
 ghost use Rattle.marking_rules.specs.Rules.{asked, operation_breaks, instruction_breaks, breaks};
 ghost use Rattle.broken_rules.specs.Found.{right, slot_two_breaks, first_found};
@@ -8,7 +9,7 @@ use marking::Marking;
 use marking_rules::{Asked, Rule, asked_of, asked_of_alu};
 
 // No rule is broken, or one is.
-#[derive(Drop)]
+#[derive(Clone, Copy)]
 pub enum Found {
     Nothing,
     Breaks(Rule),

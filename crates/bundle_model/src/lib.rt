@@ -1,12 +1,13 @@
 // What a bundle does: its refusals, its writes and counts, and the step, in specs/. Here are the types of what it gives, how they are
 // made, and what is judged before.
+#![tactic(auto)]
 pub mod outcome;
 pub mod ready;
 
 use core_state::Core;
 
 // What a step answers; Refused holds document 01's number.
-#[derive(Drop)]
+#[derive(Clone, Copy)]
 pub enum Answer {
     Done,
     Ended,
@@ -14,7 +15,7 @@ pub enum Answer {
 }
 
 // What is judged before a bundle is tried; Refused holds document 01's number.
-#[derive(Drop)]
+#[derive(Clone, Copy)]
 pub enum Readiness {
     Ready,
     Ended,
@@ -22,7 +23,7 @@ pub enum Readiness {
 }
 
 // The six counts.
-#[derive(Drop)]
+#[derive(Clone, Copy)]
 pub struct Counts {
     pub bundles: u64,
     pub cycles: u64,
@@ -33,14 +34,14 @@ pub struct Counts {
 }
 
 // A bundle's answer, with the state beside what is lent handed back. What is counted is added to numbers that are lent.
-#[derive(Drop)]
+#[derive(Clone, Copy)]
 pub struct Bundled {
     pub answer: Answer,
     pub core: Core,
 }
 
 // The same after any number of bundles, with their counts.
-#[derive(Drop)]
+#[derive(Clone, Copy)]
 pub struct Advanced {
     pub answer: Answer,
     pub core: Core,
@@ -49,7 +50,7 @@ pub struct Advanced {
 
 // Slot one carried out on the stores: refused with a number, or done. What is done tells the value that was loaded, and where a stack
 // instruction leaves st and ss; what does not apply is 0.
-#[derive(Drop)]
+#[derive(Clone, Copy)]
 pub enum Carried {
     Refused(u32),
     Done { value: u32, st: u32, ss: u32 },

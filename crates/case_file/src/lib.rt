@@ -1,4 +1,5 @@
 // Case files: what a line says. Nothing here does what a line asks.
+#![tactic(auto)]
 pub mod arguments;
 pub mod lines;
 mod number_lines;
@@ -7,14 +8,14 @@ mod record_lines;
 use case_words::{Item, SpecialName};
 
 // A number or word, and the position after its field.
-#[derive(Drop)]
+#[derive(Clone, Copy)]
 pub enum Argument {
     Value { value: u32, next: usize },
     Mistake(Reason),
 }
 
 // The next entry of a code or record line, or of a held line.
-#[derive(Drop)]
+#[derive(Clone, Copy)]
 pub enum CodeEntry {
     Word { word: u32, next: usize },
     Mistake(Reason),
@@ -22,7 +23,7 @@ pub enum CodeEntry {
 }
 
 // The next entry of a private line.
-#[derive(Drop)]
+#[derive(Clone, Copy)]
 pub enum PrivateEntry {
     Item { item: Item, next: usize },
     Mistake(Reason),
@@ -31,7 +32,7 @@ pub enum PrivateEntry {
 
 // A line by its keyword. Case holds the position of the name, Code, Private, Held and Record that of their lists,
 // Write that of the text of a bundle.
-#[derive(Drop)]
+#[derive(Clone, Copy)]
 pub enum Line {
     Empty,
     Mistake(Reason),
@@ -72,7 +73,7 @@ pub enum Line {
 
 // What a line says of the replay: a record of the list; an entry of the table; how many bytes of either are handed in; and of the first
 // state that a handler is active, the list place, and the bundles done.
-#[derive(Drop)]
+#[derive(Clone, Copy)]
 pub enum ReplayLine {
     Interrupt { number: u32, vector: u32 },
     Handler { vector: u32, address: u32 },
@@ -84,21 +85,21 @@ pub enum ReplayLine {
 }
 
 // What goes on from a record: a run with a budget, or one step.
-#[derive(Drop)]
+#[derive(Clone, Copy)]
 pub enum Resumption {
     Run(u32),
     Step,
 }
 
 // The bytes that a record is written into: as many as the longest has, or so many.
-#[derive(Drop)]
+#[derive(Clone, Copy)]
 pub enum Room {
     Longest,
     Bytes(u32),
 }
 
 // The lines of two numbers.
-#[derive(Drop)]
+#[derive(Clone, Copy)]
 pub enum TwoNumbers {
     Pred,
     Br,
@@ -109,7 +110,7 @@ pub enum TwoNumbers {
 }
 
 // The lines of three numbers.
-#[derive(Drop)]
+#[derive(Clone, Copy)]
 pub enum ThreeNumbers {
     Stack,
     Block,
@@ -117,7 +118,7 @@ pub enum ThreeNumbers {
 }
 
 // Why a line is a mistake.
-#[derive(Drop)]
+#[derive(Clone, Copy)]
 pub enum Reason {
     UnknownWord,
     FieldMissing,

@@ -1,4 +1,5 @@
 // A file, read in pieces and cut into lines.
+#![tactic(auto)]
 ghost use Rattle.std.specs.Prelude.{◌≡◌};
 ghost use Rattle.case_input.specs.Input.{closed, going_on, at_file_end, Piece, after_byte, line_after_byte, Look};
 
@@ -7,7 +8,7 @@ use case_kept::buffers::{Bytes, LineBytes, least};
 const LONGEST: usize = 4000;
 
 // What a look at the file gave: a line of some bytes, or why there is none.
-#[derive(Drop)]
+#[derive(Clone, Copy)]
 pub enum Found {
     Nothing,
     Line(usize),
@@ -18,7 +19,7 @@ pub enum Found {
 
 // The bytes of the piece from at to end are not taken yet, and held bytes of a line that has not ended are. A file that has
 // ended is not read again.
-#[derive(Drop)]
+#[derive(Clone, Copy)]
 pub struct Input {
     pub at: usize,
     pub end: usize,

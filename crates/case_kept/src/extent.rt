@@ -6,7 +6,7 @@ use crate::buffers::{CACHE_COPY, COPY, least};
 use crate::kept::{CODE, HI, Kept, LO, LOCAL, MAIN, WORDS, word};
 
 // The bytes of the code and the memories, how many words of the cache are lent, and the stack area.
-#[derive(Drop)]
+#[derive(Clone, Copy)]
 pub struct Extents {
     pub code: usize,
     pub main: usize,

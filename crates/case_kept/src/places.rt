@@ -7,7 +7,7 @@ use crate::buffers::least;
 use crate::kept::{Kept, LINE, LOCAL, MAIN, NOTED, NOTES, REACH, WORDS, keep, number};
 
 // The memories that have places.
-#[derive(Drop)]
+#[derive(Clone, Copy)]
 pub enum Store {
     Main,
     Local,
@@ -15,7 +15,7 @@ pub enum Store {
 }
 
 // The line of the first place outside its store.
-#[derive(Drop)]
+#[derive(Clone, Copy)]
 pub enum Outside {
     Line(u64),
     Nowhere,

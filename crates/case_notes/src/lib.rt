@@ -1,4 +1,5 @@
 // What a case says: its description and its marking, put among the kept numbers. Nothing here reads, writes or does a bundle.
+#![tactic(auto)]
 pub mod description;
 pub mod description_line;
 pub mod held;
@@ -11,14 +12,14 @@ pub mod waiting;
 use case_file::Reason;
 
 // Whether a line was taken, or why it is a mistake.
-#[derive(Drop)]
+#[derive(Clone, Copy)]
 pub enum Judged {
     Fine,
     Mistake(Reason),
 }
 
 // A list that lines of a case give: the bases of the blocks held, or the words of the record.
-#[derive(Drop)]
+#[derive(Clone, Copy)]
 pub enum Listed {
     Held,
     Record,

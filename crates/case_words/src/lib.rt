@@ -1,4 +1,5 @@
 // The words that a line can start with, and the names that it can hold.
+#![tactic(auto)]
 ghost use Rattle.std.specs.Prelude.{◌≡◌};
 ghost use Rattle.case_words.specs.Names.{look_up, meaning_at, keywords, keyword_of, transfer_kinds, transfer_kind_of, special_names, special_name_of};
 ghost use Rattle.case_words.specs.Names.{numbered, other_items, item_of};
@@ -8,7 +9,7 @@ use text::numbers::decimal;
 use text::table::row_of;
 
 // The first word of a line.
-#[derive(Drop)]
+#[derive(Clone, Copy)]
 pub enum Keyword {
     Case,
     Code,
@@ -37,7 +38,7 @@ pub enum Keyword {
 }
 
 // The keywords that one number follows.
-#[derive(Drop)]
+#[derive(Clone, Copy)]
 pub enum OneNumber {
     Main,
     Local,
@@ -53,7 +54,7 @@ pub enum OneNumber {
 }
 
 // The keywords that a number and a word follow.
-#[derive(Drop)]
+#[derive(Clone, Copy)]
 pub enum NumberAndWord {
     Reg,
     Load,
@@ -63,7 +64,7 @@ pub enum NumberAndWord {
 }
 
 // The kinds of a waiting transfer.
-#[derive(Drop)]
+#[derive(Clone, Copy)]
 pub enum TransferKind {
     Br,
     Call,
@@ -73,7 +74,7 @@ pub enum TransferKind {
 }
 
 // The special registers that a case can set.
-#[derive(Drop)]
+#[derive(Clone, Copy)]
 pub enum SpecialName {
     Sl,
     Sh,
@@ -87,7 +88,7 @@ pub enum SpecialName {
 }
 
 // An item of a marking.
-#[derive(Drop)]
+#[derive(Clone, Copy)]
 pub enum Item {
     Register(u32),
     Predicate(u32),

@@ -1,5 +1,6 @@
 // Runs the cases of a case file and writes their report to standard output. Where there is nothing to read, it says so on
 // standard error.
+#![tactic(auto)]
 mod answer_lines;
 mod check_code;
 mod kept_state;
@@ -17,7 +18,7 @@ use lines::read_all;
 
 // What is asked for of an opened case: the check of its code, a step, a run with a budget, the record of its state, or to go on from
 // the record that it gives.
-#[derive(Drop)]
+#[derive(Clone, Copy)]
 enum Asked {
     Check,
     Step,
@@ -27,14 +28,14 @@ enum Asked {
 }
 
 // What is asked for that needs no state: words to be shown, or a listing.
-#[derive(Drop)]
+#[derive(Clone, Copy)]
 enum Shown {
     Words(Written),
     Listing,
 }
 
 // What a line is to the case.
-#[derive(Drop)]
+#[derive(Clone, Copy)]
 enum Kind {
     Empty,
     Mistake(Reason),

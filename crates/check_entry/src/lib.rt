@@ -1,5 +1,6 @@
 // The check for C, in a library of its own, so that a run need not share the decoder with it (docs/DECISIONS.md). include/laqemdit.h declares it,
 // docs/C.md tells how it is used.
+#![tactic(auto)]
 ghost use Rattle.settings.specs.Setup.{setup};
 ghost use Rattle.single_path.specs.Check.{checked};
 ghost use Rattle.entries.specs.Entries.{config_of};
@@ -13,7 +14,7 @@ mod numbers;
 
 // What the check tells: its answer, the bundle's address, and of refusal 9 the letter of a broken rule.
 #[repr(C)]
-#[derive(Drop)]
+#[derive(Clone, Copy)]
 pub struct CheckedCode {
     pub answer: u32,
     pub address: u32,

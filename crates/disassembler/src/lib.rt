@@ -1,11 +1,12 @@
 // The text of a bundle, put into a lent buffer.
+#![tactic(auto)]
 pub mod showing;
 pub mod writing;
 
 use assembly::{Mnemonic, Operand};
 
 // A name with its operands. Those that the form does not have are 0.
-#[derive(Drop)]
+#[derive(Clone, Copy)]
 pub struct Shown {
     pub mnemonic: Mnemonic,
     pub a: Operand,

@@ -1,4 +1,5 @@
 // What the slots of a bundle do, as values: computed from the state at the start, before anything is written.
+#![tactic(auto)]
 pub mod slot;
 
 use alu_effects::AluEffect;
@@ -6,7 +7,7 @@ use isa::{AccessKind, LoadWidth, Special, StoreWidth};
 use stack_cache::StackControl;
 
 // A transfer of control that is to be carried out. Block is brcf and ret, which set the base; so does xret, which also ends a handler.
-#[derive(Drop)]
+#[derive(Clone, Copy)]
 pub enum Transfer {
     Br { target: u32 },
     Call { target: u32 },
@@ -15,7 +16,7 @@ pub enum Transfer {
 }
 
 // What slot one can do.
-#[derive(Drop)]
+#[derive(Clone, Copy)]
 pub enum Effect {
     Alu(AluEffect),
     Special {

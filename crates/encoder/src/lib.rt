@@ -1,11 +1,12 @@
 // The encoder: the words of a bundle, or its refusal. The decoder reads them as that bundle again (encoder_laws).
+#![tactic(auto)]
 pub mod bundles;
 pub mod words;
 
 use isa::AluOperation;
 
 // What a bundle is written as.
-#[derive(Drop)]
+#[derive(Clone, Copy)]
 pub enum Written {
     One(u32),
     Two(u32, u32),
@@ -13,7 +14,7 @@ pub enum Written {
 }
 
 // An operation that either slot may hold, or that there is none.
-#[derive(Drop)]
+#[derive(Clone, Copy)]
 pub enum AluFound {
     Nothing,
     Found(AluOperation),

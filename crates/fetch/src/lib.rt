@@ -1,4 +1,5 @@
 // The bundle at an address of the code, for whoever does it or checks it.
+#![tactic(auto)]
 ghost use Rattle.std.specs.Prelude.{◌≡◌, ◌<◌};
 ghost use Rattle.decoder.specs.Decode.{bundle_words};
 ghost use Rattle.fetch.specs.Fetch.{is_undecodable, fetched};
@@ -9,7 +10,7 @@ use isa::Bundle;
 use word::arithmetic::add;
 
 // Refused with 2 or 3, or the bundle and the address that follows it.
-#[derive(Drop)]
+#[derive(Clone, Copy)]
 pub enum Fetched {
     Refused(u32),
     Found { bundle: Bundle, following: usize },

@@ -1,9 +1,10 @@
 // What the fields of the formats hold, and how a number is put into its field.
+#![tactic(auto)]
 pub mod codes;
 pub mod place;
 
 // A word, or that there is none.
-#[derive(Drop)]
+#[derive(Clone, Copy)]
 pub enum Word {
     Nothing,
     Of(u32),

@@ -1,4 +1,5 @@
 // The formats that only slot one can hold.
+#![tactic(auto)]
 ghost use Rattle.std.specs.Prelude.{◌≡◌, ◌/◌, ◌%◌, ◌<◌};
 ghost use Rattle.std.proofs.Math.Option.{some};
 ghost use Rattle.isa.specs.Format.{reading, row};
@@ -11,7 +12,7 @@ use isa::{
     StoreWidthRow, Target,
 };
 
-#[derive(Drop)]
+#[derive(Clone, Copy)]
 pub enum Reading {
     Nothing,
     Found(Operation),

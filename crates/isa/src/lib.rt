@@ -1,16 +1,17 @@
 // The instructions, as the words of sections 2.5 and 2.6 of the handbook tell them apart. An immediate is kept as its
 // field has it, in full width; what it means is left to whoever executes it. Only br's field is a signed number.
+#![tactic(auto)]
 pub mod tables;
 
 // A predicate as an operand: four bits, of which the upper one negates the predicate that the others name.
-#[derive(Drop)]
+#[derive(Clone, Copy)]
 pub struct PredicateOperand {
     pub negated: bool,
     pub predicate: u32,
 }
 
 // Table 2.1.
-#[derive(Drop)]
+#[derive(Clone, Copy)]
 pub enum AluFunction {
     Add,
     Sub,
@@ -26,14 +27,14 @@ pub enum AluFunction {
 }
 
 // Table 2.2.
-#[derive(Drop)]
+#[derive(Clone, Copy)]
 pub enum MultiplyFunction {
     Mul,
     Mulu,
 }
 
 // Table 2.3.
-#[derive(Drop)]
+#[derive(Clone, Copy)]
 pub enum CompareFunction {
     Cmpeq,
     Cmpneq,
@@ -45,7 +46,7 @@ pub enum CompareFunction {
 }
 
 // Table 2.4.
-#[derive(Drop)]
+#[derive(Clone, Copy)]
 pub enum PredicateFunction {
     Por,
     Pand,
@@ -53,7 +54,7 @@ pub enum PredicateFunction {
 }
 
 // The second operand of ALU and compare functions: the handbook's Op2.
-#[derive(Drop)]
+#[derive(Clone, Copy)]
 pub enum Op2 {
     Register(u32),
     Immediate(u32),
@@ -61,7 +62,7 @@ pub enum Op2 {
 }
 
 // The operations that either slot of a bundle can hold.
-#[derive(Drop)]
+#[derive(Clone, Copy)]
 pub enum AluOperation {
     Arithmetic {
         function: AluFunction,
@@ -90,7 +91,7 @@ pub enum AluOperation {
 }
 
 // The special registers of figure 2.2 that a program can name.
-#[derive(Drop)]
+#[derive(Clone, Copy)]
 pub enum Special {
     S0,
     Sl,
@@ -104,7 +105,7 @@ pub enum Special {
 }
 
 // Which memory an access goes to.
-#[derive(Drop)]
+#[derive(Clone, Copy)]
 pub enum AccessKind {
     Stack,
     Local,
@@ -113,7 +114,7 @@ pub enum AccessKind {
 }
 
 // Table 2.5: the width of a load and how it is extended to a word.
-#[derive(Drop)]
+#[derive(Clone, Copy)]
 pub enum LoadWidth {
     Word,
     Half,
@@ -123,7 +124,7 @@ pub enum LoadWidth {
 }
 
 // Table 2.6: the width of a store.
-#[derive(Drop)]
+#[derive(Clone, Copy)]
 pub enum StoreWidth {
     Word,
     Half,
@@ -131,14 +132,14 @@ pub enum StoreWidth {
 }
 
 // How much sens and sspill move: words by an immediate, bytes by a register.
-#[derive(Drop)]
+#[derive(Clone, Copy)]
 pub enum StackAmount {
     Words(u32),
     Register(u32),
 }
 
 // Tables 2.7 and 2.8.
-#[derive(Drop)]
+#[derive(Clone, Copy)]
 pub enum StackOperation {
     Sres(u32),
     Sens(StackAmount),
@@ -147,7 +148,7 @@ pub enum StackOperation {
 }
 
 // Where a transfer goes, by its kind: tables 2.10 to 2.13. Immediates are words.
-#[derive(Drop)]
+#[derive(Clone, Copy)]
 pub enum Target {
     Call(u32),
     CallRegister(u32),
@@ -159,7 +160,7 @@ pub enum Target {
 }
 
 // The operations of slot one.
-#[derive(Drop)]
+#[derive(Clone, Copy)]
 pub enum Operation {
     Alu(AluOperation),
     Multiply {
@@ -201,21 +202,21 @@ pub enum Operation {
 }
 
 // A guard and an operation: what slot one holds.
-#[derive(Drop)]
+#[derive(Clone, Copy)]
 pub struct Instruction {
     pub guard: PredicateOperand,
     pub operation: Operation,
 }
 
 // The same for slot two.
-#[derive(Drop)]
+#[derive(Clone, Copy)]
 pub struct AluInstruction {
     pub guard: PredicateOperand,
     pub operation: AluOperation,
 }
 
 // What a first and a second word encode together.
-#[derive(Drop)]
+#[derive(Clone, Copy)]
 pub enum Bundle {
     Undecodable,
     One(Instruction),
@@ -225,43 +226,43 @@ pub enum Bundle {
 
 // What a table has at a function code: its row, or that the code is unused.
 
-#[derive(Drop)]
+#[derive(Clone, Copy)]
 pub enum AluRow {
     Unused,
     Row(AluFunction),
 }
 
-#[derive(Drop)]
+#[derive(Clone, Copy)]
 pub enum MultiplyRow {
     Unused,
     Row(MultiplyFunction),
 }
 
-#[derive(Drop)]
+#[derive(Clone, Copy)]
 pub enum CompareRow {
     Unused,
     Row(CompareFunction),
 }
 
-#[derive(Drop)]
+#[derive(Clone, Copy)]
 pub enum PredicateRow {
     Unused,
     Row(PredicateFunction),
 }
 
-#[derive(Drop)]
+#[derive(Clone, Copy)]
 pub enum SpecialRow {
     Unused,
     Row(Special),
 }
 
-#[derive(Drop)]
+#[derive(Clone, Copy)]
 pub enum LoadWidthRow {
     Unused,
     Row(LoadWidth),
 }
 
-#[derive(Drop)]
+#[derive(Clone, Copy)]
 pub enum StoreWidthRow {
     Unused,
     Row(StoreWidth),

@@ -1,4 +1,5 @@
 // The operation that a mnemonic and its operands make, by the places of `forms` (assembly).
+#![tactic(auto)]
 ghost use Rattle.std.specs.Prelude.{◌≡◌, ◌/◌, ◌%◌};
 ghost use Rattle.std.proofs.Math.Option.{some};
 ghost use Rattle.isa.specs.Format.{row};
@@ -14,7 +15,7 @@ use isa::{
 use word::sign::signed;
 
 // What a name and its operands make. A name that no instruction has makes nothing.
-#[derive(Drop)]
+#[derive(Clone, Copy)]
 pub enum Made {
     Nothing,
     Found(Operation),

@@ -1,4 +1,5 @@
 // The marking: what it calls private. A number that names no register or predicate is not marked.
+#![tactic(auto)]
 ghost use Rattle.std.specs.Prelude.{◌≡◌};
 ghost use Rattle.marking.specs.Marking.{private_register, private_predicate, private_operand, private_store, private_special, public_register, public_predicate, public_special, marking_ok};
 
@@ -6,7 +7,7 @@ use isa::{AccessKind, PredicateOperand, Special};
 
 // What is private (true) and what is public (false): each register, each predicate, sl, sh, and the three stores, which are main
 // memory outside the stack area, local memory, and the stack: cache and area together.
-#[derive(Drop)]
+#[derive(Clone, Copy)]
 pub struct Marking {
     pub registers: [bool; 32],
     pub predicates: [bool; 8],

@@ -1,4 +1,5 @@
 // The marking rules, and what they ask about an operation: the table of `Rules.antt`.
+#![tactic(auto)]
 ghost use Rattle.std.specs.Prelude.{ℕ, true, false, ◌≡◌};
 ghost use Rattle.marking.specs.Marking.{on_special};
 ghost use Rattle.marking_rules.specs.Rules.{private_op2, private_amount, result, controlling, asked};
@@ -10,7 +11,7 @@ use isa::{
 use marking::Marking;
 
 // The marking rules.
-#[derive(Drop)]
+#[derive(Clone, Copy)]
 pub enum Rule {
     A,
     B,
@@ -20,7 +21,7 @@ pub enum Rule {
 }
 
 // What the rules ask. What does not apply to an operation is false.
-#[derive(Drop)]
+#[derive(Clone, Copy)]
 pub struct Asked {
     // For A: a transfer (trap and xret included), stack control, or mts to ss, st, srb, sro, sxb or sxo.
     pub control: bool,

@@ -1,4 +1,5 @@
 // Loads and stores, judged and carried out.
+#![tactic(auto)]
 pub mod access;
 pub mod judge;
 pub mod width;

@@ -1,5 +1,6 @@
 // The method cache: its capacity and the limits of it, the blocks that it holds, which are lent, and what a lookup does to them.
 // Open first: lookup.rt, then words.rt.
+#![tactic(auto)]
 ghost use Rattle.std.specs.Prelude.{◌≡◌};
 ghost use Rattle.method_cache.specs.MethodCache.{capacity_ok};
 
@@ -7,7 +8,7 @@ pub mod lookup;
 pub mod words;
 
 // Whether there is a method cache, and how many blocks and bytes it holds at most. Switched off, its numbers have no meaning.
-#[derive(Drop)]
+#[derive(Clone, Copy)]
 pub struct Method {
     pub on: bool,
     pub blocks: u32,
@@ -15,7 +16,7 @@ pub struct Method {
 }
 
 // What one lookup counts: nothing where the block is held, else one miss and the words fetched.
-#[derive(Drop)]
+#[derive(Clone, Copy)]
 pub struct Looked {
     pub misses: u32,
     pub fetched: u32,

@@ -1,6 +1,7 @@
 // The opening for C, in a library of its own: in the run's archive `write_record` would have two callers, and bundles get slower.
 // Numbers and byte slices in, a number out; include/laqemdit.h declares it, docs/C.md tells how it is used.
 // Open first: OpenEntry.antt.
+#![tactic(auto)]
 ghost use Rattle.std.specs.Prelude.{◌≡◌};
 ghost use Rattle.settings.specs.Setup.{setup};
 ghost use Rattle.entries.specs.Entries.{config_of, called_of, called};

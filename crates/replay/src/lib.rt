@@ -1,12 +1,13 @@
 // A replay of recorded interrupts: what its list and its table say, and how far it is.
 // Open first: specs/Replay.antt.
+#![tactic(auto)]
 ghost use Rattle.std.specs.Prelude.{◌≡◌};
 ghost use Rattle.replay.specs.Replay.{records, handler_at, handler_of, records_ok, replay_ok, due_in, one_more};
 
 use sections::word_at;
 
 // How far a replay is: whether a handler is active, how many records were taken, and how many bundles were done.
-#[derive(Drop)]
+#[derive(Clone, Copy)]
 pub struct Replay {
     pub active: bool,
     pub place: u32,

@@ -1,4 +1,5 @@
 // Steps and runs from a record: the state goes in and out as bytes.
+#![tactic(auto)]
 ghost use Rattle.std.specs.Prelude.{◌≡◌, true, List, ℕ, ◌≤◌, length};
 ghost use Rattle.settings.specs.Settings.{admits};
 ghost use Rattle.settings.specs.Setup.{replaying, setup, settings};
@@ -20,7 +21,7 @@ use settings::Config;
 use state::State;
 
 // What a step or a run from a record answers; Refused holds the documents' number.
-#[derive(Drop)]
+#[derive(Clone, Copy)]
 pub enum Reply {
     Done,
     Ended,
@@ -29,7 +30,7 @@ pub enum Reply {
 }
 
 // The answer, the counts of this call, and how many bytes of a record were written.
-#[derive(Drop)]
+#[derive(Clone, Copy)]
 pub struct Resumed {
     pub answer: Reply,
     pub counts: Counts,

@@ -1,4 +1,5 @@
 // A run with a budget.
+#![tactic(auto)]
 ghost use Rattle.std.specs.Prelude.{◌≡◌};
 ghost use Rattle.settings.specs.Setup.{replaying, setup, found, left};
 ghost use Rattle.method_cache.specs.Words.{FixedHeld};
@@ -15,7 +16,7 @@ use settings::Config;
 use state::State;
 
 // What a run answers; Refused holds document 01's number.
-#[derive(Drop)]
+#[derive(Clone, Copy)]
 pub enum RunAnswer {
     Ended,
     Spent,
@@ -23,7 +24,7 @@ pub enum RunAnswer {
 }
 
 // A run's answer, with the state handed back and the counts of the bundles done.
-#[derive(Drop)]
+#[derive(Clone, Copy)]
 pub struct Ran {
     pub answer: RunAnswer,
     pub state: State,

@@ -1,4 +1,5 @@
 // What is handed to a run: the numbers beside what is lent, the settings that they make together, and their limits.
+#![tactic(auto)]
 ghost use Rattle.std.specs.Prelude.{◌≡◌};
 ghost use Rattle.stack_cache.specs.Stack.{is_cache_size};
 ghost use Rattle.settings.specs.Settings.{code_length_ok, area_ok, admits};
@@ -8,7 +9,7 @@ use method_cache::Method;
 use stack_cache::{Made, StackCache};
 
 // The numbers that a run is given beside what is lent: where the stack area begins and ends, and the method cache.
-#[derive(Drop)]
+#[derive(Clone, Copy)]
 pub struct Config {
     pub lo: u32,
     pub hi: u32,
@@ -16,7 +17,7 @@ pub struct Config {
 }
 
 // The lengths of code, main memory and local memory in bytes, the number of stack cache words, the stack area, and the method cache.
-#[derive(Drop)]
+#[derive(Clone, Copy)]
 pub struct Settings {
     pub code: usize,
     pub main: usize,

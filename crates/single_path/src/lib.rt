@@ -1,4 +1,5 @@
 // The check of code against a marking of what is private. Marking and Rule are passed on, for those who call it.
+#![tactic(auto)]
 ghost use Rattle.std.specs.Prelude.{true, ◌≡◌, ◌≤◌, ◌+◌, ◌/◌, length};
 ghost use Rattle.settings.specs.Setup.{setup};
 ghost use Rattle.single_path.specs.Check.{returned, letter_broken, walk_from, checked};
@@ -11,7 +12,7 @@ use settings::Config;
 
 // What the check answers: Refused holds document 01's number and the address of the bundle (0 for number 1), Broken, which is
 // refusal 9, the address of the bundle and a rule that it breaks.
-#[derive(Drop)]
+#[derive(Clone, Copy)]
 pub enum Checked {
     Accepted,
     Refused { number: u32, address: u32 },

@@ -1,4 +1,5 @@
 // Runs a workload and prints what came of it, in the form of the plain interpreter in bench/: to be timed from outside.
+#![tactic(auto)]
 ghost use Rattle.std.specs.Prelude.{◌≤◌};
 
 mod workload;
@@ -15,7 +16,7 @@ use text::numbers::decimal;
 
 // What is handed in beside the workload's name, and what belongs to the workload: its entry, its method cache, and how many interrupts are
 // replayed.
-#[derive(Drop)]
+#[derive(Clone, Copy)]
 pub struct Setting {
     pub budget: u32,
     pub main: u32,

@@ -30,12 +30,12 @@ length_put_cache_number k cache a v = length_put_cache_word cache a (put_part k 
 pub length_spilled : (cache : List ℕ) (lo : ℕ) (area addresses : List ℕ) → length (spilled cache lo area addresses) ≡ length area
 unfolding spilled
 length_spilled cache lo area [] = refl
-length_spilled cache lo area (a ∷ rest) = length_spilled cache lo _ rest ∙ length_put_number 4 area (sub a lo) (cache_word cache a)
+length_spilled cache lo area (a ∷ rest) = length_spilled cache lo (put_word area (sub a lo) (cache_word cache a)) rest ∙ length_put_number 4 area (sub a lo) (cache_word cache a)
 
 pub length_filled : (area : List ℕ) (lo : ℕ) (cache addresses : List ℕ) → length (filled area lo cache addresses) ≡ length cache
 unfolding filled
 length_filled area lo cache [] = refl
-length_filled area lo cache (a ∷ rest) = length_filled area lo _ rest ∙ length_put_cache_word cache a _
+length_filled area lo cache (a ∷ rest) = length_filled area lo (put_cache_word cache a (word_at area (sub a lo))) rest ∙ length_put_cache_word cache a _
 
 -- The words that the two loops move lie one after the other.
 pub spill_while_below : (most w st ss : ℕ) → spill_while most w st ss ≡ below (length (spill_while most w st ss)) ss

@@ -1,4 +1,5 @@
 // The stack cache: its limits, its window, and its words, which are lent; what moves between it and the stack area.
+#![tactic(auto)]
 ghost use Rattle.std.specs.Prelude.{◌≡◌};
 ghost use Rattle.stack_cache.specs.Stack.{make_cache};
 
@@ -7,7 +8,7 @@ pub mod moves;
 pub mod window;
 
 // What a stack instruction does.
-#[derive(Drop)]
+#[derive(Clone, Copy)]
 pub enum StackControl {
     Sres,
     Sens,
@@ -16,20 +17,20 @@ pub enum StackControl {
 }
 
 // A cache of W words. The words are lent beside it; the limits on W belong here.
-#[derive(Drop)]
+#[derive(Clone, Copy)]
 pub struct StackCache {
     pub words: u32,
 }
 
 // A cache, or document 01's number of the refusal.
-#[derive(Drop)]
+#[derive(Clone, Copy)]
 pub enum Made {
     Refused(u32),
     Cache(StackCache),
 }
 
 // A stack instruction before anything moves: refused with a number, or st, ss and the words spilled and filled.
-#[derive(Drop)]
+#[derive(Clone, Copy)]
 pub enum Plan {
     Refused(u32),
     Moves {

@@ -1,4 +1,5 @@
 // The state by value with its methods, and the fresh state.
+#![tactic(auto)]
 pub mod open;
 pub mod whole_state;
 
@@ -9,7 +10,7 @@ use core_state::{WaitingLoad, WaitingTransfer};
 use products::Products;
 use replay::Replay;
 
-#[derive(Drop)]
+#[derive(Clone, Copy)]
 pub struct State {
     pub registers: [u32; 32],
     pub predicates: [bool; 8],
@@ -27,7 +28,7 @@ pub struct State {
 }
 
 // A step's answer, with the state handed back and the counts of that one bundle.
-#[derive(Drop)]
+#[derive(Clone, Copy)]
 pub struct Stepped {
     pub answer: Answer,
     pub state: State,
@@ -35,7 +36,7 @@ pub struct Stepped {
 }
 
 // What an opening answers beside the state; of a refused one that is a state that no step or run takes.
-#[derive(Drop)]
+#[derive(Clone, Copy)]
 pub struct Opened {
     pub answer: Verdict,
     pub state: State,

@@ -1,4 +1,5 @@
 // Text: the fields of a line, the numbers that are read from them, tables of texts, and texts and digits put into a buffer.
+#![tactic(auto)]
 mod digits;
 pub mod fields;
 pub mod numbers;
@@ -6,14 +7,14 @@ pub mod page;
 pub mod table;
 
 // A part of a line, from start up to, not including, end.
-#[derive(Drop)]
+#[derive(Clone, Copy)]
 pub struct Field {
     pub start: usize,
     pub end: usize,
 }
 
 // A number of 32 bits, or a field that is none.
-#[derive(Drop)]
+#[derive(Clone, Copy)]
 pub enum Number {
     Value(u32),
     Bad,

@@ -1,0 +1,15 @@
+use native.Mathlib.Omega.{arith}
+use Prim.Native.Nat.{ℕ, ◌≤◌}
+use mathlib.Core.Path.{◌≡◌, refl, sym, ap, ◌∙◌}
+use mathlib.Core.List.{[], ◌∷◌}
+use borrow.Author.Rules.{rules}
+use lib.ListN.{length, drop, length-set, drop_of_length-le}
+use Rattle.text.specs.Number.{hex_before}
+use Rattle.text.specs.NumberLaws.{put_before, hex_step, hex_none}
+use Rattle.text.proofs.digits.put_hex.Given as goal
+
+abbrev pub invariant-loop-at : goal.invariant-loop-at
+invariant-loop-at l = (l.at ≤ length l.out) × (length l.out ≡ length l.initial.out) × (hex_before l.at l.rest (drop l.at l.out) ≡ hex_before (length l.initial.out) l.n [])
+
+abbrev pub decreases-loop-at : goal.decreases-loop-at
+decreases-loop-at l = l.at

@@ -1,0 +1,13 @@
+use native.Mathlib.Omega.{arith}
+use Prim.Native.Nat.{◌≤◌, ◌+◌, ◌-◌}
+use mathlib.Core.Path.{◌≡◌, refl, ◌∙◌}
+use lib.ListN.{length, drop}
+use Rattle.text.specs.Field.{spaces}
+use Rattle.text.specs.FieldLaws.{spaces_step, spaces_stop, spaces_end}
+use Rattle.text.proofs.fields.after_spaces.Given as goal
+
+abbrev pub invariant-loop-i : goal.invariant-loop-i
+invariant-loop-i l = (l.a ≤ l.i) × (l.i ≤ length l.line) × (l.i + spaces (drop l.i l.line) ≡ l.a + spaces (drop l.a l.line))
+
+abbrev pub decreases-loop-i : goal.decreases-loop-i
+decreases-loop-i l = length l.line - l.i

@@ -1,0 +1,14 @@
+use native.Mathlib.Omega.{arith}
+use Prim.Native.Nat.{◌≤◌, ◌-◌, ◌*◌}
+use mathlib.Core.Path.{◌≡◌, refl, sym, ap, ◌∙◌}
+use native.Mathlib.Nat.{mul-le-mul}
+use lib.ListN.{length, drop, drop_of_length-le}
+use Rattle.text.specs.Number.{number_from}
+use Rattle.text.specs.NumberLaws.{number_step, number_not_digit, number_too_great, number_end}
+use Rattle.text.proofs.numbers.digits.Given as goal
+
+abbrev pub invariant-loop-i : goal.invariant-loop-i
+invariant-loop-i l = (l.i ≤ length l.s) × (l.v ≤ 4294967295) × (number_from l.base l.v (drop l.i l.s) ≡ number_from l.base 0 l.s)
+
+abbrev pub decreases-loop-i : goal.decreases-loop-i
+decreases-loop-i l = length l.s - l.i

@@ -1,0 +1,13 @@
+use native.Mathlib.Omega.{arith}
+use Prim.Native.Nat.{◌+◌, ◌-◌}
+use mathlib.Core.Path.{◌≡◌, refl, ap, ◌∙◌}
+use lib.ListN.{length, drop}
+use Rattle.text.specs.Page.{Page, page, with_text}
+use Rattle.text.specs.PageLaws.{text_step, text_end}
+use Rattle.text.proofs.page.put.Given as goal
+
+abbrev pub invariant-loop-i : goal.invariant-loop-i
+invariant-loop-i l = (length l.out ≡ length l.initial.out) × (with_text (page l.at l.out) (drop l.i l.s) ≡ with_text (page l.used l.initial.out) l.s)
+
+abbrev pub decreases-loop-i : goal.decreases-loop-i
+decreases-loop-i l = length l.s - l.i

@@ -1,0 +1,53 @@
+use native.Mathlib.Omega.{arith}
+use Prim.Native.Nat.{ℕ, ◌+◌, ◌-◌}
+use mathlib.Core.Path.{◌≡◌, refl, sym, ap, ◌∙◌}
+use mathlib.Core.List.{List}
+use mathlib.Core.Logic.{⊎_elim}
+use lib.ListN.{length, drop}
+use Rattle.text.specs.Page.{Page, page, with_text}
+use Rattle.text.specs.PageLaws.{text_none}
+use Rattle.text.specs.Table.{row_text}
+use Rattle.text.specs.TableLaws.{row_over, row_ends, row_next, row_byte, row_past}
+use Rattle.text.proofs.table.put_row.Goals as goal
+
+pub loop-i-init : goal.loop-i-init
+loop-i-init c = (refl, refl)
+
+pub bounds-table-i : goal.bounds-table-i
+bounds-table-i c = omega arith
+
+pub shape_of-out-then-left-eq0 : goal.shape_of-out-then-left-eq0
+shape_of-out-then-left-eq0 c = c.loop-i.invariant.0
+
+pub returns-then-left-eq0 : goal.returns-then-left-eq0
+returns-then-left-eq0 c = let l = c.loop-i in
+    let t = c.args.table.now in
+    sym (text_none _) ∙ ap (λ (s : List ℕ). with_text (page l.at l.out) s) (sym (row_ends t l.left l.i c.loop-i-test.true c.if-b-eq10.true c.if-left-eq0.true)) ∙ l.invariant.1
+
+pub overflow_sub-left : goal.overflow_sub-left
+overflow_sub-left c = omega (arith, c.if-left-eq0.false)
+
+pub overflow_add-i : goal.overflow_add-i
+overflow_add-i c = omega arith
+
+pub loop-i-smaller : goal.loop-i-smaller
+loop-i-smaller c = omega arith
+
+pub loop-i-preserved : goal.loop-i-preserved
+loop-i-preserved c = let l = c.loop-i in
+    let t = c.args.table.now in
+    let h = c.loop-i-test.true in
+    let p = page l.at l.out in
+    ⊎_elim
+    (λ w. rw (w.2, w.3, w.4) (l.invariant.0, ap (λ (s : List ℕ). with_text p s) (row_next t l.left l.i h w.0.taken w.1.left) ∙ l.invariant.1))
+    (⊎_elim
+    (λ w. rw (w.6, w.7, w.8) (w.3.kept.0 ∙ l.invariant.0, ap (λ (q : Page). with_text q (row_text (drop (l.i + 1) t) l.left)) w.3.ensures ∙ row_byte p t l.left l.i h w.0.left w.1.taken ∙ l.invariant.1))
+    (λ w. rw (w.2, w.3, w.4) (l.invariant.0, ap (λ (s : List ℕ). with_text p s) (row_past t l.left l.i h w.0.left w.1.left) ∙ l.invariant.1)))
+    c.if-b-eq10.branch
+
+pub shape_of-out : goal.shape_of-out
+shape_of-out c = c.loop-i.invariant.0
+
+pub returns : goal.returns
+returns c = let l = c.loop-i in
+    sym (text_none _) ∙ ap (λ (s : List ℕ). with_text (page l.at l.out) s) (sym (row_over c.args.table.now l.left l.i c.loop-i-test.false)) ∙ l.invariant.1

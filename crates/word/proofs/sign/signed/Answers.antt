@@ -1,0 +1,8 @@
+use Rattle.std.proofs.Common.{◌∙◌, rules}
+use Rattle.word.specs.Word.{signed}
+use Rattle.word.proofs.Signs.{reread}
+use Rattle.word.proofs.sign.signed.Goals as goal
+
+pub returns : goal.returns
+unfolding signed
+returns c = reread _ c.reading.type_inv ∙ c.reading.ensures
