@@ -13,10 +13,8 @@ use Rattle.core_state.specs.declared.TransferWords.{TransferWords}
 use Rattle.bundle_writes.specs.Words.{onward_words}
 use Rattle.core_state.specs.Writes.{nearer}
 use Rattle.bundle_model.specs.Bundle.{onward}
-use Rattle.bundle_writes.proofs.onward.Statement.{statement}
-use Rattle.bundle_writes.proofs.onward.Tie as tie
+use Rattle.bundle_writes.proofs.onward.Goals as goal
 
--- The effects that are not told apart by name.
 abbrev others : List ℕ
 others = 0 ∷ 1 ∷ 2 ∷ 3 ∷ 4 ∷ 5 ∷ []
 
@@ -40,44 +38,25 @@ words-go-on w (Stack c n m) h = refl
 words-go-on w (Transfer d t) h = absurd (miss others 6 tt h)
 words-go-on w (Trap n handler) h = absurd (miss others 7 tt h)
 
-enum-known-one : tie.Need-enum-known-one
-enum-known-one c = c.match.keys1
-
-begin-requires : tie.Need-begin-requires
-begin-requires c κs = tt
-
-enum-known-one-2 : tie.Need-enum-known-one-2
-enum-known-one-2 c = c.match.keys2
-
-enter-requires : tie.Need-enter-requires
-enter-requires c κs = tt
-
-nearer-requires : tie.Need-nearer-requires
-nearer-requires c κs = tt
-
-returns : tie.Need-returns
-returns c =
+pub returns-in-Transfer : goal.returns-in-Transfer
+returns-in-Transfer c =
     let w = c.begin.ensures in
-    let e = c.before.before.one.given.1 in
+    let e = c.in-Transfer.is in
     record { state = λ rs ps. rw e (w.state rs ps); transfer = rw e w.transfer; load = w.load; products = w.products }
 
-returns-2 : tie.Need-returns-2
-returns-2 c =
+pub returns-in-Trap : goal.returns-in-Trap
+returns-in-Trap c =
     let w = c.enter.ensures in
-    let e = c.before.before.one2.given.1 in
+    let e = c.in-Trap.is in
     record { state = λ rs ps. rw e (w.state rs ps); transfer = rw e w.transfer; load = w.load; products = w.products }
 
-returns-3 : tie.Need-returns-3
-returns-3 c =
-    let a = c.before.before.args in
+pub returns-in_default : goal.returns-in_default
+returns-in_default c =
+    let a = c.args in
     let w = c.nearer.ensures in
     record {
-      state = λ rs ps. w.state rs ps ∙ goes_on (waiting_transfer a.waiting) a.following (joined rs ps a.core) a.one c.before.match.keys3;
-      transfer = w.transfer ∙ words-go-on a.waiting a.one c.before.match.keys3;
+      state = λ rs ps. w.state rs ps ∙ goes_on (waiting_transfer a.waiting) a.following (joined rs ps a.core) a.one c.in_default.is;
+      transfer = w.transfer ∙ words-go-on a.waiting a.one c.in_default.is;
       load = w.load;
       products = w.products;
     }
-
-pub onward-spec : {M : Type 1} → statement M
-onward-spec =
-    tie.close (tie.spec enum-known-one begin-requires enum-known-one-2 enter-requires nearer-requires returns returns-2 returns-3)

@@ -12,10 +12,8 @@ use Rattle.core_state.specs.declared.LoadWords.{LoadWords}
 use Rattle.core_state.specs.WordLaws.{load_back}
 use Rattle.bundle_writes.specs.Words.{load_after, products_after}
 use Rattle.bundle_model.specs.Execute.{write_done}
-use Rattle.bundle_writes.proofs.write_one.Statement.{statement}
-use Rattle.bundle_writes.proofs.write_one.Tie as tie
+use Rattle.bundle_writes.proofs.write_one.Goals as goal
 
--- The effects that are not told apart by name.
 abbrev others : List ℕ
 others = 4 ∷ 6 ∷ 7 ∷ []
 
@@ -50,99 +48,44 @@ products-left p (Stack c n m) h = refl
 products-left p (Transfer d t) h = refl
 products-left p (Trap n handler) h = refl
 
-enum-known-one : tie.Need-enum-known-one
-enum-known-one c = c.match.keys1
-
-write-alu-requires : tie.Need-write-alu-requires
-write-alu-requires c κs = tt
-
-enum-known-one-2 : tie.Need-enum-known-one-2
-enum-known-one-2 c = c.match.keys2
-
-write-special-requires : tie.Need-write-special-requires
-write-special-requires c κs = tt
-
-enum-known-one-3 : tie.Need-enum-known-one-3
-enum-known-one-3 c = c.match.keys3
-
-begin-product-requires : tie.Need-begin-product-requires
-begin-product-requires c κs = tt
-
-enum-known-one-4 : tie.Need-enum-known-one-4
-enum-known-one-4 c = c.match.keys4
-
-load-waits-requires : tie.Need-load-waits-requires
-load-waits-requires c κs = tt
-
-with-load-requires : tie.Need-with-load-requires
-with-load-requires c κs = tt
-
-enum_told : tie.Need-enum-told
-enum_told c = c.match.keys5
-
-write-stack-requires : tie.Need-write-stack-requires
-write-stack-requires c κs = tt
-
-returns : tie.Need-returns
+pub returns-in-Alu : goal.returns-in-Alu
 unfolding write_done
-returns c =
-    let w = c.write-alu.ensures in
-    let e = c.before.before.before.before.one.given.1 in
+returns-in-Alu c =
+    let w = c.write_alu.ensures in
+    let e = c.in-Alu.is in
     record { state = rw e w.state; transfer = w.transfer; load = rw e w.load; products = rw e w.products }
 
-returns-2 : tie.Need-returns-2
+pub returns-in-Special : goal.returns-in-Special
 unfolding write_done
-returns-2 c =
-    let w = c.write-special.ensures in
-    let e = c.before.before.before.one2.given.1 in
+returns-in-Special c =
+    let w = c.write_special.ensures in
+    let e = c.in-Special.is in
     record { state = rw e (w.state _); transfer = w.transfer; load = rw e w.load; products = rw e w.products }
 
-returns-3 : tie.Need-returns-3
+pub returns-in-Product : goal.returns-in-Product
 unfolding write_done
-returns-3 c =
-    let w = c.begin-product.ensures in
-    let e = c.before.before.one3.given.1 in
+returns-in-Product c =
+    let w = c.begin_product.ensures in
+    let e = c.in-Product.is in
     record { state = rw e (w.state _ _); transfer = w.transfer; load = rw e w.load; products = rw e w.products }
 
-returns-4 : tie.Need-returns-4
+pub returns-in-Load : goal.returns-in-Load
 unfolding write_done
-returns-4 c =
-    let w = c.with-load.ensures in
-    let e = c.before.before.before.one4.given.1 in
-    let l = c.before.load-waits.ensures in
+returns-in-Load c =
+    let w = c.with_load.ensures in
+    let e = c.in-Load.is in
+    let l = c.load_waits.ensures in
     record { state = rw e (w.state _ _ ∙ rw (l, load_back _)); transfer = w.transfer; load = rw e (w.load ∙ l); products = rw e w.products }
 
-returns-5 : tie.Need-returns-5
+pub returns-in-Stack : goal.returns-in-Stack
 unfolding write_done
-returns-5 c =
-    let w = c.write-stack.ensures in
-    let e = c.before.enum_told.given.1 in
+returns-in-Stack c =
+    let w = c.write_stack.ensures in
+    let e = c.in-Stack.is in
     record { state = rw e (w.state _ _); transfer = w.transfer; load = rw e w.load; products = rw e w.products }
 
-returns-6 : tie.Need-returns-6
+pub returns-in_default : goal.returns-in_default
 unfolding write_done
-returns-6 c =
-    let a = c.before.args in
-    record { state = nothing_written _ _ _ _ a.one c.match.keys6; transfer = refl; load = load-left _ _ a.one c.match.keys6; products = products-left _ a.one c.match.keys6 }
-
-pub write-one-spec : {M : Type 1} → statement M
-write-one-spec =
-    tie.close
-    (tie.spec
-    enum-known-one
-    write-alu-requires
-    enum-known-one-2
-    write-special-requires
-    enum-known-one-3
-    begin-product-requires
-    enum-known-one-4
-    load-waits-requires
-    with-load-requires
-    enum_told
-    write-stack-requires
-    returns
-    returns-2
-    returns-3
-    returns-4
-    returns-5
-    returns-6)
+returns-in_default c =
+    let a = c.args in
+    record { state = nothing_written _ _ _ _ a.one c.in_default.is; transfer = refl; load = load-left _ _ a.one c.in_default.is; products = products-left _ a.one c.in_default.is }

@@ -10,46 +10,24 @@ use Rattle.core_state.specs.Core.{waiting_transfer}
 use Rattle.bundle_model.specs.Bundle.{onward}
 use Rattle.bundle_model.specs.Execute.{write_done}
 use Rattle.bundle_writes.specs.Words.{load_after, products_after}
-use Rattle.bundle_writes.proofs.write.Statement.{statement}
-use Rattle.bundle_writes.proofs.write.Tie as tie
+use Rattle.bundle_writes.proofs.write.Goals as goal
 
-land-load-requires : tie.Need-land-load-requires
-land-load-requires c κs = tt
-
-arrive-requires : tie.Need-arrive-requires
-arrive-requires c κs = tt
-
-write-one-requires : tie.Need-write-one-requires
-write-one-requires c κs = tt
-
-write-alu-requires : tie.Need-write-alu-requires
-write-alu-requires c κs = tt
-
-onward-requires : tie.Need-onward-requires
-onward-requires c κs = tt
-
--- The writes one after the other, each onto the state that the one before leaves.
 in_order : (one : Effect) (two : AluEffect) (waiting : WaitingTransfer) (following loaded st ss : ℕ) (s s₁ s₂ s₃ s₄ : State)
     → s₁ ≡ s → s₂ ≡ write_done one loaded st ss s₁ → s₃ ≡ write_alu two s₂ → s₄ ≡ onward one waiting following s₃
     → s₄ ≡ onward one waiting following (write_alu two (write_done one loaded st ss s))
 in_order one two waiting following loaded st ss s s₁ s₂ s₃ s₄ e f g h =
     h ∙ ap (onward one waiting following) (g ∙ ap (write_alu two) (f ∙ ap (write_done one loaded st ss) e))
 
-returns : tie.Need-returns
+pub returns : goal.returns
 returns c =
-    let a = c.before.before.before.before.before.before.before.before.before.before.before.args in
-    let landing = c.before.before.before.before.before.before.before.before.land-load.ensures in
-    let onto = c.before.before.before.before.before.before.before.arrive.ensures in
-    let after = c.before.before.before.before.write-one.ensures in
-    let last = c.before.write-alu.ensures in
+    let a = c.args in
+    let landing = c.land_load.ensures in
+    let onto = c.arrive-onto.ensures in
+    let after = c.write_one-after.ensures in
+    let last = c.write_alu-last.ensures in
     record {
       state = in_order a.one a.two (waiting_transfer a.core.transfer) a.following a.loaded a.st a.ss _ _ _ _ _ (onto.state _ _ ∙ ap arrived (landing.state _)) after.state last.state (c.onward.ensures.state _ _);
       transfer = c.onward.ensures.transfer;
       load = c.onward.ensures.load ∙ last.load ∙ after.load ∙ ap (load_after a.one a.loaded) (onto.load ∙ landing.load);
       products = c.onward.ensures.products ∙ last.products ∙ after.products ∙ ap (products_after a.one) (onto.products ∙ ap nearer_product_words landing.products);
     }
-
-pub write_spec : {M : Type 1} → statement M
-write_spec =
-    tie.close
-    (tie.spec land-load-requires arrive-requires write-one-requires write-alu-requires onward-requires returns)
