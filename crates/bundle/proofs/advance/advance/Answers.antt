@@ -16,7 +16,7 @@ use Rattle.bundle.proofs.advance.advance.Goals as goal
 
 pub bundles-r-requires : goal.bundles-r-requires
 bundles-r-requires c =
-    let a = c.before.before.before.args in
+    let a = c.args in
     let b = buffers a.main.now a.local.now a.cache.now in
     let s = with_held (joined a.registers.now a.predicates.now a.core) (held_in a.held.now) in
     let e = c.settings-g.ensures in
@@ -24,17 +24,17 @@ bundles-r-requires c =
 
 pub returns-in-Refused : goal.returns-in-Refused
 returns-in-Refused c =
-    let a = c.before.before.before.args in
+    let a = c.args in
     let x = replaying a.list.now a.table.now (setup a.code.now a.config) in
     let b = buffers a.main.now a.local.now a.cache.now in
     let s = with_held (joined a.registers.now a.predicates.now a.core) (held_in a.held.now) in
     let q = ap (λ (y : Settings). readiness y (replaying a.list.now a.table.now (setup_of a.code.now y)) s) (sym c.settings-g.ensures) ∙ sym c.readiness.ensures ∙ c.in-Refused.is in
     let ready = sym (ap (λ (r : Readiness). ready_or r s b (goes_on x a.budget s b)) q) in
-    record { given = ap (λ (n : Counts). outcome (refused c.in-Refused.is.0) s n b) c.no_counts.ensures ∙ ready; canonical = λ k. k; held = λ f. f }
+    record { given = ap (λ (n : Counts). outcome (refused c.in-Refused.n) s n b) c.no_counts.ensures ∙ ready; canonical = λ k. k; held = λ f. f }
 
 pub returns-in-Ended : goal.returns-in-Ended
 returns-in-Ended c =
-    let a = c.before.before.before.args in
+    let a = c.args in
     let x = replaying a.list.now a.table.now (setup a.code.now a.config) in
     let b = buffers a.main.now a.local.now a.cache.now in
     let s = with_held (joined a.registers.now a.predicates.now a.core) (held_in a.held.now) in
@@ -44,7 +44,7 @@ returns-in-Ended c =
 
 pub returns-in-Ready : goal.returns-in-Ready
 returns-in-Ready c =
-    let a = c.before.before.before.args in
+    let a = c.args in
     let x = replaying a.list.now a.table.now (setup a.code.now a.config) in
     let b = buffers a.main.now a.local.now a.cache.now in
     let s = with_held (joined a.registers.now a.predicates.now a.core) (held_in a.held.now) in

@@ -1,3 +1,4 @@
+use borrow.Enum.Refused.{opened}
 use Prim.Native.Nat.{◌-◌, ◌≤◌, ◌<◌}
 use mathlib.Core.Path.{◌≡◌, refl, sym, ap, subst, ◌∙◌}
 use native.Mathlib.Omega.{arith}
@@ -47,7 +48,6 @@ shape_of-cache-then-has_ended c = c.loop-left.invariant.4
 pub returns-then-has_ended : goal.returns-then-has_ended
 unfolding ended
 returns-then-has_ended c =
-    
     let l = c.loop-left in
     let going = rw (ap (λ (y : Settings). y.code) c.requires.1) at (sym (c.has_ended.ensures l.registers l.predicates) ∙ c.if-has_ended.true) in
     record {
@@ -58,23 +58,12 @@ returns-then-has_ended c =
 
 pub attempt-r-requires : goal.attempt-r-requires
 attempt-r-requires c =
-    
     let l = c.loop-left in
     (c.requires.0, ap (λ (y : Settings). y.main) c.requires.1 ∙ sym l.invariant.2, ap (λ (y : Settings). y.code) c.requires.1, few_more _ 4294967294 _ (omega (arith, c.ranges.budget.fits, c.loop-left-test.true, l.invariant.0)) l.invariant.1)
-
-pub shape_of-main-in_default : goal.shape_of-main-in_default
-shape_of-main-in_default c = c.attempt-r.auto.registers.1.1.1.1.1.1.1.1.1.0 ∙ c.loop-left.invariant.2
-
-pub shape_of-local-in_default : goal.shape_of-local-in_default
-shape_of-local-in_default c = c.attempt-r.auto.registers.1.1.1.1.1.1.1.1.1.1.0 ∙ c.loop-left.invariant.3
-
-pub shape_of-cache-in_default : goal.shape_of-cache-in_default
-shape_of-cache-in_default c = c.attempt-r.auto.registers.1.1.1.1.1.1.1.1.1.1.1.0 ∙ c.loop-left.invariant.4
 
 pub returns-in_default : goal.returns-in_default
 unfolding ended
 returns-in_default c =
-    
     let l = c.loop-left in
     let r = c.attempt-r in
     let same : c.args.g ≡ lent (replaying c.args.list.now c.args.table.now (setup_of c.args.code.now c.args.g)) (buffers l.main l.local l.cache)
@@ -82,7 +71,7 @@ returns-in_default c =
     let going = rw (ap (λ (y : Settings). y.code) c.requires.1) at (sym (c.has_ended.ensures l.registers l.predicates) ∙ c.if-has_ended.false) in
     let more : 0 < l.left = omega (arith, c.loop-left-test.true) in
     record {
-      given = turn_stops _ _ _ _ (counts_in l.counts) _ r.ensures.given same l.left more going (not_done r.result.answer c.in_default.in_default-own.keys2) ∙ l.invariant.5;
+      given = turn_stops _ _ _ _ (counts_in l.counts) _ r.ensures.given same l.left more going (not_done r.result.answer (opened c.in_default.in_default-own.keys2)) ∙ l.invariant.5;
       canonical = λ k. r.ensures.canonical (l.invariant.6 k);
       held = λ f. r.ensures.held (l.invariant.7 f);
     }
@@ -96,7 +85,6 @@ loop-left-smaller c = omega (arith, c.loop-left-test.true)
 pub loop-left-preserved : goal.loop-left-preserved
 unfolding ended
 loop-left-preserved c =
-    
     let l = c.loop-left in
     let r = c.attempt-r in
     let same : c.args.g ≡ lent (replaying c.args.list.now c.args.table.now (setup_of c.args.code.now c.args.g)) (buffers l.main l.local l.cache)
@@ -105,9 +93,9 @@ loop-left-preserved c =
     let more : 0 < l.left = omega (arith, c.loop-left-test.true) in (
       omega (arith, l.invariant.0, more),
       turn_few _ _ _ _ (counts_in l.counts) _ r.ensures.given same l.left more going _ l.invariant.0 c.requires.0 l.invariant.1,
-      r.auto.registers.1.1.1.1.1.1.1.1.1.0 ∙ l.invariant.2,
-      r.auto.registers.1.1.1.1.1.1.1.1.1.1.0 ∙ l.invariant.3,
-      r.auto.registers.1.1.1.1.1.1.1.1.1.1.1.0 ∙ l.invariant.4,
+      r.auto.main ∙ l.invariant.2,
+      r.auto.local ∙ l.invariant.3,
+      r.auto.cache ∙ l.invariant.4,
       turn_goes_on _ _ _ _ (counts_in l.counts) _ r.ensures.given same l.left more going (ap returned c.in-Done.is) ∙ l.invariant.5,
       λ k. r.ensures.canonical (l.invariant.6 k),
       λ f. r.ensures.held (l.invariant.7 f),
@@ -124,7 +112,6 @@ shape_of-cache c = c.loop-left.invariant.4
 
 pub returns : goal.returns
 returns c =
-    
     let l = c.loop-left in
     record {
       given = stopped-here (counts_in l.counts) _ _ _ ∙ sym (ap (counted (counts_in l.counts)) (goes_none (replaying c.args.list.now c.args.table.now (setup_of c.args.code.now c.args.g)) l.left (with_held (joined l.registers l.predicates l.core) (held_in l.held)) _ (omega (arith, c.loop-left-test.false)))) ∙ l.invariant.5;

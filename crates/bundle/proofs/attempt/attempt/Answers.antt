@@ -1,3 +1,4 @@
+use borrow.Enum.Refused.{opened}
 use mathlib.Core.Path.{refl, sym, ap, subst, ◌∙◌}
 use borrow.Author.Rules.{rules}
 use Rattle.method_cache.specs.Words.{held_in, FixedHeld}
@@ -17,7 +18,7 @@ returns-then-due c =
     let en = enters_going _ _ _ c.in-Going.is (c.enter.ensures a.registers.now a.predicates.now) in
     let r = c.bundle-r in
     record {
-      given = handed_undone a.g x a.registers.now a.predicates.now a.core a.held.now a.counts.now _ _ _ _ _ _ en _ _ _ _ r.result _ (r.ensures.given a.list.now) (not_done r.result.answer c.in_default.in_default-own.keys2) _ _ (ap held_in (en.kept c.if-due.true)) refl;
+      given = handed_undone a.g x a.registers.now a.predicates.now a.core a.held.now a.counts.now _ _ _ _ _ _ en _ _ _ _ r.result _ (r.ensures.given a.list.now) (not_done r.result.answer (opened c.in_default.in_default-own.keys2)) _ _ (ap held_in (en.kept c.if-due.true)) refl;
       canonical = λ k. k;
       held = subst FixedHeld (sym (en.kept c.if-due.true));
     }
@@ -28,7 +29,7 @@ returns-in_default c =
     let x = replaying a.list.now a.table.now (setup_of a.code.now a.g) in
     let en = enters_going _ _ _ c.in-Going.is (c.enter.ensures a.registers.now a.predicates.now) in
     let r = c.bundle-r in
-    let no = not_done r.result.answer c.in_default.in_default-own.keys2 in
+    let no = not_done r.result.answer (opened c.in_default.in_default-own.keys2) in
     record {
       given = handed_undone a.g x a.registers.now a.predicates.now a.core a.held.now a.counts.now _ _ _ _ _ _ en _ _ _ _ r.result _ (r.ensures.given a.list.now) no _ _ (held_again a.g x a.registers.now a.predicates.now a.core a.held.now a.counts.now _ _ _ _ _ _ en _ _ _ _ r.result _ (r.ensures.given a.list.now) no c.if-due.false) refl;
       canonical = λ k. k;
@@ -43,9 +44,6 @@ add_looked-requires c =
     let r = c.bundle-r in
     let p = c.requires in
     entry_fits a.g x a.registers.now a.predicates.now a.core a.held.now a.counts.now _ _ _ _ _ _ en _ _ _ _ r.result _ (r.ensures.given a.list.now) p.0 refl p.3 c.if-due-2.true
-
-pub shape_of-main-then-due-2 : goal.shape_of-main-then-due-2
-shape_of-main-then-due-2 c = c.bundle-r.auto.registers.1.1.1.1.1.1.1.0
 
 pub returns-then-due-2 : goal.returns-then-due-2
 returns-then-due-2 c =

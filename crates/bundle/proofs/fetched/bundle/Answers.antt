@@ -14,7 +14,7 @@ use Rattle.bundle.proofs.fetched.bundle.Goals as goal
 
 pub overflow_cast-following : goal.overflow_cast-following
 overflow_cast-following c =
-    let a = c.before in
+    let a = c in
     omega (arith, found_inside a.args.code.now a.args.core.fetch _ _ (sym c.fetch.ensures ∙ c.in-Found.is), code_small a.args.g a.requires.0, a.requires.2)
 
 pub returns-in-Refused : goal.returns-in-Refused
@@ -28,11 +28,11 @@ returns-in-Refused c =
 
 pub returns-in-Found : goal.returns-in-Found
 returns-in-Found c =
-    let a = c.before.args in
+    let a = c.args in
     let e = c.execute.ensures in
     let x = setup_of a.code.now a.g in
     record {
-      given = λ list. handed_read a.g (replaying list a.table.now x) a.registers.now a.predicates.now a.core a.held.now a.counts.now _ _ _ _ _ _ (sym c.fetch.ensures ∙ c.in-Found.is) c.slot_one-one.ensures (c.slot_two-two.ensures _ _ _)
+      given = λ list. handed_read a.g (replaying list a.table.now x) a.registers.now a.predicates.now a.core a.held.now a.counts.now _ _ _ _ _ _ (sym c.fetch.ensures ∙ c.in-Found.is) c.slot_one-one.ensures (c.slot_two-two.ensures a.core.specials a.core.fetch a.table.now)
           (e.given ∙ ap (counted (counts_in a.counts.now)) (executed_replay list a.table.now a.g x _ _ _ _ _));
       canonical = e.canonical;
       held = e.held;

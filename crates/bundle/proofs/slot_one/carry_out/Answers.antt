@@ -48,8 +48,8 @@ plain-tallied g x t w c r (Trap n handler) h = absurd (miss others 7 tt h)
 
 pub returns-in-Load : goal.returns-in-Load
 returns-in-Load c =
-    let a = c.before.before.before.args in
-    rw c.one-1.given.1
+    let a = c.args in
+    rw c.in-Load.is
     (λ rs ps. (
       load_carried a.g (setup_of a.code.now a.g) (with_held (joined rs ps a.core) (held_in a.held.now)) _ _ _ _ _ _ (c.do_load.ensures a.code.now),
       tallied_none a.g (setup_of a.code.now a.g) (joined rs ps a.core) a.held.now _ refl _ a.counts.now refl refl refl,

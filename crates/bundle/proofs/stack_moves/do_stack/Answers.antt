@@ -1,5 +1,5 @@
 use mathlib.Core.Path.{refl, sym, ap, ◌∙◌}
-use mathlib.Core.Bool.{false≢true}
+use mathlib.Core.Bool.{false≢true, not}
 use Prim.Native.Nat.{ℕ}
 use borrow.Author.Rules.{rules}
 use Rattle.settings.specs.Setup.{setup_of}
@@ -51,6 +51,6 @@ returns-in-Moves c =
     let p = ap (λ (n : ℕ). planned a.control n a.g.lo a.g.hi a.core.specials.st a.core.specials.ss a.words) (sym w) ∙ sym c.plan.ensures ∙ c.in-Moves.is in
     λ code rs hs l ps.
     let s = with_held (joined rs ps a.core) hs in (
-      stack_carried a.g (setup_of code a.g) s a.control a.words a.aligned _ l _ _ _ _ _ _ _ c.if-not-aligned.false p c.move_words.ensures,
+      stack_carried a.g (setup_of code a.g) s a.control a.words a.aligned _ l _ _ _ _ _ _ _ (ap not c.if-not-aligned.false) p c.move_words.ensures,
       c.add.ensures ∙ ap (plus (counts_in a.counts.now)) (stack_counted a.g (setup_of code a.g) s a.control a.words a.aligned _ _ _ _ p),
     )

@@ -22,7 +22,7 @@ use Rattle.bundle.proofs.transfers.do_transfer.Goals as goal
 pub returns-in-Refused : goal.returns-in-Refused
 returns-in-Refused c =
     let a = c.args in
-    let n = c.in-Refused.is.0 in
+    let n = c.in-Refused.n in
     λ rs ps b. (
       transfer_carried a.g (setup_of a.code.now a.g) (with_held (joined rs ps a.core) (held_in a.held.now)) a.delayed a.transfer b _ (sym c.in-Refused.is ∙ c.judge_transfer-judged.ensures),
       tallied_refused n a.g (setup_of a.code.now a.g) (joined rs ps a.core) a.held.now a.counts.now (effect.Transfer a.delayed a.transfer),
