@@ -1,0 +1,17 @@
+use borrow.Author.Tests.{ne_eqb}
+use Rattle.isa.specs.Format.{row}
+use Rattle.isa.proofs.tables.multiply_function.Goals as goal
+
+pub returns-in-0 : goal.returns-in-0
+unfolding row
+returns-in-0 c = rw c.in-0.is
+
+pub returns-in-1 : goal.returns-in-1
+unfolding row
+returns-in-1 c = rw c.in-1.is
+
+pub returns-in_default : goal.returns-in_default
+unfolding row
+returns-in_default c =
+    let n = c.in_default.in_default-own.rest in
+    simp (ne_eqb _ _ n.1, ne_eqb _ _ n.0.1)

@@ -1,0 +1,23 @@
+use mathlib.Core.Path.{refl, sym}
+use native.Mathlib.Omega.{arith}
+use native.Mathlib.Nat.{mod-lt, mod-le}
+use lib.ListN.{length}
+use lib.Seq.{set_out}
+use Prim.Native.Nat.{◌/◌}
+use Rattle.stack_cache.specs.Stack.{put_cache_word}
+use borrow.Author.Rules.{rules}
+use Rattle.stack_cache.proofs.access.put_cache_word.Goals as goal
+
+pub returns-then-cache-eq0 : goal.returns-then-cache-eq0
+unfolding put_cache_word
+returns-then-cache-eq0 c = sym (set_out c.args.cache.now _ c.args.v (omega arith))
+
+pub offset_bounds-cache-place : goal.offset_bounds-cache-place
+offset_bounds-cache-place c = omega (arith, mod-le (c.args.address / 4) (length c.args.cache.now))
+
+pub bounds-cache-place : goal.bounds-cache-place
+bounds-cache-place c = mod-lt (c.args.address / 4) (omega arith)
+
+pub returns : goal.returns
+unfolding put_cache_word
+returns c = refl
