@@ -166,7 +166,7 @@ finished s b before o =
 unfoldable pub attempt : Settings → Setup → State → Buffers → Outcome
 attempt g x s b = refused_or (verdict (entry_tests x s)) s b (finished s b (entry_counts x s) (bundle g x (taken x s) b))
 
--- A well_formed_lem state: 11 does not describe it, neither its parts nor the blocks that it holds of this code.
+-- A well-formed state: 11 does not describe it, neither its parts nor the blocks that it holds of this code.
 unfoldable pub well_formed : Setup → State → Bool
 well_formed x s = parts_ok s && held_ok x.method x.code s.further.held
 

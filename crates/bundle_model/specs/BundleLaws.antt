@@ -41,7 +41,7 @@ module _ (g : Settings) (x : Setup) (s : State) (b : Buffers) where
       ∙ ap (λ (j : Bundle). executed g x s (slot_one (start_of x.table s) j) (slot_two (start_of x.table s) j) after b) f.0
       ∙ ap (λ (n : ℕ). executed g x s (slot_one (start_of x.table s) i) (slot_two (start_of x.table s) i) n b) f.1
 
--- A bundle is tried under settings inside the limits, from a well_formed_lem state that has not ended.
+-- A bundle is tried under settings inside the limits, from a well-formed state that has not ended.
 module _ (g : Settings) (x : Setup) (s : State) where
   ready_all : readiness g x s ≡ ready.Ready → (admits g ≡ true) × (well_formed x s ≡ true) × (replay_ok x.list x.table ≡ true) × (ended s g.code ≡ false)
   unfolding readiness

@@ -63,7 +63,7 @@ abbrev number_of : Verdict → ℕ
 number_of Passing = 0
 number_of (Refused n) = n
 
--- The predicates of a well_formed_lem state.
+-- The predicates of a well-formed state.
 pub record Grounded (s : State) : Type 0 where
   pub eight : length s.predicates ≡ 8
   pub first : get_or s.predicates 0 false ≡ true

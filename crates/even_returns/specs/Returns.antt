@@ -29,7 +29,7 @@ pub record Ran-as (x : Setup) (budget : ℕ) (start : struct.State) (b : Buffers
   pub outcome : whole r after ≡ run x budget (state_of start) b
   pub shaped : Shaped (state_of start)
 
--- The check has accepted the code, and two runs of it, from well_formed_lem states that agree on everything public, met no stopping event: then
+-- The check has accepted the code, and two runs of it, from well-formed states that agree on everything public, met no stopping event: then
 -- they returned the same answer and the same counts, and left what agrees. The check is asked without list and table, of which it says nothing.
 pub even_returns : (z : Setup) (list table : List ℕ) (budget : ℕ) (m : Marking) (q₁ q₂ : struct.State) (b₁ b₂ : Buffers) (v : Checked) (r₁ r₂ : Ran) (after₁ after₂ : Buffers)
     → returned v ≡ checked z (length b₁.main) (length b₁.local) (length b₁.cache) m → v ≡ Accepted

@@ -1,4 +1,4 @@
--- Laws of the record. A well_formed_lem box's record is accepted and read as that box; what is read of an accepted record is written as its bytes,
+-- Laws of the record. A well-formed box's record is accepted and read as that box; what is read of an accepted record is written as its bytes,
 -- so that different accepted records are different boxes; and how long records are. That equal boxes have equal bytes is that `record_of` is
 -- a function of the box.
 use Rattle.std.specs.Prelude.{ℕ, ◌+◌, ◌*◌, ◌%◌, ◌≤◌, Bool, true, false, cond, ◌&&◌, List, ◌∷◌, ◌≡◌, refl, eqb, leb, replicate}
@@ -63,7 +63,7 @@ pub longest_reached : (cache : List ℕ) → length (record_of (full_box cache))
 unfolding transfer_section load_section product_section
 longest_reached cache = record_length_lem (full_box cache) refl
 
--- Of a well_formed_lem state no more blocks are held than a record has room for.
+-- Of a well-formed state no more blocks are held than a record has room for.
 held_few : (c : Method) (code held : List ℕ) → capacity_ok c ≡ true → held_ok c code held ≡ true → length held ≤ 16
 unfolding held_ok
 held_few c code held ok h = go c.on refl h
@@ -86,7 +86,7 @@ module _ (x : Setup) (s : State) (capacity : capacity_ok x.method ≡ true) (wel
       let rest = and_right (eqb (get_or s.registers 0 0) 0 && get_or s.predicates 0 false) ((load_ok s.load && wait_ok s.transfer) && products_ok s.further.products) parts in
       and_right (load_ok s.load && wait_ok s.transfer) (products_ok s.further.products) rest
 
--- A well_formed_lem box, whose numbers are words, is what its record is read as; and the record is accepted.
+-- A well-formed box, whose numbers are words, is what its record is read as; and the record is accepted.
 module _ (x : Setup) (p : Box) (words : InWords p) (shaped : Shaped p.state) (capacity : capacity_ok x.method ≡ true) (well : well_formed x p.state ≡ true) where
   formed : Formed p
   formed = record { shaped = shaped; products = well_products x p.state capacity well; held = well_few x p.state capacity well }
@@ -120,7 +120,7 @@ module _ (x : Setup) (w : ℕ) (bytes : List ℕ) (are : AreBytes bytes) (accept
       let n = eqb-true (length bytes % 4) 0 (and_left (eqb (length bytes % 4) 0) (is_record w (words_in bytes)) formed_bytes) in
       ap bytes_of (written_again w (words_in bytes) (are_words bytes are) form) ∙ bytes_again bytes are n
 
--- What a record is: the bytes of a well_formed_lem box with W cache words whose numbers are words.
+-- What a record is: the bytes of a well-formed box with W cache words whose numbers are words.
 pub record RecordOf (x : Setup) (w : ℕ) (bytes : List ℕ) (p : Box) : Type 0 where
   pub shaped : Shaped p.state
   pub words : InWords p

@@ -75,7 +75,7 @@ module _ (x : Setup) where
       go spent = refl
       go (refused n) = refl
 
-  -- From settings inside the limits and a well_formed_lem state on, nothing but the end is to be judged.
+  -- From settings inside the limits and a well-formed state on, nothing but the end is to be judged.
   pub run_goes : (k : ℕ) (s : State) (b : Buffers) → admits (lent x b) ≡ true → well_formed x s ≡ true → replay_ok x.list x.table ≡ true → run x k s b ≡ ending x (goes_on x k s b)
   unfolding run goes_on readiness
   run_goes zero s b a w v = rw (a, w, v) (go (has_ended s (length x.code)))

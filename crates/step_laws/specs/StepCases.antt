@@ -109,7 +109,7 @@ is_done ended = false
 is_done spent = false
 is_done (refused n) = false
 
--- What a step goes past before it does its bundle: settings inside the limits, a well_formed_lem state, a list and a table that 15 lets pass,
+-- What a step goes past before it does its bundle: settings inside the limits, a well-formed state, a list and a table that 15 lets pass,
 -- and a state that has not ended.
 pub record Going (x : Setup) (s : State) (b : Buffers) : Type 0 where
   pub admitted : admits (lent x b) ≡ true

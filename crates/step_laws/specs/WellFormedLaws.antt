@@ -1,4 +1,4 @@
--- The parts of a well_formed_lem state, and what a bundle writes onto one.
+-- The parts of a well-formed state, and what a bundle writes onto one.
 use Rattle.std.specs.Prelude.{ℕ, suc, true, false, ◌&&◌, List, ◌≡◌, refl, eqb, get_or}
 use Rattle.std.proofs.Common.{sym, ap, subst, ◌∙◌, arith, eq-eqb, eqb-true, get_or-set_other}
 use Rattle.word.specs.BoolLaws.{and_left, and_right}
@@ -17,7 +17,7 @@ use Rattle.step_laws.specs.KeptLaws.{with_special_cases, write_alu_cases, arrive
 use Rattle.settings.specs.Setup.{Setup, Buffers}
 use Rattle.method_cache.specs.MethodCache.{held_ok}
 
--- A well_formed_lem state: its parts, and the blocks that it holds.
+-- A well-formed state: its parts, and the blocks that it holds.
 module _ (x : Setup) (s : State) where
   pub well_parts : well_formed x s ≡ true → parts_ok s ≡ true
   unfolding well_formed
@@ -39,7 +39,7 @@ pub record WellFormed (s : State) : Type 0 where
   pub transfer : wait_ok s.transfer ≡ true
   pub products : products_ok s.further.products ≡ true
 
--- A well_formed_lem state has them.
+-- A well-formed state has them.
 pub well_formed_parts : (s : State) → parts_ok s ≡ true → WellFormed s
 unfolding parts_ok
 well_formed_parts s e =
@@ -145,7 +145,7 @@ firsts_last =
       word = λ v. refl;
     }
 
--- What is written onto a well_formed_lem state is well formed, if the register of a load that slot one begins is below 32.
+-- What is written onto a well-formed state is well formed, if the register of a load that slot one begins is below 32.
 pub written_well_formed : (g : Settings) (b : Buffers) (s : State) (one : Effect) (two : AluEffect) (following : ℕ) → load_ok (load_begun b one) ≡ true
     → WellFormed s → WellFormed (written g b s one two following)
 unfolding written

@@ -1,0 +1,15 @@
+use Rattle.fields.specs.Place.{writing}
+use borrow.Author.Rules.{rules}
+use Rattle.encoder.proofs.words.arithmetic.Goals as goal
+
+pub returns-in-Register : goal.returns-in-Register
+unfolding writing
+returns-in-Register c = rw (c.in-Register.is, ← c.alu_code-func.ensures, c.alu.ensures)
+
+pub returns-in-Immediate : goal.returns-in-Immediate
+unfolding writing
+returns-in-Immediate c = rw (c.in-Immediate.is, ← c.alu_code-func.ensures, c.alu_immediate.ensures)
+
+pub returns-in-Long : goal.returns-in-Long
+unfolding writing
+returns-in-Long c = rw c.in-Long.is
