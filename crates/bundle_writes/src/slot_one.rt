@@ -4,7 +4,7 @@ ghost use Rattle.answers.specs.Test.{test, verdict};
 ghost use Rattle.bundle_model.specs.Lookup.{bases_of, lookup_tests};
 ghost use Rattle.bundle_model.specs.Refusal.{no_handler};
 ghost use Rattle.bundle_writes.specs.Lookup.{judged_as};
-ghost use Rattle.settings.specs.Setup.{found, left, setup_of};
+ghost use Rattle.settings.specs.Setup.{buffers, found, left, setup_of};
 ghost use Rattle.memory.specs.Access.{store_scale, loaded_value, load_tests, stored, store_tests};
 ghost use Rattle.core_state.specs.State.{none_waits};
 ghost use Rattle.core_state.specs.Core.{waiting_transfer};
@@ -33,7 +33,7 @@ pub fn do_load(
     local: &[u8],
     cache: &[u32],
 ) -> Carried
-    ensures { (code : List ℕ) → carried_as result (found main local cache) ≡ unless_refused (verdict (load_tests g (setup_of code g) st ss kind width address)) (found main local cache) (carried_as (loading (loaded_value (found main local cache) kind width address)) (found main local cache)) }
+    ensures { (code : List ℕ) → carried_as result (buffers main.now local.now cache.now) ≡ unless_refused (verdict (load_tests g (setup_of code g) st ss kind width address)) (buffers main.now local.now cache.now) (carried_as (loading (loaded_value (buffers main.now local.now cache.now) kind width address)) (buffers main.now local.now cache.now)) }
 {
     if let Verdict::Refused(number) = judge_load(g, st, ss, kind, width, address) {
         return Carried::Refused(number);

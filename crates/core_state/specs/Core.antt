@@ -1,6 +1,6 @@
 -- The state in parts, for the contracts of the functions that are lent the registers and the predicates.
 use Rattle.std.specs.Prelude.{ℕ, ◌-◌, Bool, cond, List, [], ◌≡◌, eqb, leb}
-use Rattle.std.specs.Borrow.{Bor}
+use Rattle.std.specs.Borrow.{MutBor}
 use denote.Triple.Both.{Both}
 use Rattle.effects.specs.declared.Transfer.{Transfer}
 use Rattle.effects.specs.declared.Transfer.TheVariants.{Br, Call, Block, Xret}
@@ -75,10 +75,10 @@ joined rs ps c =
 
 -- In contracts, the state of the registers and predicates that a function is lent, when it is called and when it returns, and of the rest.
 abbrev pub Registers : Type 0
-Registers = Both (Bor (List ℕ)) (Bor (List ℕ))
+Registers = Both (MutBor (List ℕ)) (MutBor (List ℕ))
 
 abbrev pub Predicates : Type 0
-Predicates = Both (Bor (List Bool)) (Bor (List Bool))
+Predicates = Both (MutBor (List Bool)) (MutBor (List Bool))
 
 abbrev pub found_state : Registers → Predicates → Core → State
 found_state registers predicates c = joined registers.entry.now predicates.entry.now c

@@ -1,7 +1,7 @@
 // What is judged of a state: whether its parts are well formed, the blocks held aside, and whether it has ended.
 ghost use Rattle.std.specs.Prelude.{◌≡◌, Bool, List, ℕ};
 ghost use Rattle.core_state.specs.State.{parts_ok, ended};
-ghost use Rattle.core_state.specs.Core.{joined, found_state};
+ghost use Rattle.core_state.specs.Core.{joined};
 
 use crate::Core;
 use crate::waiting::{load_ok, none_waits, wait_ok};
@@ -9,7 +9,7 @@ use products::words::products_ok;
 
 // Whether refusal 11 lets the state pass, but for the blocks held, which are lent elsewhere.
 pub fn parts_ok(core: Core, registers: &[u32; 32], predicates: &[bool; 8]) -> bool
-    ensures { result ≡ parts_ok (found_state registers predicates core) }
+    ensures { result ≡ parts_ok (joined registers.now predicates.now core) }
 {
     let load = core.load;
     let transfer = core.transfer;

@@ -13,10 +13,10 @@ use Rattle.isa.specs.declared.Bundle.{Bundle}
 use Rattle.marking.specs.declared.Marking.{Marking}
 use Rattle.marking_rules.specs.declared.Rule.{Rule}
 use Rattle.marking_rules.specs.declared.Rule.TheVariants.{A, B, C, D, E}
-use Rattle.marking_rules.specs.Rules.{result, controlling, asked, breaks, keeps}
+use Rattle.marking_rules.specs.Rules.{of_result, controlling, asked, breaks, keeps}
 
 -- Of an ALU operation only B asks, and of stack control and of a transfer only A and E.
-pub alu_row_lem : (m : Marking) (o : AluOperation) → asked m (Alu o) ≡ result (asked m (Alu o)).destination (asked m (Alu o)).source
+pub alu_row_lem : (m : Marking) (o : AluOperation) → asked m (Alu o) ≡ of_result (asked m (Alu o)).destination (asked m (Alu o)).source
 unfolding asked
 alu_row_lem m (Arithmetic f rd a o) = refl
 alu_row_lem m (Compare f pd a o) = refl

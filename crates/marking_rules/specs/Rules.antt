@@ -38,21 +38,21 @@ private_amount m (Register r) = private_register m r
 --   value        the value that it stores is private
 --   operand      a register operand of a transfer or of stack control is private
 -- So a base register is C's alone, and the register operand of a transfer or of stack control is E's alone.
-abbrev pub result : Bool → Bool → Asked
-result to from = record { control = false; destination = to; source = from; access = false; base = false; store = false; value = false; operand = false }
+abbrev pub of_result : Bool → Bool → Asked
+of_result to from = record { control = false; destination = to; source = from; access = false; base = false; store = false; value = false; operand = false }
 
 abbrev pub controlling : Bool → Asked
 controlling private = record { control = true; destination = false; source = false; access = false; base = false; store = false; value = false; operand = private }
 
 -- The table. A product goes to sl and sh.
 unfoldable pub asked : Marking → Operation → Asked
-asked m (Alu (Arithmetic f rd a o)) = result (public_register m rd) (private_register m a || private_op2 m o)
-asked m (Alu (Compare f pd a o)) = result (public_predicate m pd) (private_register m a || private_op2 m o)
-asked m (Alu (Predicate f pd p q)) = result (public_predicate m pd) (private_operand m p || private_operand m q)
-asked m (Alu (BitCopy rd a bit p)) = result (public_register m rd) (private_register m a || private_operand m p)
-asked m (Multiply f a b) = result (not m.sl || not m.sh) (private_register m a || private_register m b)
+asked m (Alu (Arithmetic f rd a o)) = of_result (public_register m rd) (private_register m a || private_op2 m o)
+asked m (Alu (Compare f pd a o)) = of_result (public_predicate m pd) (private_register m a || private_op2 m o)
+asked m (Alu (Predicate f pd p q)) = of_result (public_predicate m pd) (private_operand m p || private_operand m q)
+asked m (Alu (BitCopy rd a bit p)) = of_result (public_register m rd) (private_register m a || private_operand m p)
+asked m (Multiply f a b) = of_result (not m.sl || not m.sh) (private_register m a || private_register m b)
 asked m (Mts d r) = record { control = on_special false false false true d; destination = public_special m d; source = private_register m r; access = false; base = false; store = false; value = false; operand = false }
-asked m (Mfs r d) = result (public_register m r) (private_special m d)
+asked m (Mfs r d) = of_result (public_register m r) (private_special m d)
 asked m (Load k w rd ra o) = record { control = false; destination = public_register m rd; source = private_store m k; access = true; base = private_register m ra; store = false; value = false; operand = false }
 asked m (Store k w ra rs o) = record { control = false; destination = false; source = false; access = true; base = private_register m ra; store = not (private_store m k); value = private_register m rs; operand = false }
 asked m (StackControl (Sres n)) = controlling false

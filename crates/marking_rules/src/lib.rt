@@ -2,7 +2,7 @@
 #![tactic(auto)]
 ghost use Rattle.std.specs.Prelude.{ℕ, true, false, ◌≡◌};
 ghost use Rattle.marking.specs.Marking.{on_special};
-ghost use Rattle.marking_rules.specs.Rules.{private_op2, private_amount, result, controlling, asked};
+ghost use Rattle.marking_rules.specs.Rules.{private_op2, private_amount, of_result, controlling, asked};
 
 use isa::{
     AccessKind, AluOperation, LoadWidth, Op2, Operation, Special, StackAmount, StackOperation,
@@ -41,7 +41,7 @@ pub struct Asked {
 
 impl Asked {
     fn result(destination: bool, source: bool) -> Asked
-        ensures* { λ r. ⌜ r ≡ result destination source ⌝ }
+        ensures { result ≡ of_result destination source }
     {
         Asked {
             control: false,
@@ -56,7 +56,7 @@ impl Asked {
     }
 
     fn controlling(operand: bool) -> Asked
-        ensures* { λ r. ⌜ r ≡ controlling operand ⌝ }
+        ensures { result ≡ controlling operand }
     {
         Asked {
             control: true,
@@ -73,7 +73,7 @@ impl Asked {
 
 // The special registers that are neither predicates nor a product.
 fn is_control(special: Special) -> bool
-    ensures* { λ r. ⌜ r ≡ on_special false false false true special ⌝ }
+    ensures { result ≡ on_special false false false true special }
 {
     match special {
         Special::S0 => false,
@@ -89,7 +89,7 @@ fn is_control(special: Special) -> bool
 }
 
 fn private_op2(m: Marking, o: Op2) -> bool
-    ensures* { λ r. ⌜ r ≡ private_op2 m o ⌝ }
+    ensures { result ≡ private_op2 m o }
 {
     match o {
         Op2::Register(r) => m.private_register(r),
@@ -99,7 +99,7 @@ fn private_op2(m: Marking, o: Op2) -> bool
 }
 
 fn private_amount(m: Marking, a: StackAmount) -> bool
-    ensures* { λ r. ⌜ r ≡ private_amount m a ⌝ }
+    ensures { result ≡ private_amount m a }
 {
     match a {
         StackAmount::Words(_) => false,
@@ -108,7 +108,7 @@ fn private_amount(m: Marking, a: StackAmount) -> bool
 }
 
 fn private_stack(m: Marking, o: StackOperation) -> bool
-    ensures* { λ r. ⌜ r ≡ (asked m (Operation.StackControl o)).operand ⌝ }
+    ensures { result ≡ (asked m (Operation.StackControl o)).operand }
 {
     match o {
         StackOperation::Sres(_) => false,
@@ -120,7 +120,7 @@ fn private_stack(m: Marking, o: StackOperation) -> bool
 
 // The same with delay and without.
 fn private_target(m: Marking, t: Target) -> bool
-    ensures* { λ r. ⌜ r ≡ (asked m (Operation.Transfer true t)).operand ⌝ }
+    ensures { result ≡ (asked m (Operation.Transfer true t)).operand }
 {
     match t {
         Target::Call(_) => false,
@@ -134,7 +134,7 @@ fn private_target(m: Marking, t: Target) -> bool
 }
 
 pub fn asked_of_alu(m: Marking, o: AluOperation) -> Asked
-    ensures* { λ r. ⌜ r ≡ asked m (Operation.Alu o) ⌝ }
+    ensures { result ≡ asked m (Operation.Alu o) }
 {
     match o {
         AluOperation::Arithmetic { rd, rs1, op2, .. } => {
@@ -165,7 +165,7 @@ pub fn asked_of_alu(m: Marking, o: AluOperation) -> Asked
 }
 
 fn asked_of_mts(m: Marking, special: Special, rs1: u32) -> Asked
-    ensures* { λ r. ⌜ r ≡ asked m (Operation.Mts special rs1) ⌝ }
+    ensures { result ≡ asked m (Operation.Mts special rs1) }
 {
     Asked {
         control: is_control(special),
@@ -181,7 +181,7 @@ fn asked_of_mts(m: Marking, special: Special, rs1: u32) -> Asked
 
 // Whatever the width and the offset.
 fn asked_of_load(m: Marking, kind: AccessKind, rd: u32, ra: u32) -> Asked
-    ensures* { λ r. ⌜ ((w : LoadWidth) (offset : ℕ) → r ≡ asked m (Operation.Load kind w rd ra offset)) ⌝ }
+    ensures { (w : LoadWidth) (offset : ℕ) → result ≡ asked m (Operation.Load kind w rd ra offset) }
 {
     Asked {
         control: false,
@@ -196,7 +196,7 @@ fn asked_of_load(m: Marking, kind: AccessKind, rd: u32, ra: u32) -> Asked
 }
 
 fn asked_of_store(m: Marking, kind: AccessKind, ra: u32, rs: u32) -> Asked
-    ensures* { λ r. ⌜ ((w : StoreWidth) (offset : ℕ) → r ≡ asked m (Operation.Store kind w ra rs offset)) ⌝ }
+    ensures { (w : StoreWidth) (offset : ℕ) → result ≡ asked m (Operation.Store kind w ra rs offset) }
 {
     Asked {
         control: false,
@@ -211,7 +211,7 @@ fn asked_of_store(m: Marking, kind: AccessKind, ra: u32, rs: u32) -> Asked
 }
 
 pub fn asked_of(m: Marking, o: Operation) -> Asked
-    ensures* { λ r. ⌜ r ≡ asked m o ⌝ }
+    ensures { result ≡ asked m o }
 {
     match o {
         Operation::Alu(a) => asked_of_alu(m, a),

@@ -3,7 +3,7 @@ ghost use Rattle.std.specs.Prelude.{◌≡◌, ◌^◌};
 ghost use Rattle.big_endian.specs.Bytes.{number_at, put_number};
 ghost use Rattle.stack_cache.specs.Stack.{cache_number, put_cache_number};
 ghost use Rattle.memory.specs.Access.{load_scale, store_scale, extended, loaded_value, stored};
-ghost use Rattle.settings.specs.Setup.{found, left};
+ghost use Rattle.settings.specs.Setup.{buffers, found, left};
 
 use isa::{AccessKind, LoadWidth, StoreWidth};
 use stack_cache::access;
@@ -42,7 +42,7 @@ pub fn load(
     width: LoadWidth,
     a: u32,
 ) -> u32
-    ensures { result ≡ loaded_value (found main local cache) kind width a }
+    ensures { result ≡ loaded_value (buffers main.now local.now cache.now) kind width a }
 {
     match kind {
         AccessKind::Stack => load_cache(cache, width, a),

@@ -1,6 +1,6 @@
 -- What is handed to a run: what stays the same during it, and what is lent for writing.
 use Rattle.std.specs.Prelude.{ℕ, ◌+◌, Bool, ◌&&◌, List, [], leb, ltb, length}
-use Rattle.std.specs.Borrow.{Bor}
+use Rattle.std.specs.Borrow.{MutBor}
 use denote.Triple.Both.{Both}
 use Rattle.method_cache.specs.declared.Method.{Method}
 use Rattle.settings.specs.declared.Config.{Config}
@@ -35,7 +35,7 @@ buffers m l c = record { main = m; local = l; cache = c }
 
 -- In contracts, what a function is lent: as it is when the function is called, and when it returns.
 abbrev pub Lent : Type 0
-Lent = Both (Bor (List ℕ)) (Bor (List ℕ))
+Lent = Both (MutBor (List ℕ)) (MutBor (List ℕ))
 
 abbrev pub found : Lent → Lent → Lent → Buffers
 found main local cache = buffers main.entry.now local.entry.now cache.entry.now

@@ -2,7 +2,7 @@
 ghost use Rattle.std.specs.Prelude.{◌≡◌, length, replicate};
 ghost use Rattle.method_cache.specs.Words.{FixedHeld};
 ghost use Rattle.core_state.specs.State.{fresh, blank};
-ghost use Rattle.settings.specs.Setup.{setup, found};
+ghost use Rattle.settings.specs.Setup.{setup, buffers};
 ghost use Rattle.state.specs.Whole.{state_of};
 ghost use Rattle.state.specs.Open.{open_with, opening};
 
@@ -79,7 +79,7 @@ impl State {
         config: Config,
         entry: u32,
     ) -> Opened
-        ensures cache_after { open_with result cache.new ≡ opening (setup code.now config) (found main local cache) entry }
+        ensures cache_after { open_with result cache.new ≡ opening (setup code.now config) (buffers main.now local.now cache.old) entry }
         ensures fixed { FixedHeld result.state.held }
     {
         let g = config.settings(code, main.len(), local.len(), cache.len());

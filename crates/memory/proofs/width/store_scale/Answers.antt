@@ -1,0 +1,14 @@
+use Rattle.memory.specs.Access.{store_scale}
+use Rattle.memory.proofs.width.store_scale.Goals as goal
+
+pub returns-in-Word : goal.returns-in-Word
+unfolding store_scale
+returns-in-Word c = rw c.in-Word.is
+
+pub returns-in-Half : goal.returns-in-Half
+unfolding store_scale
+returns-in-Half c = rw c.in-Half.is
+
+pub returns-in-Byte : goal.returns-in-Byte
+unfolding store_scale
+returns-in-Byte c = rw c.in-Byte.is
