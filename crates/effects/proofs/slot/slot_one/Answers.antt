@@ -10,4 +10,4 @@ returns-in-Undecodable c = rw c.in-Undecodable.is
 pub returns-in-One : goal.returns-in-One
 returns-in-One c =
     let e = c.slot_one_effect.ensures in
-    ⊎_elim (λ w. rw w e) (⊎_elim (λ w. rw w e) (λ w. rw w e)) c.in-One.is
+    ⊎_elim (λ w. rw w e) (⊎_elim (λ w. rw w e) (λ w. rw w.1 e)) c.in-One.is

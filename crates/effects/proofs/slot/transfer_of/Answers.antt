@@ -1,3 +1,4 @@
+use borrow.Author.Rules.{rules}
 use Rattle.effects.specs.Effect.{transfer_of}
 use mir.ValLaws.{to_z-of_z}
 use mir.Syntax.{w32}
