@@ -1,8 +1,10 @@
 // What is judged before bundles are done: the settings, the state, what is replayed, and whether the state has ended.
 ghost use Rattle.std.specs.Prelude.{◌≡◌};
 ghost use Rattle.settings.specs.Setup.{replaying, setup_of};
+ghost use Rattle.method_cache.specs.Words.{held_in};
+ghost use Rattle.core_state.specs.State.{with_held};
+ghost use Rattle.core_state.specs.Core.{joined};
 ghost use Rattle.bundle_model.specs.Bundle.{readiness};
-ghost use Rattle.bundle_model.specs.Execute.{found_whole};
 
 use crate::Readiness;
 use core_state::Core;
@@ -22,7 +24,7 @@ pub fn readiness(
     table: &[u8],
     g: Settings,
 ) -> Readiness
-    ensures { result ≡ readiness g (replaying list.now table.now (setup_of code.now g)) (found_whole registers predicates held core) }
+    ensures { result ≡ readiness g (replaying list.now table.now (setup_of code.now g)) (with_held (joined registers.now predicates.now core) (held_in held.now)) }
 {
     if !g.admits() {
         return Readiness::Refused(1);
