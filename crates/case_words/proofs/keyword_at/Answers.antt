@@ -1,160 +1,156 @@
 use borrow.Author.Tests.{ne_eqb}
 use Rattle.case_words.specs.Names.{meaning_from, keywords}
-use Rattle.case_words.proofs.keyword_at.Statement.{statement}
-use Rattle.case_words.proofs.keyword_at.Tie as tie
+use Rattle.case_words.proofs.keyword_at.Goals as goal
 
-returns : tie.Need-returns
+pub returns-in-0 : goal.returns-in-0
 unfolding meaning_from keywords
-returns c = rw c.match.keys1
+returns-in-0 c = rw c.in-0.is
 
-returns-2 : tie.Need-returns-2
+pub returns-in-1 : goal.returns-in-1
 unfolding meaning_from keywords
-returns-2 c = rw c.match.keys2
+returns-in-1 c = rw c.in-1.is
 
-returns-3 : tie.Need-returns-3
+pub returns-in-2 : goal.returns-in-2
 unfolding meaning_from keywords
-returns-3 c = rw c.match.keys3
+returns-in-2 c = rw c.in-2.is
 
-returns-4 : tie.Need-returns-4
+pub returns-in-3 : goal.returns-in-3
 unfolding meaning_from keywords
-returns-4 c = rw c.match.keys4
+returns-in-3 c = rw c.in-3.is
 
-returns-5 : tie.Need-returns-5
+pub returns-in-4 : goal.returns-in-4
 unfolding meaning_from keywords
-returns-5 c = rw c.match.keys5
+returns-in-4 c = rw c.in-4.is
 
-returns-6 : tie.Need-returns-6
+pub returns-in-5 : goal.returns-in-5
 unfolding meaning_from keywords
-returns-6 c = rw c.match.keys6
+returns-in-5 c = rw c.in-5.is
 
-returns-7 : tie.Need-returns-7
+pub returns-in-6 : goal.returns-in-6
 unfolding meaning_from keywords
-returns-7 c = rw c.match.keys7
+returns-in-6 c = rw c.in-6.is
 
-returns-8 : tie.Need-returns-8
+pub returns-in-7 : goal.returns-in-7
 unfolding meaning_from keywords
-returns-8 c = rw c.match.keys8
+returns-in-7 c = rw c.in-7.is
 
-returns-9 : tie.Need-returns-9
+pub returns-in-8 : goal.returns-in-8
 unfolding meaning_from keywords
-returns-9 c = rw c.match.keys9
+returns-in-8 c = rw c.in-8.is
 
-returns-10 : tie.Need-returns-10
+pub returns-in-9 : goal.returns-in-9
 unfolding meaning_from keywords
-returns-10 c = rw c.match.keys10
+returns-in-9 c = rw c.in-9.is
 
-returns-11 : tie.Need-returns-11
+pub returns-in-10 : goal.returns-in-10
 unfolding meaning_from keywords
-returns-11 c = rw c.match.keys11
+returns-in-10 c = rw c.in-10.is
 
-returns-12 : tie.Need-returns-12
+pub returns-in-11 : goal.returns-in-11
 unfolding meaning_from keywords
-returns-12 c = rw c.match.keys12
+returns-in-11 c = rw c.in-11.is
 
-returns-13 : tie.Need-returns-13
+pub returns-in-12 : goal.returns-in-12
 unfolding meaning_from keywords
-returns-13 c = rw c.match.keys13
+returns-in-12 c = rw c.in-12.is
 
-returns-14 : tie.Need-returns-14
+pub returns-in-13 : goal.returns-in-13
 unfolding meaning_from keywords
-returns-14 c = rw c.match.keys14
+returns-in-13 c = rw c.in-13.is
 
-returns-15 : tie.Need-returns-15
+pub returns-in-14 : goal.returns-in-14
 unfolding meaning_from keywords
-returns-15 c = rw c.match.keys15
+returns-in-14 c = rw c.in-14.is
 
-returns-16 : tie.Need-returns-16
+pub returns-in-15 : goal.returns-in-15
 unfolding meaning_from keywords
-returns-16 c = rw c.match.keys16
+returns-in-15 c = rw c.in-15.is
 
-returns-17 : tie.Need-returns-17
+pub returns-in-16 : goal.returns-in-16
 unfolding meaning_from keywords
-returns-17 c = rw c.match.keys17
+returns-in-16 c = rw c.in-16.is
 
-returns-18 : tie.Need-returns-18
+pub returns-in-17 : goal.returns-in-17
 unfolding meaning_from keywords
-returns-18 c = rw c.match.keys18
+returns-in-17 c = rw c.in-17.is
 
-returns-19 : tie.Need-returns-19
+pub returns-in-18 : goal.returns-in-18
 unfolding meaning_from keywords
-returns-19 c = rw c.match.keys19
+returns-in-18 c = rw c.in-18.is
 
-returns-20 : tie.Need-returns-20
+pub returns-in-19 : goal.returns-in-19
 unfolding meaning_from keywords
-returns-20 c = rw c.match.keys20
+returns-in-19 c = rw c.in-19.is
 
-returns-21 : tie.Need-returns-21
+pub returns-in-20 : goal.returns-in-20
 unfolding meaning_from keywords
-returns-21 c = rw c.match.keys21
+returns-in-20 c = rw c.in-20.is
 
-returns-22 : tie.Need-returns-22
+pub returns-in-21 : goal.returns-in-21
 unfolding meaning_from keywords
-returns-22 c = rw c.match.keys22
+returns-in-21 c = rw c.in-21.is
 
-returns-23 : tie.Need-returns-23
+pub returns-in-22 : goal.returns-in-22
 unfolding meaning_from keywords
-returns-23 c = rw c.match.keys23
+returns-in-22 c = rw c.in-22.is
 
-returns-24 : tie.Need-returns-24
+pub returns-in-23 : goal.returns-in-23
 unfolding meaning_from keywords
-returns-24 c = rw c.match.keys24
+returns-in-23 c = rw c.in-23.is
 
-returns-25 : tie.Need-returns-25
+pub returns-in-24 : goal.returns-in-24
 unfolding meaning_from keywords
-returns-25 c = rw c.match.keys25
+returns-in-24 c = rw c.in-24.is
 
-returns-26 : tie.Need-returns-26
+pub returns-in-25 : goal.returns-in-25
 unfolding meaning_from keywords
-returns-26 c = rw c.match.keys26
+returns-in-25 c = rw c.in-25.is
 
-returns-27 : tie.Need-returns-27
+pub returns-in-26 : goal.returns-in-26
 unfolding meaning_from keywords
-returns-27 c = rw c.match.keys27
+returns-in-26 c = rw c.in-26.is
 
-returns-28 : tie.Need-returns-28
+pub returns-in-27 : goal.returns-in-27
 unfolding meaning_from keywords
-returns-28 c = rw c.match.keys28
+returns-in-27 c = rw c.in-27.is
 
-returns-29 : tie.Need-returns-29
+pub returns-in-28 : goal.returns-in-28
 unfolding meaning_from keywords
-returns-29 c = rw c.match.keys29
+returns-in-28 c = rw c.in-28.is
 
-returns-30 : tie.Need-returns-30
+pub returns-in-29 : goal.returns-in-29
 unfolding meaning_from keywords
-returns-30 c = rw c.match.keys30
+returns-in-29 c = rw c.in-29.is
 
-returns-31 : tie.Need-returns-31
+pub returns-in-30 : goal.returns-in-30
 unfolding meaning_from keywords
-returns-31 c = rw c.match.keys31
+returns-in-30 c = rw c.in-30.is
 
-returns-32 : tie.Need-returns-32
+pub returns-in-31 : goal.returns-in-31
 unfolding meaning_from keywords
-returns-32 c = rw c.match.keys32
+returns-in-31 c = rw c.in-31.is
 
-returns-33 : tie.Need-returns-33
+pub returns-in-32 : goal.returns-in-32
 unfolding meaning_from keywords
-returns-33 c = rw c.match.keys33
+returns-in-32 c = rw c.in-32.is
 
-returns-34 : tie.Need-returns-34
+pub returns-in-33 : goal.returns-in-33
 unfolding meaning_from keywords
-returns-34 c = rw c.match.keys34
+returns-in-33 c = rw c.in-33.is
 
-returns-35 : tie.Need-returns-35
+pub returns-in-34 : goal.returns-in-34
 unfolding meaning_from keywords
-returns-35 c = rw c.match.keys35
+returns-in-34 c = rw c.in-34.is
 
-returns-36 : tie.Need-returns-36
+pub returns-in-35 : goal.returns-in-35
 unfolding meaning_from keywords
-returns-36 c = rw c.match.keys36
+returns-in-35 c = rw c.in-35.is
 
-returns-37 : tie.Need-returns-37
+pub returns-in-36 : goal.returns-in-36
 unfolding meaning_from keywords
-returns-37 c = rw c.match.keys37
+returns-in-36 c = rw c.in-36.is
 
-returns-38 : tie.Need-returns-38
+pub returns-in_default : goal.returns-in_default
 unfolding meaning_from keywords
-returns-38 c = let n = c.match.rest in
+returns-in_default c = let n = c.in_default.in_default-own.rest in
     simp (ne_eqb _ _ n.1, ne_eqb _ _ n.0.1, ne_eqb _ _ n.0.0.1, ne_eqb _ _ n.0.0.0.1, ne_eqb _ _ n.0.0.0.0.1, ne_eqb _ _ n.0.0.0.0.0.1, ne_eqb _ _ n.0.0.0.0.0.0.1, ne_eqb _ _ n.0.0.0.0.0.0.0.1, ne_eqb _ _ n.0.0.0.0.0.0.0.0.1, ne_eqb _ _ n.0.0.0.0.0.0.0.0.0.1, ne_eqb _ _ n.0.0.0.0.0.0.0.0.0.0.1, ne_eqb _ _ n.0.0.0.0.0.0.0.0.0.0.0.1, ne_eqb _ _ n.0.0.0.0.0.0.0.0.0.0.0.0.1, ne_eqb _ _ n.0.0.0.0.0.0.0.0.0.0.0.0.0.1, ne_eqb _ _ n.0.0.0.0.0.0.0.0.0.0.0.0.0.0.1, ne_eqb _ _ n.0.0.0.0.0.0.0.0.0.0.0.0.0.0.0.1, ne_eqb _ _ n.0.0.0.0.0.0.0.0.0.0.0.0.0.0.0.0.1, ne_eqb _ _ n.0.0.0.0.0.0.0.0.0.0.0.0.0.0.0.0.0.1, ne_eqb _ _ n.0.0.0.0.0.0.0.0.0.0.0.0.0.0.0.0.0.0.1, ne_eqb _ _ n.0.0.0.0.0.0.0.0.0.0.0.0.0.0.0.0.0.0.0.1, ne_eqb _ _ n.0.0.0.0.0.0.0.0.0.0.0.0.0.0.0.0.0.0.0.0.1, ne_eqb _ _ n.0.0.0.0.0.0.0.0.0.0.0.0.0.0.0.0.0.0.0.0.0.1, ne_eqb _ _ n.0.0.0.0.0.0.0.0.0.0.0.0.0.0.0.0.0.0.0.0.0.0.1, ne_eqb _ _ n.0.0.0.0.0.0.0.0.0.0.0.0.0.0.0.0.0.0.0.0.0.0.0.1, ne_eqb _ _ n.0.0.0.0.0.0.0.0.0.0.0.0.0.0.0.0.0.0.0.0.0.0.0.0.1, ne_eqb _ _ n.0.0.0.0.0.0.0.0.0.0.0.0.0.0.0.0.0.0.0.0.0.0.0.0.0.1, ne_eqb _ _ n.0.0.0.0.0.0.0.0.0.0.0.0.0.0.0.0.0.0.0.0.0.0.0.0.0.0.1, ne_eqb _ _ n.0.0.0.0.0.0.0.0.0.0.0.0.0.0.0.0.0.0.0.0.0.0.0.0.0.0.0.1, ne_eqb _ _ n.0.0.0.0.0.0.0.0.0.0.0.0.0.0.0.0.0.0.0.0.0.0.0.0.0.0.0.0.1, ne_eqb _ _ n.0.0.0.0.0.0.0.0.0.0.0.0.0.0.0.0.0.0.0.0.0.0.0.0.0.0.0.0.0.1, ne_eqb _ _ n.0.0.0.0.0.0.0.0.0.0.0.0.0.0.0.0.0.0.0.0.0.0.0.0.0.0.0.0.0.0.1, ne_eqb _ _ n.0.0.0.0.0.0.0.0.0.0.0.0.0.0.0.0.0.0.0.0.0.0.0.0.0.0.0.0.0.0.0.1, ne_eqb _ _ n.0.0.0.0.0.0.0.0.0.0.0.0.0.0.0.0.0.0.0.0.0.0.0.0.0.0.0.0.0.0.0.0.1, ne_eqb _ _ n.0.0.0.0.0.0.0.0.0.0.0.0.0.0.0.0.0.0.0.0.0.0.0.0.0.0.0.0.0.0.0.0.0.1, ne_eqb _ _ n.0.0.0.0.0.0.0.0.0.0.0.0.0.0.0.0.0.0.0.0.0.0.0.0.0.0.0.0.0.0.0.0.0.0.1, ne_eqb _ _ n.0.0.0.0.0.0.0.0.0.0.0.0.0.0.0.0.0.0.0.0.0.0.0.0.0.0.0.0.0.0.0.0.0.0.0.1, ne_eqb _ _ n.0.0.0.0.0.0.0.0.0.0.0.0.0.0.0.0.0.0.0.0.0.0.0.0.0.0.0.0.0.0.0.0.0.0.0.0.1)
-
-pub keyword-at-spec : {M : Type 1} → statement M
-keyword-at-spec = tie.close (tie.spec returns returns-2 returns-3 returns-4 returns-5 returns-6 returns-7 returns-8 returns-9 returns-10 returns-11 returns-12 returns-13 returns-14 returns-15 returns-16 returns-17 returns-18 returns-19 returns-20 returns-21 returns-22 returns-23 returns-24 returns-25 returns-26 returns-27 returns-28 returns-29 returns-30 returns-31 returns-32 returns-33 returns-34 returns-35 returns-36 returns-37 returns-38)
