@@ -1,0 +1,5 @@
+use borrow.Author.Rules.{rules}
+use Rattle.disassembler.proofs.writing.is_unguarded.Goals as goal
+
+pub returns : goal.returns
+returns c = rw c.if-g.false
