@@ -1,5 +1,4 @@
 use Rattle.disassembler.specs.Shown.{shown}
-use borrow.Author.Rules.{rules}
 use Rattle.disassembler.proofs.showing.show.Goals as goal
 
 pub returns-in-Alu : goal.returns-in-Alu

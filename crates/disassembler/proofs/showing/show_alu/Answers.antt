@@ -1,5 +1,4 @@
 use Rattle.disassembler.specs.Shown.{shown}
-use borrow.Author.Rules.{rules}
 use Rattle.disassembler.proofs.showing.show_alu.Goals as goal
 
 pub returns-in-Arithmetic : goal.returns-in-Arithmetic

@@ -1,4 +1,3 @@
-use borrow.Author.Rules.{rules}
 use Rattle.disassembler.proofs.showing.show_amount.Goals as goal
 
 pub returns-in-Words : goal.returns-in-Words

@@ -1,5 +1,4 @@
 use Rattle.disassembler.specs.Shown.{shown}
-use borrow.Author.Rules.{rules}
 use Rattle.disassembler.proofs.showing.show_compare.Goals as goal
 
 pub returns-in-Register : goal.returns-in-Register

@@ -11,7 +11,7 @@ returns-in-Call c = rw (c.in-Call.is, ← c.bit-d.ensures) c.one.ensures
 
 pub returns-in-Br : goal.returns-in-Br
 unfolding shown
-returns-in-Br c = let z = c.in-Br.z in rw (c.in-Br.is, ← c.bit-d.ensures, c.one-in-Br.ensures, c.unsigned.ensures, to_z-of_z w32 z (record { sfits = c.in-Br.known_told-in-Br-1-own.given.0.1 }), complement_of z)
+returns-in-Br c = let z = c.in-Br.z in rw (c.in-Br.is, ← c.bit-d.ensures, c.one-in-Br.ensures, c.unsigned.ensures, to_z-of_z w32 z (record { sfits = search rules }), complement_of z)
 
 pub returns-in-Brcf : goal.returns-in-Brcf
 unfolding shown

@@ -1,6 +1,5 @@
 use native.Mathlib.Omega.{arith}
 use Rattle.disassembler.specs.ShowingLaws.{kind_small, store_small}
-use borrow.Author.Rules.{rules}
 use Rattle.disassembler.proofs.showing.store_type.Goals as goal
 
 pub overflow_mul-result : goal.overflow_mul-result

@@ -1,7 +1,6 @@
 use Rattle.disassembler.specs.Text.{bundle_text}
 use Rattle.text.specs.PageLaws.{text_none}
 use mathlib.Core.Path.{sym}
-use borrow.Author.Rules.{rules}
 use Rattle.disassembler.proofs.writing.put_bundle.Goals as goal
 
 pub returns-in-Undecodable : goal.returns-in-Undecodable

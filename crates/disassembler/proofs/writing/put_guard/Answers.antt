@@ -1,7 +1,6 @@
 use mathlib.Core.Path.{sym, ◌∙◌}
 use Rattle.text.specs.PageLaws.{text_none, text_byte, text_then}
 use Rattle.disassembler.specs.Text.{guard_text}
-use borrow.Author.Rules.{rules}
 use Rattle.disassembler.proofs.writing.put_guard.Goals as goal
 
 pub returns-then-is_unguarded : goal.returns-then-is_unguarded

@@ -1,4 +1,3 @@
-use borrow.Author.Rules.{rules}
 use Rattle.disassembler.proofs.writing.put_nth.Goals as goal
 
 pub returns : goal.returns

@@ -1,6 +1,5 @@
 use Rattle.text.specs.PageLaws.{text_then}
 use Rattle.disassembler.specs.Text.{shown_text}
-use borrow.Author.Rules.{rules}
 use Rattle.disassembler.proofs.writing.put_shown.Goals as goal
 
 pub returns : goal.returns

@@ -1,5 +1,4 @@
 use Rattle.text.specs.PageLaws.{text_then}
-use borrow.Author.Rules.{rules}
 use Rattle.disassembler.proofs.writing.put_slot.Goals as goal
 
 pub returns : goal.returns

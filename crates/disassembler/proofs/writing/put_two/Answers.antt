@@ -1,6 +1,5 @@
 use Rattle.disassembler.specs.Text.{bundle_text}
 use Rattle.text.specs.PageLaws.{text_then}
-use borrow.Author.Rules.{rules}
 use Rattle.disassembler.proofs.writing.put_two.Goals as goal
 
 pub returns : goal.returns
