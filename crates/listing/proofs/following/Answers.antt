@@ -1,7 +1,6 @@
 use native.Mathlib.Omega.{arith}
 use Rattle.decoder.specs.Decode.{bundle_words}
 use Rattle.decoder.specs.DecodeLaws.{words_two}
-use borrow.Author.Rules.{rules}
 use Rattle.listing.proofs.following.Goals as goal
 
 pub returns-then-bundle_words-eq1 : goal.returns-then-bundle_words-eq1

@@ -1,5 +1,4 @@
 use Rattle.listing.specs.Listing.{has_second}
-use borrow.Author.Rules.{rules}
 use Rattle.listing.proofs.has_second.Goals as goal
 
 pub returns : goal.returns

@@ -1,4 +1,3 @@
-use borrow.Author.Rules.{rules}
 use Rattle.listing.proofs.is_fixed.Goals as goal
 
 pub returns-in-One : goal.returns-in-One

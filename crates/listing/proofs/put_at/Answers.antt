@@ -1,6 +1,5 @@
 use mathlib.Core.Path.{◌∙◌}
 use Rattle.text.specs.PageLaws.{text_then}
-use borrow.Author.Rules.{rules}
 use Rattle.listing.proofs.put_at.Goals as goal
 
 pub shape_of-out : goal.shape_of-out

@@ -1,7 +1,6 @@
 use mathlib.Core.Path.{sym, ◌∙◌}
 use Rattle.text.specs.PageLaws.{text_none, text_then}
 use Rattle.listing.specs.Listing.{fixed_text}
-use borrow.Author.Rules.{rules}
 use Rattle.listing.proofs.put_fixed.Goals as goal
 
 pub returns-then-is_fixed : goal.returns-then-is_fixed

@@ -1,6 +1,5 @@
 use mathlib.Core.Path.{sym, ◌∙◌}
 use Rattle.text.specs.PageLaws.{text_byte, text_then}
-use borrow.Author.Rules.{rules}
 use Rattle.listing.proofs.put_found.Goals as goal
 
 pub shape_of-out-in-Refused : goal.shape_of-out-in-Refused

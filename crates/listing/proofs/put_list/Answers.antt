@@ -1,12 +1,9 @@
-use Prim.Native.Nat.{◌+◌, ◌*◌, ◌-◌, ◌≤◌}
+use Prim.Native.Nat.{◌-◌}
 use mathlib.Core.Path.{◌≡◌, refl, ◌∙◌}
 use native.Mathlib.Omega.{arith}
-use lib.ListN.{length}
-use Rattle.text.specs.Page.{page, with_text}
 use Rattle.text.specs.PageLaws.{text_then}
-use Rattle.listing.specs.Listing.{lines_text, list_text}
+use Rattle.listing.specs.Listing.{list_text}
 use Rattle.listing.specs.ListingLaws.{lines_end, lines_none, lines_step}
-use borrow.Author.Rules.{rules}
 use Rattle.listing.proofs.put_list.Goals as goal
 
 pub loop-left-init : goal.loop-left-init

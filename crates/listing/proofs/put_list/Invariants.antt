@@ -1,12 +1,8 @@
-use Prim.Native.Nat.{◌+◌, ◌*◌, ◌-◌, ◌≤◌}
-use mathlib.Core.Path.{◌≡◌, refl, ◌∙◌}
-use native.Mathlib.Omega.{arith}
+use Prim.Native.Nat.{◌+◌, ◌*◌, ◌≤◌}
+use mathlib.Core.Path.{◌≡◌}
 use lib.ListN.{length}
 use Rattle.text.specs.Page.{page, with_text}
-use Rattle.text.specs.PageLaws.{text_then}
-use Rattle.listing.specs.Listing.{lines_text, list_text}
-use Rattle.listing.specs.ListingLaws.{lines_end, lines_none, lines_step}
-use borrow.Author.Rules.{rules}
+use Rattle.listing.specs.Listing.{lines_text}
 use Rattle.listing.proofs.put_list.Given as goal
 
 abbrev pub invariant-loop-left : goal.invariant-loop-left

@@ -1,7 +1,6 @@
 use mathlib.Core.Path.{◌∙◌}
 use Rattle.text.specs.PageLaws.{text_then}
 use Rattle.listing.specs.Listing.{refused_text}
-use borrow.Author.Rules.{rules}
 use Rattle.listing.proofs.put_refused.Goals as goal
 
 pub shape_of-out : goal.shape_of-out

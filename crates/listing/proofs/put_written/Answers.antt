@@ -1,5 +1,4 @@
 use Rattle.listing.specs.Listing.{written_text, words_text}
-use borrow.Author.Rules.{rules}
 use Rattle.listing.proofs.put_written.Goals as goal
 
 pub shape_of-out-in-One : goal.shape_of-out-in-One
