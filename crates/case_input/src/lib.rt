@@ -1,9 +1,10 @@
 // A file, read in pieces and cut into lines.
 #![tactic(auto)]
 ghost use Rattle.std.specs.Prelude.{◌≡◌};
-ghost use Rattle.case_input.specs.Input.{closed, going_on, at_file_end, Piece, after_byte, line_after_byte, Look};
+ghost use Rattle.case_input.specs.Input.{closed, going_on, at_file_end, Piece, after_byte, line_after_byte, Look, HasRead, TakesBytes, TellsFailure};
 
 use case_kept::buffers::{Bytes, LineBytes, least};
+use std::io::{Error, Read};
 
 const LONGEST: usize = 4000;
 
@@ -69,19 +70,25 @@ fn file_end(held: usize) -> Input
     ended(Found::Line(held))
 }
 
-// The next piece of the file.
-fn read_piece(fd: i32, piece: &mut Bytes, held: usize) -> Input
-    ensures { Piece held result }
+// The next piece of the file. Why it cannot be read goes into failure.
+fn read_piece<R: Read>(
+    file: &mut R,
+    failure: &mut Option<Error>,
+    piece: &mut Bytes,
+    held: usize,
+) -> Input
+    ensures piece { Piece held result }
+    ensures bytes { HasRead (R.remaining file.old) (R.remaining file.new) result piece.new }
+    ensures failure { TellsFailure result failure.old failure.new }
 {
-    let got = libc::read(fd, &mut *piece);
-    if got < 0 {
-        return ended(Found::Unreadable);
+    match file.read(piece) {
+        Ok(0) => file_end(held),
+        Ok(n) => going_on(0, n, held, Found::Nothing),
+        Err(e) => {
+            *failure = Some(e);
+            ended(Found::Unreadable)
+        }
     }
-    let end = io::count(got, &*piece);
-    if end == 0 {
-        return file_end(held);
-    }
-    going_on(0, end, held, Found::Nothing)
 }
 
 // A byte of the file ends a line or is held.
@@ -98,9 +105,17 @@ fn take_byte(line: &mut LineBytes, b: u8, at: usize, end: usize, held: usize) ->
     going_on(at, end, held + 1, Found::Nothing)
 }
 
-// Looks at the next byte, or reads a piece where all is taken.
-pub fn look(fd: i32, piece: &mut Bytes, line: &mut LineBytes, s: Input) -> Input
-    ensures { Look s piece.old line.old result piece.new line.new }
+// Looks at the next byte, or reads a piece where all is taken. Where the file cannot be read, failure says why; else it stays as it was.
+pub fn look<R: Read>(
+    file: &mut R,
+    failure: &mut Option<Error>,
+    piece: &mut Bytes,
+    line: &mut LineBytes,
+    s: Input,
+) -> Input
+    ensures look { Look s piece.old line.old result piece.new line.new }
+    ensures bytes { TakesBytes s (R.remaining file.old) (R.remaining file.new) result piece.new }
+    ensures failure { TellsFailure result failure.old failure.new }
 {
     if s.ended {
         return ended(Found::End);
@@ -110,5 +125,5 @@ pub fn look(fd: i32, piece: &mut Bytes, line: &mut LineBytes, s: Input) -> Input
     if at < end {
         return take_byte(&mut *line, piece[at], at + 1, end, s.held);
     }
-    read_piece(fd, &mut *piece, s.held)
+    read_piece(file, failure, piece, s.held)
 }
