@@ -1,7 +1,7 @@
 -- A file, cut into lines. What the system gives of the file is free; what is made of it is not.
 use Rattle.std.specs.Prelude.{ℕ, ◌+◌, ◌<◌, ◌≤◌, min, Bool, true, false, cond, List, ◌≡◌, ◌≢◌, get_or, set, take, eqb, leb, IsSome}
 use Rattle.std.specs.Io.KnownBytes.{Keeps, Consumes, IsAtEnd}
-use Rattle.core.specs.declared.option.Option.{Option}
+use Rattle.std.specs.declared.option.Option.{Option}
 use Rattle.case_input.specs.declared.Input.{Input}
 use Rattle.case_input.specs.declared.Found.{Found}
 use Rattle.case_input.specs.declared.Found.TheVariants as found

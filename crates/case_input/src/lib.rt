@@ -1,5 +1,6 @@
 // A file, read in pieces and cut into lines.
 #![tactic(auto)]
+
 ghost use Rattle.std.specs.Prelude.{◌≡◌};
 ghost use Rattle.case_input.specs.Input.{closed, going_on, at_file_end, Piece, after_byte, line_after_byte, Look, HasRead, TakesBytes, TellsFailure};
 
