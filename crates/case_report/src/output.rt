@@ -1,6 +1,6 @@
 // What leaves the program. What the system does with it no contract can say; what a writer that is asked gets, these say.
 ghost use Rattle.std.specs.Prelude.{◌≤◌, IsTrue, length, take};
-ghost use Rattle.std.specs.Io.KnownBytes.{Appends};
+ghost use Rattle.std.specs.Io.KnownBytes.{Appends, Keeps};
 
 use case_kept::buffers::least;
 use std::io::{Cursor, Error, Write};
@@ -12,7 +12,8 @@ pub fn write_out<W: Write, E: Write>(
     out: &[u8],
     used: usize,
 ) -> bool
-    ensures { IsTrue result → Appends (W.contents to.old) (W.contents to.new) (take used out.now) }
+    ensures written { IsTrue result → Appends (W.contents to.old) (W.contents to.new) (take used out.now) }
+    ensures quiet { IsTrue result → Keeps (E.contents errors.old) (E.contents errors.new) }
 {
     let n = least(used, out.len());
     match to.write_all(&out[0..n]) {
@@ -40,12 +41,10 @@ pub fn say_failure<E: Write>(errors: &mut E, what: &[u8], why: &Error) {
 fn words_end(text: &[u8]) -> usize
     ensures { result ≤ length text.now }
 {
-    let mut i = 0;
-    while i < text.len() {
+    for i in 0..text.len() {
         if text[i] == 0 || text[i..].starts_with(b" (os error ") {
             return i;
         }
-        i += 1;
     }
-    i
+    text.len()
 }

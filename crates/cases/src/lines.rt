@@ -214,9 +214,7 @@ pub(crate) fn read_all(
 ) {
     let mut failure = None;
     let mut s = no_input();
-    let mut turns = u64::MAX;
-    while 0 < turns {
-        turns -= 1;
+    for _ in 0..u64::MAX {
         s = look(file, &mut failure, &mut *piece, &mut *line, s);
         let found = s.found;
         let used = take(
