@@ -6,12 +6,7 @@ use case_kept::buffers::least;
 use std::io::{Cursor, Error, Write};
 
 // Writes the used part of a buffer, and answers whether that went well. If not, it says so on the writer of errors.
-pub fn write_out<W: Write, E: Write>(
-    to: &mut W,
-    errors: &mut E,
-    out: &[u8],
-    used: usize,
-) -> bool
+pub fn write_out<W: Write, E: Write>(to: &mut W, errors: &mut E, out: &[u8], used: usize) -> bool
     ensures written { IsTrue result → Appends (W.contents to.old) (W.contents to.new) (take used out.now) }
     ensures quiet { IsTrue result → Keeps (E.contents errors.old) (E.contents errors.new) }
 {
