@@ -1,6 +1,7 @@
 // Runs the cases of a case file and writes their report to standard output. Where there is nothing to read, it says so on
 // standard error.
 #![tactic(auto)]
+
 mod answer_lines;
 mod check_code;
 mod kept_state;

@@ -1,5 +1,6 @@
 // Runs a workload and prints what came of it, in the form of the plain interpreter in bench/: to be timed from outside.
 #![tactic(auto)]
+
 ghost use Rattle.std.specs.Prelude.{◌≤◌};
 
 mod workload;
@@ -123,9 +124,7 @@ fn run_workload(
     let answer = opened.answer;
     let state = opened.state;
     match answer {
-        Verdict::Refused(k) => {
-            println!(rt; " open refused {k}")
-        }
+        Verdict::Refused(k) => { println!(rt; " open refused {k}") }
         Verdict::Fine => {
             let r = run::run(
                 state,
@@ -172,13 +171,7 @@ fn cut(
 }
 
 // Main memory and cache have one place more than the greatest that is accepted, so that settings beyond the limits are refused.
-fn measure_on(
-    rt: &HostRuntime,
-    name: &str,
-    words: &[u32],
-    s: Setting,
-    list: &[u8],
-) -> Result<()> {
+fn measure_on(rt: &HostRuntime, name: &str, words: &[u32], s: Setting, list: &[u8]) -> Result<()> {
     let mut code = [0u8; 256];
     let mut main = [0u8; 65537];
     let mut local = [0u8; 1024];
@@ -197,13 +190,7 @@ fn measure_on(
     )
 }
 
-fn cut_list(
-    rt: &HostRuntime,
-    name: &str,
-    words: &[u32],
-    s: Setting,
-    list: &List,
-) -> Result<()> {
+fn cut_list(rt: &HostRuntime, name: &str, words: &[u32], s: Setting, list: &List) -> Result<()> {
     let r = least(s.records as usize * 8, 1048576);
     let all = &list[..];
     measure_on(rt, name, words, s, &all[0..r])
@@ -297,7 +284,8 @@ fn measure_wanted(rt: &HostRuntime, asked: &[u8], s: Setting) -> Result<()> {
 
 fn main(rt: HostRuntime) -> Result<()> {
     if !has_argument(&rt, 4) | has_argument(&rt, 5) {
-        let usage = b"usage: speed loop|calls|memory|products|methods|interrupts|all BUDGET MAINLEN W\n";
+        let usage =
+            b"usage: speed loop|calls|memory|products|methods|interrupts|all BUDGET MAINLEN W\n";
         return rt.stderr().write_all(usage);
     }
     let s = Setting {
