@@ -128,3 +128,97 @@ pub fn look<R: Read>(
     }
     read_piece(file, failure, piece, s.held)
 }
+
+#[cfg(test)]
+mod tests {
+    use super::*;
+
+    // Gives its bytes at once, and cannot be read behind them.
+    #[derive(Drop)]
+    struct Torn<'a> {
+        bytes: &'a [u8],
+    }
+
+    impl Read for Torn<'_> {
+        fn read(&mut self, buf: &mut [u8]) -> std::io::Result<usize> {
+            if self.bytes.is_empty() {
+                return Err(Error::from_raw_os_error(5));
+            }
+            self.bytes.read(buf)
+        }
+    }
+
+    // Each line, a bar behind it, and at the end what ended the file: '.' its end, '?' that it cannot be read, '!' a line too long.
+    fn lines_of<R: Read>(
+        rt: &HostRuntime,
+        file: &mut R,
+        failure: &mut Option<Error>,
+    ) -> std::io::Result<Vec<u8>> {
+        let mut said = Vec::new(rt.alloc());
+        let mut piece = [0u8; 65536];
+        let mut line = [0u8; 4000];
+        let mut s = no_input();
+        for _ in 0..100000 {
+            s = look(file, failure, &mut piece, &mut line, s);
+            match s.found {
+                Found::Nothing => {}
+                Found::Line(n) => {
+                    said.extend_from_slice(&line[..n.min(4000)])?;
+                    said.push(b'|')?;
+                }
+                Found::End => {
+                    said.push(b'.')?;
+                    break;
+                }
+                Found::TooLong => {
+                    said.push(b'!')?;
+                    break;
+                }
+                Found::Unreadable => {
+                    said.push(b'?')?;
+                    break;
+                }
+            }
+        }
+        Ok(said)
+    }
+
+    #[test]
+    fn cuts_lines(rt: HostRuntime) -> std::io::Result<()> {
+        let mut failure = None;
+        for (text, want) in [
+            ("", "."),
+            ("\n", "|."),
+            ("ab\n\ncd", "ab||cd|."),
+            ("ab\n", "ab|."),
+        ] {
+            let mut file = text.as_bytes();
+            let said = lines_of(&rt, &mut file, &mut failure)?;
+            assert!(rt; said.as_slice() == want.as_bytes(), "{text:?}");
+        }
+        assert!(rt; failure.is_none());
+        Ok(())
+    }
+
+    #[test]
+    fn refuses_long_lines(rt: HostRuntime) -> std::io::Result<()> {
+        let mut failure = None;
+        for (n, want) in [(4000, b'.'), (4001, b'!')] {
+            let text = vec![in rt.alloc(); b'a'; n]?;
+            let mut file = text.as_slice();
+            let said = lines_of(&rt, &mut file, &mut failure)?;
+            assert!(rt; said.last() == Some(&want), "{n}");
+        }
+        Ok(())
+    }
+
+    #[test]
+    fn tells_why_a_file_is_torn(rt: HostRuntime) -> std::io::Result<()> {
+        let mut failure = None;
+        let mut file = Torn { bytes: b"ab\ncd" };
+        let said = lines_of(&rt, &mut file, &mut failure)?;
+        assert!(rt; said.as_slice() == b"ab|?".as_slice());
+        assert!(rt; matches!(failure, Some(e) if e.raw_os_error() == Some(5)));
+        Ok(())
+    }
+}
