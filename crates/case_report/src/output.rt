@@ -43,3 +43,52 @@ fn words_end(text: &[u8]) -> usize
     }
     text.len()
 }
+
+#[cfg(test)]
+mod tests {
+    use super::*;
+    use std::io::Result;
+
+    // Takes three bytes, and then none.
+    #[derive(Drop)]
+    struct Full {
+        taken: usize,
+    }
+
+    impl Write for Full {
+        fn write(&mut self, buf: &[u8]) -> Result<usize> {
+            if self.taken >= 3 {
+                return Err(Error::from_raw_os_error(28));
+            }
+            let n = buf.len().min(3 - self.taken);
+            self.taken += n;
+            Ok(n)
+        }
+
+        fn flush(&mut self) -> Result<()> {
+            Ok(())
+        }
+    }
+
+    #[test]
+    fn writes_what_is_used(rt: HostRuntime) {
+        let mut to = Vec::new(rt.alloc());
+        let mut errors = Vec::new(rt.alloc());
+        assert!(rt; write_out(&mut to, &mut errors, b"report and more", 6));
+        assert!(rt; to.as_slice() == b"report".as_slice());
+        assert!(rt; write_out(&mut to, &mut errors, b"!", 2));
+        assert!(rt; to.as_slice() == b"report!".as_slice());
+        assert!(rt; errors.is_empty());
+    }
+
+    #[test]
+    fn says_what_could_not_be_written(rt: HostRuntime) {
+        let mut to = Full { taken: 0 };
+        let mut errors = Vec::new(rt.alloc());
+        assert!(rt; !write_out(&mut to, &mut errors, b"report", 6));
+        assert!(rt;
+            errors.as_slice()
+                == b"the report could not be written: No space left on device\n".as_slice()
+        );
+    }
+}
