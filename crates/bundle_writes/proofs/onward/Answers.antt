@@ -1,3 +1,4 @@
+use borrow.Enum.Refused.{opened}
 use Rattle.core_state.specs.Core.{joined, waiting_transfer, nearer_words}
 use Prim.Native.Nat.{ℕ}
 use mathlib.Core.List.{List, [], ◌∷◌}
@@ -55,8 +56,8 @@ returns-in_default c =
     let a = c.args in
     let w = c.nearer.ensures in
     record {
-      state = λ rs ps. w.state rs ps ∙ goes_on (waiting_transfer a.waiting) a.following (joined rs ps a.core) a.one c.in_default.is;
-      transfer = w.transfer ∙ words-go-on a.waiting a.one c.in_default.is;
+      state = λ rs ps. w.state rs ps ∙ goes_on (waiting_transfer a.waiting) a.following (joined rs ps a.core) a.one (opened c.in_default.in_default-own.keys3);
+      transfer = w.transfer ∙ words-go-on a.waiting a.one (opened c.in_default.in_default-own.keys3);
       load = w.load;
       products = w.products;
     }

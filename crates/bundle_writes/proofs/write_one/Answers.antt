@@ -88,4 +88,4 @@ pub returns-in_default : goal.returns-in_default
 unfolding write_done
 returns-in_default c =
     let a = c.args in
-    record { state = nothing_written _ _ _ _ a.one c.in_default.is; transfer = refl; load = load-left _ _ a.one c.in_default.is; products = products-left _ a.one c.in_default.is }
+    record { state = nothing_written _ _ _ _ a.one c.in_default.in_default-own.keys6; transfer = refl; load = load-left _ _ a.one c.in_default.in_default-own.keys6; products = products-left _ a.one c.in_default.in_default-own.keys6 }

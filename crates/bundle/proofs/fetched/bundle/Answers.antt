@@ -1,0 +1,39 @@
+use mathlib.Core.Path.{sym, ap, subst, ◌∙◌}
+use native.Mathlib.Omega.{arith}
+use Rattle.settings.specs.Setup.{replaying, setup_of}
+use Rattle.settings.specs.SettingsLaws.{code_small}
+use Rattle.fetch.specs.FetchLaws.{found_inside}
+use Rattle.core_state.specs.Core.{Canonical}
+use Rattle.bundle_model.specs.declared.Bundled.{Bundled}
+use Rattle.bundle_model.specs.Counts.{counts_in}
+use Rattle.bundle_model.specs.Bundle.{counted}
+use Rattle.bundle_model.specs.ExecuteLaws.{executed_replay}
+use Rattle.bundle_model.specs.HandedLaws.{handed_unread, handed_read}
+use borrow.Author.Rules.{rules}
+use Rattle.bundle.proofs.fetched.bundle.Goals as goal
+
+pub overflow_cast-following : goal.overflow_cast-following
+overflow_cast-following c =
+    let a = c.before in
+    omega (arith, found_inside a.args.code.now a.args.core.fetch _ _ (sym c.fetch.ensures ∙ c.in-Found.is), code_small a.args.g a.requires.0, a.requires.2)
+
+pub returns-in-Refused : goal.returns-in-Refused
+returns-in-Refused c =
+    let a = c.args in
+    record {
+      given = λ list. handed_unread a.g (replaying list a.table.now (setup_of a.code.now a.g)) a.registers.now a.predicates.now a.core a.held.now a.counts.now _ _ _ (sym c.fetch.ensures ∙ c.in-Refused.is) c.refused.ensures;
+      canonical = subst Canonical (sym (ap (λ (y : Bundled). y.core) c.refused.ensures));
+      held = λ f. f;
+    }
+
+pub returns-in-Found : goal.returns-in-Found
+returns-in-Found c =
+    let a = c.before.args in
+    let e = c.execute.ensures in
+    let x = setup_of a.code.now a.g in
+    record {
+      given = λ list. handed_read a.g (replaying list a.table.now x) a.registers.now a.predicates.now a.core a.held.now a.counts.now _ _ _ _ _ _ (sym c.fetch.ensures ∙ c.in-Found.is) c.slot_one-one.ensures (c.slot_two-two.ensures _ _ _)
+          (e.given ∙ ap (counted (counts_in a.counts.now)) (executed_replay list a.table.now a.g x _ _ _ _ _));
+      canonical = e.canonical;
+      held = e.held;
+    }
