@@ -1,3 +1,4 @@
+use native.Mathlib.Omega.{arith}
 use Rattle.case_state.specs.KeptState.{transfer_with}
 use borrow.Author.Tests.{ne_eqb}
 use Rattle.case_state.proofs.transfer_with.Goals as goal
@@ -20,4 +21,4 @@ returns-in-4 c = rw c.in-4.is
 
 pub returns-in_default : goal.returns-in_default
 unfolding transfer_with
-returns-in_default c = let n = c.in_default.in_default-own.rest in simp (ne_eqb _ _ n.1, ne_eqb _ _ n.0.1, ne_eqb _ _ n.0.0.1, ne_eqb _ _ n.0.0.0.1)
+returns-in_default c = simp (ne_eqb c.args.kind 1 (omega arith), ne_eqb c.args.kind 2 (omega arith), ne_eqb c.args.kind 3 (omega arith), ne_eqb c.args.kind 4 (omega arith))

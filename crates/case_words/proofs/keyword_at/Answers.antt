@@ -1,3 +1,4 @@
+use native.Mathlib.Omega.{arith}
 use borrow.Author.Tests.{ne_eqb}
 use Rattle.case_words.specs.Names.{meaning_from, keywords}
 use Rattle.case_words.proofs.keyword_at.Goals as goal
@@ -152,5 +153,4 @@ returns-in-36 c = rw c.in-36.is
 
 pub returns-in_default : goal.returns-in_default
 unfolding meaning_from keywords
-returns-in_default c = let n = c.in_default.in_default-own.rest in
-    simp (ne_eqb _ _ n.1, ne_eqb _ _ n.0.1, ne_eqb _ _ n.0.0.1, ne_eqb _ _ n.0.0.0.1, ne_eqb _ _ n.0.0.0.0.1, ne_eqb _ _ n.0.0.0.0.0.1, ne_eqb _ _ n.0.0.0.0.0.0.1, ne_eqb _ _ n.0.0.0.0.0.0.0.1, ne_eqb _ _ n.0.0.0.0.0.0.0.0.1, ne_eqb _ _ n.0.0.0.0.0.0.0.0.0.1, ne_eqb _ _ n.0.0.0.0.0.0.0.0.0.0.1, ne_eqb _ _ n.0.0.0.0.0.0.0.0.0.0.0.1, ne_eqb _ _ n.0.0.0.0.0.0.0.0.0.0.0.0.1, ne_eqb _ _ n.0.0.0.0.0.0.0.0.0.0.0.0.0.1, ne_eqb _ _ n.0.0.0.0.0.0.0.0.0.0.0.0.0.0.1, ne_eqb _ _ n.0.0.0.0.0.0.0.0.0.0.0.0.0.0.0.1, ne_eqb _ _ n.0.0.0.0.0.0.0.0.0.0.0.0.0.0.0.0.1, ne_eqb _ _ n.0.0.0.0.0.0.0.0.0.0.0.0.0.0.0.0.0.1, ne_eqb _ _ n.0.0.0.0.0.0.0.0.0.0.0.0.0.0.0.0.0.0.1, ne_eqb _ _ n.0.0.0.0.0.0.0.0.0.0.0.0.0.0.0.0.0.0.0.1, ne_eqb _ _ n.0.0.0.0.0.0.0.0.0.0.0.0.0.0.0.0.0.0.0.0.1, ne_eqb _ _ n.0.0.0.0.0.0.0.0.0.0.0.0.0.0.0.0.0.0.0.0.0.1, ne_eqb _ _ n.0.0.0.0.0.0.0.0.0.0.0.0.0.0.0.0.0.0.0.0.0.0.1, ne_eqb _ _ n.0.0.0.0.0.0.0.0.0.0.0.0.0.0.0.0.0.0.0.0.0.0.0.1, ne_eqb _ _ n.0.0.0.0.0.0.0.0.0.0.0.0.0.0.0.0.0.0.0.0.0.0.0.0.1, ne_eqb _ _ n.0.0.0.0.0.0.0.0.0.0.0.0.0.0.0.0.0.0.0.0.0.0.0.0.0.1, ne_eqb _ _ n.0.0.0.0.0.0.0.0.0.0.0.0.0.0.0.0.0.0.0.0.0.0.0.0.0.0.1, ne_eqb _ _ n.0.0.0.0.0.0.0.0.0.0.0.0.0.0.0.0.0.0.0.0.0.0.0.0.0.0.0.1, ne_eqb _ _ n.0.0.0.0.0.0.0.0.0.0.0.0.0.0.0.0.0.0.0.0.0.0.0.0.0.0.0.0.1, ne_eqb _ _ n.0.0.0.0.0.0.0.0.0.0.0.0.0.0.0.0.0.0.0.0.0.0.0.0.0.0.0.0.0.1, ne_eqb _ _ n.0.0.0.0.0.0.0.0.0.0.0.0.0.0.0.0.0.0.0.0.0.0.0.0.0.0.0.0.0.0.1, ne_eqb _ _ n.0.0.0.0.0.0.0.0.0.0.0.0.0.0.0.0.0.0.0.0.0.0.0.0.0.0.0.0.0.0.0.1, ne_eqb _ _ n.0.0.0.0.0.0.0.0.0.0.0.0.0.0.0.0.0.0.0.0.0.0.0.0.0.0.0.0.0.0.0.0.1, ne_eqb _ _ n.0.0.0.0.0.0.0.0.0.0.0.0.0.0.0.0.0.0.0.0.0.0.0.0.0.0.0.0.0.0.0.0.0.1, ne_eqb _ _ n.0.0.0.0.0.0.0.0.0.0.0.0.0.0.0.0.0.0.0.0.0.0.0.0.0.0.0.0.0.0.0.0.0.0.1, ne_eqb _ _ n.0.0.0.0.0.0.0.0.0.0.0.0.0.0.0.0.0.0.0.0.0.0.0.0.0.0.0.0.0.0.0.0.0.0.0.1, ne_eqb _ _ n.0.0.0.0.0.0.0.0.0.0.0.0.0.0.0.0.0.0.0.0.0.0.0.0.0.0.0.0.0.0.0.0.0.0.0.0.1)
+returns-in_default c = simp (ne_eqb c.args.row 0 (omega arith), ne_eqb c.args.row 1 (omega arith), ne_eqb c.args.row 2 (omega arith), ne_eqb c.args.row 3 (omega arith), ne_eqb c.args.row 4 (omega arith), ne_eqb c.args.row 5 (omega arith), ne_eqb c.args.row 6 (omega arith), ne_eqb c.args.row 7 (omega arith), ne_eqb c.args.row 8 (omega arith), ne_eqb c.args.row 9 (omega arith), ne_eqb c.args.row 10 (omega arith), ne_eqb c.args.row 11 (omega arith), ne_eqb c.args.row 12 (omega arith), ne_eqb c.args.row 13 (omega arith), ne_eqb c.args.row 14 (omega arith), ne_eqb c.args.row 15 (omega arith), ne_eqb c.args.row 16 (omega arith), ne_eqb c.args.row 17 (omega arith), ne_eqb c.args.row 18 (omega arith), ne_eqb c.args.row 19 (omega arith), ne_eqb c.args.row 20 (omega arith), ne_eqb c.args.row 21 (omega arith), ne_eqb c.args.row 22 (omega arith), ne_eqb c.args.row 23 (omega arith), ne_eqb c.args.row 24 (omega arith), ne_eqb c.args.row 25 (omega arith), ne_eqb c.args.row 26 (omega arith), ne_eqb c.args.row 27 (omega arith), ne_eqb c.args.row 28 (omega arith), ne_eqb c.args.row 29 (omega arith), ne_eqb c.args.row 30 (omega arith), ne_eqb c.args.row 31 (omega arith), ne_eqb c.args.row 32 (omega arith), ne_eqb c.args.row 33 (omega arith), ne_eqb c.args.row 34 (omega arith), ne_eqb c.args.row 35 (omega arith), ne_eqb c.args.row 36 (omega arith))

@@ -1,3 +1,4 @@
+use native.Mathlib.Omega.{arith}
 use borrow.Author.Tests.{ne_eqb}
 use Rattle.case_words.specs.Names.{meaning_from, special_names}
 use Rattle.case_words.proofs.special_name_at.Goals as goal
@@ -36,5 +37,4 @@ returns-in-7 c = rw c.in-7.is
 
 pub returns-in_default : goal.returns-in_default
 unfolding meaning_from special_names
-returns-in_default c = let n = c.in_default.in_default-own.rest in
-    simp (ne_eqb _ _ n.1, ne_eqb _ _ n.0.1, ne_eqb _ _ n.0.0.1, ne_eqb _ _ n.0.0.0.1, ne_eqb _ _ n.0.0.0.0.1, ne_eqb _ _ n.0.0.0.0.0.1, ne_eqb _ _ n.0.0.0.0.0.0.1, ne_eqb _ _ n.0.0.0.0.0.0.0.1)
+returns-in_default c = simp (ne_eqb c.args.row 0 (omega arith), ne_eqb c.args.row 1 (omega arith), ne_eqb c.args.row 2 (omega arith), ne_eqb c.args.row 3 (omega arith), ne_eqb c.args.row 4 (omega arith), ne_eqb c.args.row 5 (omega arith), ne_eqb c.args.row 6 (omega arith), ne_eqb c.args.row 7 (omega arith))

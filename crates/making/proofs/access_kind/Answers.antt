@@ -18,4 +18,4 @@ returns-in-2 c = rw c.in-2.is
 
 pub returns-in_default : goal.returns-in_default
 unfolding row
-returns-in_default c = let n = c.in_default.in_default-own.rest in let e : c.args.func % 4 ≡ 3 = omega arith in rw e
+returns-in_default c = let e : c.args.func % 4 ≡ 3 = omega arith in rw e

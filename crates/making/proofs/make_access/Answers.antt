@@ -1,3 +1,4 @@
+use borrow.Author.Rules.{rules}
 use Rattle.assembly.specs.Forms.{forms, made}
 use Rattle.making.specs.MakingLaws.{not_in_forms}
 use Rattle.making.proofs.make_access.Goals as goal
@@ -44,4 +45,4 @@ returns-in-17 c = rw c.in-17.is c.stack-in-17.ensures
 
 pub returns-in_default : goal.returns-in_default
 unfolding made forms
-returns-in_default c = let a = c.args in not_in_forms 8 10 a.m.form _ c.in_default.in_default-own.rest
+returns-in_default c = let a = c.args in not_in_forms 8 10 a.m.form _ (search rules)

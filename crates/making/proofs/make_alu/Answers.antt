@@ -1,3 +1,4 @@
+use borrow.Author.Rules.{rules}
 use Rattle.assembly.specs.Forms.{forms, made}
 use Rattle.making.specs.MakingLaws.{not_in_forms}
 use Rattle.making.proofs.make_alu.Goals as goal
@@ -36,4 +37,4 @@ returns-in-7 c = rw (c.in-7.is, c.predicate_of-in-7.ensures)
 
 pub returns-in_default : goal.returns-in_default
 unfolding made forms
-returns-in_default c = let a = c.args in not_in_forms 0 8 a.m.form _ c.in_default.in_default-own.rest
+returns-in_default c = let a = c.args in not_in_forms 0 8 a.m.form _ (search rules)

@@ -1,3 +1,4 @@
+use borrow.Author.Rules.{rules}
 use mir.Syntax.{w32}
 use mir.ValLaws.{to_z-of_z}
 use Rattle.assembly.specs.Forms.{forms, made}
@@ -42,4 +43,4 @@ returns-in-26 c = rw c.in-26.is c.transfer-in-26.ensures
 
 pub returns-in_default : goal.returns-in_default
 unfolding made forms
-returns-in_default c = let a = c.args in not_in_forms 18 9 a.m.form _ c.in_default.in_default-own.rest
+returns-in_default c = let a = c.args in not_in_forms 18 9 a.m.form _ (search rules)

@@ -1,3 +1,4 @@
+use native.Mathlib.Omega.{arith}
 use borrow.Author.Tests.{ne_eqb}
 use Rattle.assembly.specs.Operands.{specials, value_text}
 use Rattle.text.specs.Table.{table}
@@ -29,4 +30,4 @@ returns-in-105 c = rw c.in-105.is c.put_signed.ensures
 
 pub returns-in_default : goal.returns-in_default
 unfolding value_text specials table
-returns-in_default c = let n = c.in_default.in_default-own.rest in rw (ne_eqb _ _ n.1, ne_eqb _ _ n.0.1, ne_eqb _ _ n.0.0.1, ne_eqb _ _ n.0.0.0.1, ne_eqb _ _ n.0.0.0.0.1, ne_eqb _ _ n.0.0.0.0.0.1) c.put_word.ensures
+returns-in_default c = rw (ne_eqb c.args.kind 114 (omega arith), ne_eqb c.args.kind 112 (omega arith), ne_eqb c.args.kind 113 (omega arith), ne_eqb c.args.kind 115 (omega arith), ne_eqb c.args.kind 110 (omega arith), ne_eqb c.args.kind 105 (omega arith)) c.put_word.ensures

@@ -1,3 +1,4 @@
+use native.Mathlib.Omega.{arith}
 use borrow.Author.Tests.{ne_eqb}
 use Rattle.assembly.specs.Operands.{operand_of}
 use Rattle.assembly.proofs.operands.operand_of.Goals as goal
@@ -28,4 +29,4 @@ returns-in-105 c = rw (c.in-105.is, ← c.signed_number.ensures) c.plain_or-in-1
 
 pub returns-in_default : goal.returns-in_default
 unfolding operand_of
-returns-in_default c = let n = c.in_default.in_default-own.rest in rw (ne_eqb _ _ n.1, ne_eqb _ _ n.0.1, ne_eqb _ _ n.0.0.1, ne_eqb _ _ n.0.0.0.1, ne_eqb _ _ n.0.0.0.0.1, ne_eqb _ _ n.0.0.0.0.0.1, ← c.word.ensures) c.plain_or-in_default.ensures
+returns-in_default c = rw (ne_eqb c.args.kind 114 (omega arith), ne_eqb c.args.kind 112 (omega arith), ne_eqb c.args.kind 113 (omega arith), ne_eqb c.args.kind 115 (omega arith), ne_eqb c.args.kind 110 (omega arith), ne_eqb c.args.kind 105 (omega arith), ← c.word.ensures) c.plain_or-in_default.ensures
