@@ -24,12 +24,12 @@ returns c =
     let r = c.advance-r in
     let w = c.tidy.new.held in
     let t = tidied a.start w c.tidy.ensures.1 c.tidy.ensures.0 in
-    let start = ap (λ (y : Core). with_held (joined a.start.registers a.start.predicates y) (held_in w)) c.core.ensures ∙ t.0 in (
-      ends_as x r.result.answer _ c.at_end.result _ _ _ _ c.at_end.ensures (c.has_ended-ended.ensures [] []) c.join-state.ensures.0
+    let start = ap (λ (y : Core). with_held (joined a.start.registers a.start.predicates y) (held_in w)) c.core.ensures ∙ t.0 in
+    record {
+      ran =
+          ends_as x r.result.answer _ c.at_end.result _ _ _ _ c.at_end.ensures (c.has_ended-ended.ensures [] []) c.join-state.ensures.0
           ∙ ap (ending x) (r.ensures.given ∙ ap (λ (s : State). advanced x a.budget s b) start)
-          ∙ sym (run_advanced x (state_of a.start) b a.budget),
-      (
-        record { registers = regs; predicates = preds },
-        subst FixedHeld (sym c.join-state.ensures.1) (r.ensures.held t.1),
-      ),
-    )
+          ∙ sym (run_advanced x (state_of a.start) b a.budget);
+      shaped = record { registers = regs; predicates = preds };
+      fixed = subst FixedHeld (sym c.join-state.ensures.1) (r.ensures.held t.1);
+    }

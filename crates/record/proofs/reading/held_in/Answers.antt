@@ -13,4 +13,4 @@ overflow_cast-held c = omega (arith, c.requires, words_length c.args.part.now)
 pub returns : goal.returns
 returns c =
     let part = c.args.part.now in
-    (λ i. sym (words_length part) i ∷ (append-nil c.copy_words.new.1.0 ∙ c.copy_words.ensures) i) ∙ held_over (words_in part) c.requires
+    (λ i. sym (words_length part) i ∷ (append-nil c.copy_words.new.to ∙ c.copy_words.ensures) i) ∙ held_over (words_in part) c.requires

@@ -16,7 +16,7 @@ unfolding reading
 returns-then-not-has_form c =
     let a = c.args in
     let none = sym c.has_form.ensures ∙ c.if-not-has_form.true in
-    (rw none (λ i. reading_of false (box (c.blank.ensures.0 i) a.cache.now (c.no_counts.ensures i))), c.blank.ensures.1)
+    record { read = rw none (λ i. reading_of false (box (c.blank.ensures.0 i) a.cache.now (c.no_counts.ensures i))); fixed = c.blank.ensures.1 }
 
 pub copy_words-requires : goal.copy_words-requires
 copy_words-requires c =
@@ -40,4 +40,4 @@ returns c =
     let part = c.section_at.ensures.0 in
     let cache = c.copy_words.ensures ∙ over_all a.cache.now (words_in c.section_at.result.now) (ap length part ∙ form.cache) ∙ part in
     let counts = c.counts_in-counts.ensures ∙ ap counts_of_words c.section_at-2.ensures.0 in
-    (rw has (λ i. reading_of true (box (c.state_in-state.ensures.0 i) (cache i) (counts i))), c.state_in-state.ensures.1)
+    record { read = rw has (λ i. reading_of true (box (c.state_in-state.ensures.0 i) (cache i) (counts i))); fixed = c.state_in-state.ensures.1 }

@@ -11,4 +11,4 @@ pub returns : goal.returns
 returns c =
     let ws = words_in c.args.part.now in
     let z : List ℕ = replicate 32 0 in
-    append-nil c.copy_words.new.1.0 ∙ c.copy_words.ensures ∙ over_all z ws c.requires
+    append-nil c.copy_words.new.to ∙ c.copy_words.ensures ∙ over_all z ws c.requires

@@ -39,5 +39,5 @@ returns c =
     let registers : length a.state.registers ≡ 32 = search rules in
     let long : length a.state.held ≡ 17 = search (rules, c.well_formed.0.1.1.1.1.1.1.1.1) in
     let size = size_some w (λ e. c.if-room-eq0.false (c.longest-room.ensures ∙ e)) in
-    put_whole p a.out.now c.put_record.new.counts.1.1.0 c.put_record.result c.put_record.ensures registers (held_few a.state.held long) size
+    put_whole p a.out.now c.put_record.new.out c.put_record.result c.put_record.ensures registers (held_few a.state.held long) size
     (omega (arith, c.if-out-room.false, c.longest-room.ensures, size_longest w size))
