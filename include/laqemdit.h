@@ -1,6 +1,6 @@
 /* The C entries of Laqemdit: a fresh box is opened, a stopped box goes on, for one bundle or for a budget, and code is checked.
  *
- * Link with the archives that `rt staticlib open_entry`, `rt staticlib entries` and, for the check, `rt staticlib check_entry` make:
+ * Link with the archives that `bench/c` makes, of the crates open_entry_c, entries_c and, for the check, check_entry_c:
  * libopen_entry.a, libentries.a and libcheck_entry.a in target/staticlib.
  *
  * The contracts of the functions in the archives are proved. This header is not: that it declares what they have, and that a caller

@@ -1,23 +1,18 @@
 -- The text of a bundle, read: an optional guard, a mnemonic and its operands; and a second instruction behind `;`.
 use Rattle.std.specs.Prelude.{ℕ, cond, List}
-use Prim.Native.String as Text
 use Rattle.std.proofs.Math.Option.{Option, none, some}
 use Rattle.text.specs.Field.{field_from, same_bytes}
 use Rattle.case_words.specs.Names.{bytes}
 use Rattle.case_file.specs.Arguments.{is_empty, bytes_of, is_end}
 use Rattle.case_file.specs.declared.Reason.{Reason}
-use Rattle.case_file.specs.declared.Reason.TheVariants as Reason
 use Rattle.encoder.specs.Encode.{single, pair, written}
 use Rattle.assembly.specs.Forms.{predicate, letter, made, mnemonic_of}
 use Rattle.assembly.specs.Operands.{plain, predicate_read, operand_at}
 use Rattle.assembly.specs.declared.Operand.{Operand}
 use Rattle.assembly.specs.declared.Mnemonic.{Mnemonic}
 use Rattle.assembly.specs.declared.OperandRead.{OperandRead}
-use Rattle.assembly.specs.declared.OperandRead.TheVariants as OperandRead
 use Rattle.assembler.specs.declared.InstructionRead.{InstructionRead}
-use Rattle.assembler.specs.declared.InstructionRead.TheVariants as InstructionRead
 use Rattle.assembler.specs.declared.WordsRead.{WordsRead}
-use Rattle.assembler.specs.declared.WordsRead.TheVariants as WordsRead
 use Rattle.isa.specs.declared.PredicateOperand.{PredicateOperand}
 use Rattle.isa.specs.declared.Operation.{Operation}
 use Rattle.isa.specs.declared.Instruction.{Instruction}

@@ -2,18 +2,15 @@
 use Rattle.std.specs.Prelude.{ℕ, ◌-◌, ◌%◌, ◌^◌, Bool, true, false, cond, List, [], ◌∷◌, ◌++◌, leb, ltb, eqb}
 use Prim.Native.Char.{code}
 use Rattle.text.specs.declared.Number.{Number}
-use Rattle.text.specs.declared.Number.TheVariants as Number
 use Rattle.text.specs.Number.{decimal_of, word_of, decimal_text, word_text}
 use Rattle.text.specs.Table.{table, row_text, row_of}
 use Rattle.text.specs.Field.{field_from}
 use Rattle.case_words.specs.Names.{bytes, numbered}
 use Rattle.case_file.specs.Arguments.{is_empty, bytes_of}
 use Rattle.case_file.specs.declared.Reason.{Reason}
-use Rattle.case_file.specs.declared.Reason.TheVariants as Reason
 use Rattle.assembly.specs.Forms.{texts}
 use Rattle.assembly.specs.declared.Operand.{Operand}
 use Rattle.assembly.specs.declared.OperandRead.{OperandRead}
-use Rattle.assembly.specs.declared.OperandRead.TheVariants as OperandRead
 
 abbrev pub plain : ℕ → Operand
 plain n = record { negated = false; number = n }

@@ -1,5 +1,6 @@
 // The one table by which the text of instructions is read and put, and the text of operands.
 #![tactic(auto)]
+
 pub mod operand_text;
 pub mod operands;
 pub mod table;

@@ -2,15 +2,11 @@
 use Rattle.std.specs.Prelude.{ℕ, ◌-◌, Bool, cond, List, take, drop, eqb}
 use Rattle.text.specs.declared.Field.{Field}
 use Rattle.text.specs.declared.Number.{Number}
-use Rattle.text.specs.declared.Number.TheVariants as Number
 use Rattle.text.specs.Field.{field_from}
 use Rattle.text.specs.Number.{decimal_of, word_of}
 use Rattle.case_file.specs.declared.Argument.{Argument}
-use Rattle.case_file.specs.declared.Argument.TheVariants as Argument
 use Rattle.case_file.specs.declared.CodeEntry.{CodeEntry}
-use Rattle.case_file.specs.declared.CodeEntry.TheVariants as CodeEntry
 use Rattle.case_file.specs.declared.PrivateEntry.{PrivateEntry}
-use Rattle.case_file.specs.declared.PrivateEntry.TheVariants as PrivateEntry
 use Rattle.case_file.specs.declared.Reason.{Reason}
 use Rattle.case_file.specs.declared.Reason.TheVariants.{FieldMissing, NotANumber, NotAWord, NoSuchItem}
 use Rattle.case_words.specs.Names.{item_of, is_item}

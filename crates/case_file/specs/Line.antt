@@ -3,27 +3,17 @@ use Rattle.std.specs.Prelude.{ℕ, cond, List, leb, ltb, eqb}
 use Rattle.text.specs.declared.Field.{Field}
 use Rattle.text.specs.Field.{field_from, is_name}
 use Rattle.case_file.specs.declared.Argument.{Argument}
-use Rattle.case_file.specs.declared.Argument.TheVariants as Argument
 use Rattle.case_words.specs.declared.Keyword.{Keyword}
-use Rattle.case_words.specs.declared.Keyword.TheVariants as Keyword
 use Rattle.case_words.specs.declared.OneNumber.{OneNumber}
-use Rattle.case_words.specs.declared.OneNumber.TheVariants as OneNumber
 use Rattle.case_words.specs.declared.NumberAndWord.{NumberAndWord}
-use Rattle.case_words.specs.declared.NumberAndWord.TheVariants as NumberAndWord
 use Rattle.case_words.specs.declared.TransferKind.{TransferKind}
-use Rattle.case_words.specs.declared.TransferKind.TheVariants as TransferKind
 use Rattle.case_file.specs.declared.Line.{Line}
-use Rattle.case_file.specs.declared.Line.TheVariants as Line
 use Rattle.case_file.specs.declared.Resumption.{Resumption}
-use Rattle.case_file.specs.declared.Resumption.TheVariants as Resumption
 use Rattle.case_file.specs.declared.Room.TheVariants as Room
 use Rattle.case_file.specs.declared.Reason.{Reason}
-use Rattle.case_file.specs.declared.Reason.TheVariants as Reason
 use Rattle.case_file.specs.declared.ReplayLine.TheVariants as ReplayLine
 use Rattle.case_file.specs.declared.ThreeNumbers.{ThreeNumbers}
-use Rattle.case_file.specs.declared.ThreeNumbers.TheVariants as ThreeNumbers
 use Rattle.case_file.specs.declared.TwoNumbers.{TwoNumbers}
-use Rattle.case_file.specs.declared.TwoNumbers.TheVariants as TwoNumbers
 use Rattle.case_words.specs.Names.{keyword_of, transfer_kind_of, special_name_of, is_special}
 use Rattle.case_file.specs.Arguments.{is_empty, bytes_of, is_end, number_field, word_field}
 

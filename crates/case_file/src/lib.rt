@@ -1,5 +1,6 @@
 // Case files: what a line says. Nothing here does what a line asks.
 #![tactic(auto)]
+
 pub mod arguments;
 pub mod lines;
 mod number_lines;

@@ -1,5 +1,7 @@
 -- A file, cut into lines. What the system gives of the file is free; what is made of it is not.
-use Rattle.std.specs.Prelude.{ℕ, ◌+◌, ◌<◌, ◌≤◌, min, Bool, true, false, cond, List, ◌≡◌, get_or, set, eqb, leb}
+use Rattle.std.specs.Prelude.{ℕ, ◌+◌, ◌<◌, ◌≤◌, min, Bool, true, false, cond, List, ◌≡◌, ◌≢◌, get_or, set, take, eqb, leb, IsSome}
+use Rattle.std.specs.Io.KnownBytes.{Keeps, Consumes, IsAtEnd}
+use Rattle.std.specs.declared.option.Option.{Option}
 use Rattle.case_input.specs.declared.Input.{Input}
 use Rattle.case_input.specs.declared.Found.{Found}
 use Rattle.case_input.specs.declared.Found.TheVariants as found
@@ -42,3 +44,21 @@ pub record Look (s : Input) (piece line : List ℕ) (r : Input) (piece' line' : 
   pub byte : s.ended ≡ false → s.at < min s.end 65536
       → (r ≡ after_byte (get_or piece s.at 0) (s.at + 1) (min s.end 65536) s.held) × (piece' ≡ piece) × (line' ≡ line_after_byte line (get_or piece s.at 0) s.held)
   pub more : s.ended ≡ false → min s.end 65536 ≤ s.at → Piece s.held r × (line' ≡ line)
+
+-- What a read does to the bytes that the file has left, where these are known: those that are now to be taken of the piece stood at their
+-- front, the file's end is found only where none is left, and where the file cannot be read none is lost.
+pub record HasRead (old new : Option (List ℕ)) (r : Input) (piece : List ℕ) : Type 0 where
+  pub failed : r.found ≡ found.Unreadable → Keeps old new
+  pub given : r.found ≢ found.Unreadable → Consumes old new (take r.end piece)
+  pub last : r.found ≢ found.Unreadable → r.ended ≡ true → IsAtEnd new
+
+-- The same of a look, which takes bytes out of the file only where none of the piece is left.
+pub record TakesBytes (s : Input) (old new : Option (List ℕ)) (r : Input) (piece : List ℕ) : Type 0 where
+  pub over : s.ended ≡ true → Keeps old new
+  pub byte : s.ended ≡ false → s.at < min s.end 65536 → Keeps old new
+  pub more : s.ended ≡ false → min s.end 65536 ≤ s.at → HasRead old new r piece
+
+-- Why the file cannot be read is told where it cannot, and only there.
+pub record TellsFailure {E : Type 0} (r : Input) (old new : Option E) : Type 0 where
+  pub told : r.found ≡ found.Unreadable → IsSome new
+  pub kept : r.found ≢ found.Unreadable → new ≡ old

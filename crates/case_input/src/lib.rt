@@ -1,9 +1,11 @@
 // A file, read in pieces and cut into lines.
 #![tactic(auto)]
+
 ghost use Rattle.std.specs.Prelude.{◌≡◌};
-ghost use Rattle.case_input.specs.Input.{closed, going_on, at_file_end, Piece, after_byte, line_after_byte, Look};
+ghost use Rattle.case_input.specs.Input.{closed, going_on, at_file_end, Piece, after_byte, line_after_byte, Look, HasRead, TakesBytes, TellsFailure};
 
 use case_kept::buffers::{Bytes, LineBytes, least};
+use std::io::{Error, Read};
 
 const LONGEST: usize = 4000;
 
@@ -69,19 +71,25 @@ fn file_end(held: usize) -> Input
     ended(Found::Line(held))
 }
 
-// The next piece of the file.
-fn read_piece(fd: i32, piece: &mut Bytes, held: usize) -> Input
-    ensures { Piece held result }
+// The next piece of the file. Why it cannot be read goes into failure.
+fn read_piece<R: Read>(
+    file: &mut R,
+    failure: &mut Option<Error>,
+    piece: &mut Bytes,
+    held: usize,
+) -> Input
+    ensures piece { Piece held result }
+    ensures bytes { HasRead (R.remaining file.old) (R.remaining file.new) result piece.new }
+    ensures failure { TellsFailure result failure.old failure.new }
 {
-    let got = libc::read(fd, &mut *piece);
-    if got < 0 {
-        return ended(Found::Unreadable);
+    match file.read(piece) {
+        Ok(0) => file_end(held),
+        Ok(n) => going_on(0, n, held, Found::Nothing),
+        Err(e) => {
+            *failure = Some(e);
+            ended(Found::Unreadable)
+        }
     }
-    let end = io::count(got, &*piece);
-    if end == 0 {
-        return file_end(held);
-    }
-    going_on(0, end, held, Found::Nothing)
 }
 
 // A byte of the file ends a line or is held.
@@ -98,9 +106,17 @@ fn take_byte(line: &mut LineBytes, b: u8, at: usize, end: usize, held: usize) ->
     going_on(at, end, held + 1, Found::Nothing)
 }
 
-// Looks at the next byte, or reads a piece where all is taken.
-pub fn look(fd: i32, piece: &mut Bytes, line: &mut LineBytes, s: Input) -> Input
-    ensures { Look s piece.old line.old result piece.new line.new }
+// Looks at the next byte, or reads a piece where all is taken. Where the file cannot be read, failure says why; else it stays as it was.
+pub fn look<R: Read>(
+    file: &mut R,
+    failure: &mut Option<Error>,
+    piece: &mut Bytes,
+    line: &mut LineBytes,
+    s: Input,
+) -> Input
+    ensures look { Look s piece.old line.old result piece.new line.new }
+    ensures bytes { TakesBytes s (R.remaining file.old) (R.remaining file.new) result piece.new }
+    ensures failure { TellsFailure result failure.old failure.new }
 {
     if s.ended {
         return ended(Found::End);
@@ -110,5 +126,99 @@ pub fn look(fd: i32, piece: &mut Bytes, line: &mut LineBytes, s: Input) -> Input
     if at < end {
         return take_byte(&mut *line, piece[at], at + 1, end, s.held);
     }
-    read_piece(fd, &mut *piece, s.held)
+    read_piece(file, failure, piece, s.held)
+}
+
+#[cfg(test)]
+mod tests {
+    use super::*;
+
+    // Gives its bytes at once, and cannot be read behind them.
+    #[derive(Drop)]
+    struct Torn<'a> {
+        bytes: &'a [u8],
+    }
+
+    impl Read for Torn<'_> {
+        fn read(&mut self, buf: &mut [u8]) -> std::io::Result<usize> {
+            if self.bytes.is_empty() {
+                return Err(Error::from_raw_os_error(5));
+            }
+            self.bytes.read(buf)
+        }
+    }
+
+    // Each line, a bar behind it, and at the end what ended the file: '.' its end, '?' that it cannot be read, '!' a line too long.
+    fn lines_of<R: Read>(
+        rt: &HostRuntime,
+        file: &mut R,
+        failure: &mut Option<Error>,
+    ) -> std::io::Result<Vec<u8>> {
+        let mut said = Vec::new(rt.alloc());
+        let mut piece = [0u8; 65536];
+        let mut line = [0u8; 4000];
+        let mut s = no_input();
+        for _ in 0..100000 {
+            s = look(file, failure, &mut piece, &mut line, s);
+            match s.found {
+                Found::Nothing => {}
+                Found::Line(n) => {
+                    said.extend_from_slice(&line[..n.min(4000)])?;
+                    said.push(b'|')?;
+                }
+                Found::End => {
+                    said.push(b'.')?;
+                    break;
+                }
+                Found::TooLong => {
+                    said.push(b'!')?;
+                    break;
+                }
+                Found::Unreadable => {
+                    said.push(b'?')?;
+                    break;
+                }
+            }
+        }
+        Ok(said)
+    }
+
+    #[test]
+    fn cuts_lines(rt: HostRuntime) -> std::io::Result<()> {
+        let mut failure = None;
+        for (text, want) in [
+            ("", "."),
+            ("\n", "|."),
+            ("ab\n\ncd", "ab||cd|."),
+            ("ab\n", "ab|."),
+        ] {
+            let mut file = text.as_bytes();
+            let said = lines_of(&rt, &mut file, &mut failure)?;
+            assert!(rt; said.as_slice() == want.as_bytes(), "{text:?}");
+        }
+        assert!(rt; failure.is_none());
+        Ok(())
+    }
+
+    #[test]
+    fn refuses_long_lines(rt: HostRuntime) -> std::io::Result<()> {
+        let mut failure = None;
+        for (n, want) in [(4000, b'.'), (4001, b'!')] {
+            let text = vec![in rt.alloc(); b'a'; n]?;
+            let mut file = text.as_slice();
+            let said = lines_of(&rt, &mut file, &mut failure)?;
+            assert!(rt; said.last() == Some(&want), "{n}");
+        }
+        Ok(())
+    }
+
+    #[test]
+    fn tells_why_a_file_is_torn(rt: HostRuntime) -> std::io::Result<()> {
+        let mut failure = None;
+        let mut file = Torn { bytes: b"ab\ncd" };
+        let said = lines_of(&rt, &mut file, &mut failure)?;
+        assert!(rt; said.as_slice() == b"ab|?".as_slice());
+        assert!(rt; matches!(failure, Some(e) if e.raw_os_error() == Some(5)));
+        Ok(())
+    }
 }

@@ -3,9 +3,7 @@
 -- before are noted, since no other one can be the first that lies outside.
 use Rattle.std.specs.Prelude.{ℕ, zero, suc, ◌+◌, ◌*◌, ◌%◌, min, cond, List, leb, ltb, eqb}
 use Rattle.case_kept.specs.declared.places.Store.{Store}
-use Rattle.case_kept.specs.declared.places.Store.TheVariants as Store
 use Rattle.case_kept.specs.declared.places.Outside.{Outside}
-use Rattle.case_kept.specs.declared.places.Outside.TheVariants as Outside
 use Rattle.case_kept.specs.Indices.{MAIN, LOCAL, WORDS, REACH, NOTED, LINE, NOTES}
 use Rattle.case_kept.specs.Kept.{kept_number, put}
 

@@ -1,15 +1,12 @@
 -- What the description lines of a case say of its numbers. They come in any order, and some kinds at most once.
 use Rattle.std.specs.Prelude.{ℕ, ◌+◌, Bool, cond, List, eqb, leb, ltb}
 use Rattle.case_file.specs.declared.Line.{Line}
-use Rattle.case_file.specs.declared.Line.TheVariants as Line
 use Rattle.case_file.specs.declared.Reason.TheVariants as Reason
 use Rattle.case_words.specs.declared.SpecialName.{SpecialName}
-use Rattle.case_words.specs.declared.SpecialName.TheVariants as SpecialName
 use Rattle.case_kept.specs.Indices.{MAIN, LOCAL, WORDS, LO, HI, ENTRY, FETCH, BASE, SPECIALS, TRANSFER, BR, CALL, BLOCK, XRET, LOAD, REGISTERS, PREDICATES, GIVEN, PRODUCTS, PRODUCT, METHOD, BLOCKS, BYTES, RECORD_BYTES}
 use Rattle.case_kept.specs.Kept.{kept_number, is_set, put, flag}
 use Rattle.case_notes.specs.Waiting.{with_transfer, with_load, with_product}
 use Rattle.case_notes.specs.declared.Judged.{Judged}
-use Rattle.case_notes.specs.declared.Judged.TheVariants as Judged
 
 -- What a line leaves: whether it is a mistake, and the kept numbers.
 pub record Noted : Type 0 where

@@ -2,17 +2,13 @@
 use Rattle.std.specs.Prelude.{ℕ, zero, suc, ◌+◌, min, cond, List, ◌++◌, length, take, drop, leb}
 use Rattle.big_endian.specs.Bytes.{put_word}
 use Rattle.case_file.specs.declared.CodeEntry.{CodeEntry}
-use Rattle.case_file.specs.declared.CodeEntry.TheVariants as CodeEntry
 use Rattle.case_file.specs.declared.Line.{Line}
-use Rattle.case_file.specs.declared.Line.TheVariants as Line
 use Rattle.case_file.specs.declared.Reason.TheVariants as Reason
 use Rattle.case_file.specs.Arguments.{code_entry}
 use Rattle.case_kept.specs.declared.places.Store.{Store}
-use Rattle.case_kept.specs.declared.places.Store.TheVariants as Store
 use Rattle.case_kept.specs.Indices.{CODE}
 use Rattle.case_kept.specs.Kept.{kept_number, put}
 use Rattle.case_notes.specs.declared.Judged.{Judged}
-use Rattle.case_notes.specs.declared.Judged.TheVariants as Judged
 use Rattle.case_notes.specs.Description.{Noted, GREATEST, given}
 use Rattle.case_notes.specs.Marking.{mark_items}
 use Rattle.case_notes.specs.declared.Listed.TheVariants as Listed

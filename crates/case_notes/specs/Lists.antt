@@ -2,16 +2,12 @@
 -- first, and the words of the record to go on from.
 use Rattle.std.specs.Prelude.{ℕ, zero, suc, ◌+◌, cond, List, length, leb}
 use Rattle.case_file.specs.declared.CodeEntry.{CodeEntry}
-use Rattle.case_file.specs.declared.CodeEntry.TheVariants as CodeEntry
 use Rattle.case_file.specs.declared.Reason.{Reason}
-use Rattle.case_file.specs.declared.Reason.TheVariants as Reason
 use Rattle.case_file.specs.Arguments.{code_entry, held_entry}
 use Rattle.case_kept.specs.Indices.{HELD, RECORD}
 use Rattle.case_kept.specs.Kept.{kept_number, put}
 use Rattle.case_notes.specs.declared.Judged.{Judged}
-use Rattle.case_notes.specs.declared.Judged.TheVariants as Judged
 use Rattle.case_notes.specs.declared.Listed.{Listed}
-use Rattle.case_notes.specs.declared.Listed.TheVariants as Listed
 use Rattle.case_notes.specs.Description.{Noted, noted, fine}
 
 -- Bases are numbers, and a record has words.

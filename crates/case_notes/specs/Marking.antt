@@ -1,9 +1,7 @@
 -- The items of a private line, and the marking that they make.
 use Rattle.std.specs.Prelude.{ℕ, zero, suc, ◌+◌, cond, List, length, ltb}
 use Rattle.case_words.specs.declared.Item.{Item}
-use Rattle.case_words.specs.declared.Item.TheVariants as Item
 use Rattle.case_file.specs.declared.PrivateEntry.{PrivateEntry}
-use Rattle.case_file.specs.declared.PrivateEntry.TheVariants as PrivateEntry
 use Rattle.case_file.specs.Arguments.{private_entry}
 use Rattle.marking.specs.declared.Marking.{Marking}
 use Rattle.case_kept.specs.Indices.{PRIVATE_REGISTERS, PRIVATE_PREDICATES, PRIVATE_SL, PRIVATE_SH, PRIVATE_MAIN, PRIVATE_LOCAL, PRIVATE_STACK}

@@ -1,7 +1,6 @@
 -- The lines on a replay, and its list and table as bytes.
 use Rattle.std.specs.Prelude.{ℕ, ◌+◌, ◌*◌, List}
 use Rattle.case_file.specs.declared.ReplayLine.{ReplayLine}
-use Rattle.case_file.specs.declared.ReplayLine.TheVariants as ReplayLine
 use Rattle.case_file.specs.declared.Reason.TheVariants as Reason
 use Rattle.case_kept.specs.Indices.{REPLAYS, ACTIVE, PLACE, DONE, LIST_BYTES, TABLE_BYTES, TABLE, INTERRUPTS}
 use Rattle.case_kept.specs.Kept.{put}

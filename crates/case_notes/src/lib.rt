@@ -1,5 +1,6 @@
 // What a case says: its description and its marking, put among the kept numbers. Nothing here reads, writes or does a bundle.
 #![tactic(auto)]
+
 pub mod description;
 pub mod description_line;
 pub mod held;

@@ -4,7 +4,6 @@ use Prim.Native.Char.{code}
 use Prim.Native.String.{String}
 use Rattle.case_words.specs.Names.{bytes}
 use Rattle.case_file.specs.declared.Reason.{Reason}
-use Rattle.case_file.specs.declared.Reason.TheVariants as Reason
 use Rattle.case_report.specs.Form.{filled}
 
 -- Why a line is a mistake, in words.

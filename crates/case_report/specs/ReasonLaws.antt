@@ -2,7 +2,6 @@
 use Rattle.std.specs.Prelude.{◌≡◌, refl}
 use Rattle.text.specs.Table.{table, row_text}
 use Rattle.case_file.specs.declared.Reason.{Reason}
-use Rattle.case_file.specs.declared.Reason.TheVariants as Reason
 use Rattle.case_report.specs.Mistake.{in_words, reason_text}
 use Rattle.case_report.specs.Reasons.{number_of, reasons, texts}
 

@@ -1,7 +1,6 @@
 -- The reasons as a table with a row for each.
 use Rattle.std.specs.Prelude.{ℕ, List, [], ◌∷◌}
 use Rattle.case_file.specs.declared.Reason.{Reason}
-use Rattle.case_file.specs.declared.Reason.TheVariants as Reason
 use Rattle.case_report.specs.Mistake.{reason_text}
 
 -- The row of a reason.

@@ -1,6 +1,6 @@
 -- Laws of the lines on a record, one byte at a time.
 use Rattle.std.specs.Prelude.{ℕ, ◌+◌, ◌≡◌, refl, List, get_or}
-use Rattle.std.proofs.Common.{ap, ◌∙◌, add-one}
+use Rattle.std.proofs.Common.{add-one}
 use Rattle.case_report.specs.RecordLines.{counted_with, filled_to}
 
 pub filled_none : (s : List ℕ) → 0 ≡ filled_to 0 s

@@ -1,5 +1,6 @@
 // The texts of the report, put into a lent buffer, and the one function that writes a buffer out.
 #![tactic(auto)]
+
 pub mod changes;
 pub mod form;
 pub mod mistake;

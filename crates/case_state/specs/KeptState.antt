@@ -2,15 +2,11 @@
 use Rattle.std.specs.Prelude.{ℕ, ◌+◌, ◌-◌, ◌%◌, Bool, false, cond, List, [], ◌∷◌, length, get_or, eqb}
 use Rattle.alu_effects.specs.declared.Specials.{Specials}
 use Rattle.effects.specs.declared.Transfer.{Transfer}
-use Rattle.effects.specs.declared.Transfer.TheVariants as Transfer
 use Rattle.products.specs.declared.Product.{Product}
 use Rattle.products.specs.declared.Products.{Products}
-use Rattle.products.specs.declared.Products.TheVariants as Products
 use Rattle.products.specs.Products.{product}
 use Rattle.core_state.specs.declared.WaitingTransfer.{WaitingTransfer}
-use Rattle.core_state.specs.declared.WaitingTransfer.TheVariants as WaitingTransfer
 use Rattle.core_state.specs.declared.WaitingLoad.{WaitingLoad}
-use Rattle.core_state.specs.declared.WaitingLoad.TheVariants as WaitingLoad
 use Rattle.case_kept.specs.Indices.{SPECIALS, TRANSFER, TARGET, BR, CALL, BLOCK, XRET, LOAD, LOADED, REGISTERS, PREDICATES, PRODUCTS, PRODUCT, HELD}
 use Rattle.case_kept.specs.Kept.{kept_number, kept_word, is_set, put, flag, kept_words, put_each}
 use Rattle.case_notes.specs.Waiting.{with_transfer, with_load, with_product}

@@ -1,5 +1,6 @@
 // Parts of a state among the kept numbers of a case.
 #![tactic(auto)]
+
 ghost use Rattle.std.specs.Prelude.{◌≡◌, ◌<◌};
 ghost use Rattle.case_kept.specs.Indices.{ALL};
 ghost use Rattle.case_state.specs.KeptState.{registers_of, specials_of, list_of, with_words, with_predicates, transfer_with, transfer_of, load_of, with_target, with_waiting, with_waiting_load, product_of, wait_behind, products_of, with_products, held_of, with_held};

@@ -8,15 +8,11 @@ use Rattle.text.specs.Field.{same_bytes}
 use Rattle.text.specs.Number.{decimal_of}
 use Rattle.text.specs.Table.{is_row}
 use Rattle.case_words.specs.declared.Keyword.{Keyword}
-use Rattle.case_words.specs.declared.Keyword.TheVariants as Keyword
 use Rattle.case_words.specs.declared.OneNumber.TheVariants as OneNumber
 use Rattle.case_words.specs.declared.NumberAndWord.TheVariants as NumberAndWord
 use Rattle.case_words.specs.declared.TransferKind.{TransferKind}
-use Rattle.case_words.specs.declared.TransferKind.TheVariants as TransferKind
 use Rattle.case_words.specs.declared.SpecialName.{SpecialName}
-use Rattle.case_words.specs.declared.SpecialName.TheVariants as SpecialName
 use Rattle.case_words.specs.declared.Item.{Item}
-use Rattle.case_words.specs.declared.Item.TheVariants as Item
 
 -- The bytes of a word: the codes of its characters, which are ASCII.
 abbrev pub bytes : Text.String → List ℕ

@@ -1,5 +1,6 @@
 // The words that a line can start with, and the names that it can hold.
 #![tactic(auto)]
+
 ghost use Rattle.std.specs.Prelude.{◌≡◌};
 ghost use Rattle.case_words.specs.Names.{look_up, meaning_at, keywords, keyword_of, transfer_kinds, transfer_kind_of, special_names, special_name_of};
 ghost use Rattle.case_words.specs.Names.{numbered, other_items, item_of};

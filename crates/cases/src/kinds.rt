@@ -2,7 +2,6 @@
 use crate::{Asked, Kind, Shown};
 use assembler::WordsRead;
 use assembler::reading::read_words;
-use bytes::scan::find;
 use case_file::{Line, Reason};
 use case_kept::kept::{DESCRIBED, NO_CASE};
 
@@ -55,9 +54,12 @@ pub(crate) fn kind_in(phase: u64, kind: Kind) -> Kind {
 
 // What is told of a mistake: first what cannot be seen in the line, a tab or a carriage return in front of its comment.
 pub(crate) fn reason(line: &[u8], r: Reason) -> Reason {
-    let end = find(line, 0, line.len(), b'#');
-    if (find(line, 0, end, b'\t') < end) | (find(line, 0, end, b'\r') < end) {
-        return Reason::UnseenByte;
+    for b in line {
+        match *b {
+            b'#' => return r,
+            b'\t' | b'\r' => return Reason::UnseenByte,
+            _ => {}
+        }
     }
     r
 }

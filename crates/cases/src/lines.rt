@@ -15,7 +15,9 @@ use case_kept::kept::{Kept, LINE, OPEN, PHASE, STOPPED};
 use case_notes::Judged;
 use case_notes::description_line::describe;
 use case_report::mistake::fail;
-use case_report::output::write_out;
+use case_report::output::{say_failure, write_out};
+use std::fs::File;
+use std::io::Error;
 use std::num::wrapping_add_u64;
 
 // A mistake of the line that was read last.
@@ -142,10 +144,9 @@ fn take_line(
 }
 
 // The file gave no line.
-fn without_line(found: Found, path: &[u8], kept: &mut Kept, out: &mut Report) -> usize {
+fn without_line(found: Found, kept: &mut Kept, out: &mut Report) -> usize {
     match found {
         Found::Unreadable => {
-            os::fail(path);
             kept[PHASE] = STOPPED;
             0
         }
@@ -164,7 +165,6 @@ fn without_line(found: Found, path: &[u8], kept: &mut Kept, out: &mut Report) ->
 // What was found in the file: a line is taken.
 fn take(
     found: Found,
-    path: &[u8],
     line: &LineBytes,
     code: &mut Bytes,
     main: &mut Memory,
@@ -187,13 +187,21 @@ fn take(
                 &mut *out,
             )
         }
-        _ => without_line(found, path, &mut *kept, &mut *out),
+        _ => without_line(found, &mut *kept, &mut *out),
+    }
+}
+
+// Why the file could not be read is said on standard error.
+fn say_why(rt: &HostRuntime, path: &[u8], failure: &Option<Error>) {
+    if let Some(e) = failure {
+        say_failure(&mut rt.stderr(), path, e);
     }
 }
 
 // Reads to the file's end. A proved loop has to end, and nothing says that a file does, so the turns are counted down.
 pub(crate) fn read_all(
-    fd: i32,
+    rt: &HostRuntime,
+    file: &mut File,
     path: &[u8],
     piece: &mut Bytes,
     line: &mut LineBytes,
@@ -204,15 +212,13 @@ pub(crate) fn read_all(
     kept: &mut Kept,
     out: &mut Report,
 ) {
+    let mut failure = None;
     let mut s = no_input();
-    let mut turns = u64::MAX;
-    while 0 < turns {
-        turns -= 1;
-        s = look(fd, &mut *piece, &mut *line, s);
+    for _ in 0..u64::MAX {
+        s = look(file, &mut failure, &mut *piece, &mut *line, s);
         let found = s.found;
         let used = take(
             found,
-            path,
             &*line,
             &mut *code,
             &mut *main,
@@ -221,10 +227,11 @@ pub(crate) fn read_all(
             &mut *kept,
             &mut *out,
         );
-        if !write_out(&*out, used) {
+        if !write_out(&mut rt.stdout(), &mut rt.stderr(), &*out, used) {
             return;
         }
         if kept[PHASE] == STOPPED {
+            say_why(rt, path, &failure);
             return;
         }
     }

@@ -1,6 +1,7 @@
 // Runs the cases of a case file and writes their report to standard output. Where there is nothing to read, it says so on
 // standard error.
 #![tactic(auto)]
+
 mod answer_lines;
 mod check_code;
 mod kept_state;
@@ -12,9 +13,14 @@ mod resuming;
 mod writing;
 
 use case_file::{Reason, Resumption, Room};
+use case_report::output::say_failure;
 use encoder::Written;
-use libc::STDERR_FILENO;
 use lines::read_all;
+use std::env::FillError;
+use std::fs::File;
+use std::io::{Error, Result, Write};
+use std::rt::Env;
+use std::str::from_utf8;
 
 // What is asked for of an opened case: the check of its code, a step, a run with a budget, the record of its state, or to go on from
 // the record that it gives.
@@ -46,7 +52,7 @@ enum Kind {
 }
 
 // All buffers stand in this frame.
-fn read_cases(fd: i32, path: &[u8]) {
+fn read_cases(rt: &HostRuntime, file: &mut File, path: &[u8]) {
     let mut piece = [0u8; 65536];
     let mut line = [0u8; 4000];
     let mut code = [0u8; 65536];
@@ -56,28 +62,57 @@ fn read_cases(fd: i32, path: &[u8]) {
     let mut kept = [0u64; 160600];
     let mut out = [0u8; 1048576];
     read_all(
-        fd, path, &mut piece, &mut line, &mut code, &mut main, &mut local, &mut cache, &mut kept,
-        &mut out,
+        rt, file, path, &mut piece, &mut line, &mut code, &mut main, &mut local, &mut cache,
+        &mut kept, &mut out,
     );
 }
 
-fn main() {
-    if os::arg_count() != 2 {
-        io::write_all(STDERR_FILENO, b"usage: cases FILE\n");
+// The system's numbers for a name that is too long, and for bytes that are no text.
+const NAME_TOO_LONG: i32 = 36;
+
+const NO_TEXT: i32 = 84;
+
+// A name that is no text names no file that can be opened.
+fn open(rt: &HostRuntime, name: &[u8]) -> Result<File> {
+    match from_utf8(name) {
+        Ok(path) => File::open(rt, path),
+        Err(_) => Err(Error::from_raw_os_error(NO_TEXT)),
+    }
+}
+
+fn read_cases_of(rt: &HostRuntime, name: &[u8]) {
+    match open(rt, name) {
+        Ok(file) => {
+            let mut file = file;
+            read_cases(rt, &mut file, name);
+        }
+        Err(e) => say_failure(&mut rt.stderr(), name, &e),
+    }
+}
+
+// Whether a word stands behind the program's name and the file's.
+fn has_more_words(rt: &HostRuntime) -> bool {
+    let mut word = [0u8; 4096];
+    !matches!(rt.arg(2, &mut word), Err(FillError::NotPresent))
+}
+
+fn say_usage(rt: &HostRuntime) {
+    let _ = rt.stderr().write_all(b"usage: cases FILE\n");
+}
+
+fn main(rt: HostRuntime) {
+    if has_more_words(&rt) {
+        say_usage(&rt);
         return;
     }
-    let mut path = io::buffer();
-    let n = os::arg(1, &mut path);
-    if os::errno() != 0 {
-        os::fail(b"path");
-        return;
+    let mut path = [0u8; 4096];
+    match rt.arg(1, &mut path) {
+        Ok(n) => read_cases_of(&rt, &path[..n]),
+        Err(FillError::NotPresent) => say_usage(&rt),
+        Err(FillError::TooLong) => say_failure(
+            &mut rt.stderr(),
+            b"path",
+            &Error::from_raw_os_error(NAME_TOO_LONG),
+        ),
     }
-    let name = &path[..n];
-    let fd = os::open_read(name);
-    if fd < 0 {
-        os::fail(name);
-        return;
-    }
-    read_cases(fd, name);
-    libc::close(fd);
 }

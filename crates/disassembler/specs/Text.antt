@@ -1,6 +1,5 @@
 -- The text of a bundle. A guard p0 is not written.
 use Rattle.std.specs.Prelude.{ℕ, false, cond, List, [], ◌++◌, eqb}
-use Prim.Native.String as Text
 use Rattle.case_words.specs.Names.{bytes}
 use Rattle.assembly.specs.Forms.{letter, name_of}
 use Rattle.assembly.specs.Operands.{predicate_text, operand_text}

@@ -1,5 +1,6 @@
 // The text of a bundle, put into a lent buffer.
 #![tactic(auto)]
+
 pub mod showing;
 pub mod writing;
 

@@ -1,6 +1,5 @@
 -- What bundles are written as, and the listing of code, as texts of a report (docs/CASES.md, "The report").
 use Rattle.std.specs.Prelude.{ℕ, zero, suc, ◌+◌, Bool, true, cond, ◌&&◌, List, [], ◌++◌, leb, eqb, length}
-use Prim.Native.String as Text
 use Rattle.text.specs.Number.{decimal_text, word_text}
 use Rattle.case_words.specs.Names.{bytes}
 use Rattle.word.specs.Word.{add}

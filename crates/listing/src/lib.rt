@@ -1,5 +1,6 @@
 // The listing of code, a line for each bundle, and the words of a bundle as text, put into a lent buffer.
 #![tactic(auto)]
+
 ghost use Rattle.std.specs.Prelude.{◌≡◌, ◌++◌, ◌+◌, ◌≤◌};
 ghost use Rattle.text.specs.Number.{decimal_text};
 ghost use Rattle.text.specs.Page.{page, with_text};

@@ -1,5 +1,6 @@
 // The operation that a mnemonic and its operands make, by the places of `forms` (assembly).
 #![tactic(auto)]
+
 ghost use Rattle.std.specs.Prelude.{◌≡◌, ◌/◌, ◌%◌};
 ghost use Rattle.std.proofs.Math.Option.{some};
 ghost use Rattle.isa.specs.Format.{row};

@@ -72,7 +72,7 @@ fn state_in(bytes: &[u8]) -> State
 // What bytes say as a record with as many cache words as are lent. They are only told apart by their form here: code and settings, over which
 // 11 is judged, are not at hand.
 pub fn read_record(bytes: &[u8], cache: &mut [u32]) -> Read
-    ensures cache_after { read_with result cache.new ≡ reading bytes.now cache.old }
+    ensures read { read_with result cache.new ≡ reading bytes.now cache.old }
     ensures fixed { FixedHeld result.state.held }
 {
     if !has_form(bytes, cache.len()) {

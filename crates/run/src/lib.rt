@@ -61,7 +61,7 @@ pub fn run(
     config: Config,
     budget: u32,
 ) -> Ran
-    ensures cache_value { whole result (left main local cache) ≡ run (replaying list.now table.now (setup code.now config)) budget (state_of start) (found main local cache) }
+    ensures ran { whole result (left main local cache) ≡ run (replaying list.now table.now (setup code.now config)) budget (state_of start) (found main local cache) }
     ensures shaped { Shaped (state_of start) }
     ensures fixed { FixedHeld result.state.held }
 {

@@ -1,15 +1,18 @@
 // Runs a workload and prints what came of it, in the form of the plain interpreter in bench/: to be timed from outside.
 #![tactic(auto)]
+
 ghost use Rattle.std.specs.Prelude.{◌≤◌};
 
 mod workload;
 
 use answers::Verdict;
-use libc::{STDERR_FILENO, STDOUT_FILENO};
 use method_cache::Method;
 use run::{Ran, RunAnswer};
 use settings::Config;
 use state::State;
+use std::env::FillError;
+use std::io::{Result, Write};
+use std::rt::Env;
 use text::Number;
 use text::fields::same;
 use text::numbers::decimal;
@@ -35,6 +38,9 @@ fn put_code(code: &mut [u8], words: &[u32]) {
         i += 1;
     }
 }
+
+// A word of the command line.
+pub type Text = [u8; 4096];
 
 // Room for 131,072 interrupts.
 pub type List = [u8; 1048576];
@@ -68,41 +74,27 @@ fn checksum(registers: [u32; 32]) -> u32 {
     sum
 }
 
-fn print_number(label: &[u8], n: u64) {
-    io::write_all(STDOUT_FILENO, label);
-    io::print_decimal(STDOUT_FILENO, n);
-}
-
-fn print_answer(a: RunAnswer) {
+fn print_answer(rt: &HostRuntime, a: RunAnswer) -> Result<()> {
     match a {
-        RunAnswer::Ended => {
-            io::write_all(STDOUT_FILENO, b" ended");
-        }
-        RunAnswer::Spent => {
-            io::write_all(STDOUT_FILENO, b" spent");
-        }
-        RunAnswer::Refused(n) => print_number(b" refused ", n as u64),
+        RunAnswer::Ended => print!(rt; " ended"),
+        RunAnswer::Spent => print!(rt; " spent"),
+        RunAnswer::Refused(n) => print!(rt; " refused {n}"),
     }
 }
 
 // The method cache's counts are shown where it is on.
-fn print_ran(r: Ran, on: bool) {
+fn print_ran(rt: &HostRuntime, r: Ran, on: bool) -> Result<()> {
     let answer = r.answer;
     let state = r.state;
     let registers = state.registers;
     let counts = r.counts;
-    print_answer(answer);
-    print_number(b" bundles ", counts.bundles);
-    print_number(b" cycles ", counts.cycles);
-    print_number(b" spilled ", counts.spilled);
-    print_number(b" filled ", counts.filled);
+    print_answer(rt, answer)?;
+    print!(rt; " bundles {} cycles {}", counts.bundles, counts.cycles)?;
+    print!(rt; " spilled {} filled {}", counts.spilled, counts.filled)?;
     if on {
-        print_number(b" misses ", counts.misses);
-        print_number(b" fetched ", counts.fetched);
+        print!(rt; " misses {} fetched {}", counts.misses, counts.fetched)?;
     }
-    io::write_all(STDOUT_FILENO, b" checksum ");
-    io::print_hex(STDOUT_FILENO, checksum(registers) as u64, 8);
-    io::write_all(STDOUT_FILENO, b"\n");
+    println!(rt; " checksum {:08x}", checksum(registers))
 }
 
 fn least(a: usize, b: usize) -> usize
@@ -113,6 +105,7 @@ fn least(a: usize, b: usize) -> usize
 
 // A workload run on what is lent. The stack area is the upper half of main memory.
 fn run_workload(
+    rt: &HostRuntime,
     s: Setting,
     words: &[u32],
     code: &mut [u8],
@@ -121,7 +114,7 @@ fn run_workload(
     main: &mut [u8],
     local: &mut [u8],
     cache: &mut [u32],
-) {
+) -> Result<()> {
     let lo = s.main / 8 * 4;
     let hi = s.main / 4 * 4;
     put_code(&mut *code, words);
@@ -131,10 +124,7 @@ fn run_workload(
     let answer = opened.answer;
     let state = opened.state;
     match answer {
-        Verdict::Refused(k) => {
-            print_number(b" open refused ", k as u64);
-            io::write_all(STDOUT_FILENO, b"\n");
-        }
+        Verdict::Refused(k) => { println!(rt; " open refused {k}") }
         Verdict::Fine => {
             let r = run::run(
                 state,
@@ -147,13 +137,14 @@ fn run_workload(
                 config,
                 s.budget,
             );
-            print_ran(r, method.on);
+            print_ran(rt, r, method.on)
         }
     }
 }
 
 // The parts of the buffers that the setting asks for.
 fn cut(
+    rt: &HostRuntime,
     s: Setting,
     words: &[u32],
     code: &mut [u8],
@@ -162,11 +153,12 @@ fn cut(
     main: &mut [u8],
     local: &mut [u8],
     cache: &mut [u32],
-) {
+) -> Result<()> {
     let n = least(words.len(), code.len() / 4) * 4;
     let m = least(s.main as usize, main.len());
     let w = least(s.words as usize, cache.len());
     run_workload(
+        rt,
         s,
         words,
         &mut code[..n],
@@ -175,17 +167,18 @@ fn cut(
         &mut main[..m],
         &mut *local,
         &mut cache[..w],
-    );
+    )
 }
 
 // Main memory and cache have one place more than the greatest that is accepted, so that settings beyond the limits are refused.
-fn measure_on(name: &[u8], words: &[u32], s: Setting, list: &[u8]) {
+fn measure_on(rt: &HostRuntime, name: &str, words: &[u32], s: Setting, list: &[u8]) -> Result<()> {
     let mut code = [0u8; 256];
     let mut main = [0u8; 65537];
     let mut local = [0u8; 1024];
     let mut cache = [0u32; 513];
-    io::write_all(STDOUT_FILENO, name);
+    print!(rt; "{name}")?;
     cut(
+        rt,
         s,
         words,
         &mut code,
@@ -194,34 +187,47 @@ fn measure_on(name: &[u8], words: &[u32], s: Setting, list: &[u8]) {
         &mut main,
         &mut local,
         &mut cache,
-    );
+    )
 }
 
-fn cut_list(name: &[u8], words: &[u32], s: Setting, list: &List) {
+fn cut_list(rt: &HostRuntime, name: &str, words: &[u32], s: Setting, list: &List) -> Result<()> {
     let r = least(s.records as usize * 8, 1048576);
     let all = &list[..];
-    measure_on(name, words, s, &all[0..r]);
+    measure_on(rt, name, words, s, &all[0..r])
 }
 
-fn measure(name: &[u8], words: &[u32], s: Setting) {
+fn measure(rt: &HostRuntime, name: &str, words: &[u32], s: Setting) -> Result<()> {
     let mut list = [0u8; 1048576];
     put_list(&mut list, s.records);
-    cut_list(name, words, s, &list);
+    cut_list(rt, name, words, s, &list)
+}
+
+// Puts a word of the command line into text, and answers its length, 0 where it is too long.
+fn put_argument(rt: &HostRuntime, i: usize, text: &mut Text) -> usize
+    ensures { result ≤ 4096 }
+{
+    rt.arg(i, text).unwrap_or(0)
 }
 
 // A word of the command line as a number, 0 where it is none.
-fn argument(i: usize) -> u32 {
-    let mut text = io::buffer();
-    let n = os::arg(i, &mut text);
+fn argument(rt: &HostRuntime, i: usize) -> u32 {
+    let mut text = [0u8; 4096];
+    let n = put_argument(rt, i, &mut text);
     match decimal(&text[..n]) {
         Number::Value(v) => v,
         Number::Bad => 0,
     }
 }
 
+// Whether there is a word of the command line.
+fn has_argument(rt: &HostRuntime, i: usize) -> bool {
+    let mut text = [0u8; 4096];
+    !matches!(rt.arg(i, &mut text), Err(FillError::NotPresent))
+}
+
 // Whether a workload is asked for, by its name or with all.
-fn wanted(asked: &[u8], name: &[u8]) -> bool {
-    same(asked, b"all") | same(asked, name)
+fn wanted(asked: &[u8], name: &str) -> bool {
+    same(asked, b"all") | same(asked, name.as_bytes())
 }
 
 // The same with a method cache of four blocks and 96 bytes, and an entry behind the first block's size.
@@ -254,39 +260,38 @@ fn with_interrupts(s: Setting) -> Setting {
 }
 
 // The workloads that are asked for.
-fn measure_wanted(asked: &[u8], s: Setting) {
-    if wanted(asked, b"loop") {
-        measure(b"loop", &workload::LOOP, s);
+fn measure_wanted(rt: &HostRuntime, asked: &[u8], s: Setting) -> Result<()> {
+    if wanted(asked, "loop") {
+        measure(rt, "loop", &workload::LOOP, s)?;
     }
-    if wanted(asked, b"calls") {
-        measure(b"calls", &workload::CALLS, s);
+    if wanted(asked, "calls") {
+        measure(rt, "calls", &workload::CALLS, s)?;
     }
-    if wanted(asked, b"memory") {
-        measure(b"memory", &workload::MEMORY, s);
+    if wanted(asked, "memory") {
+        measure(rt, "memory", &workload::MEMORY, s)?;
     }
-    if wanted(asked, b"products") {
-        measure(b"products", &workload::PRODUCTS, s);
+    if wanted(asked, "products") {
+        measure(rt, "products", &workload::PRODUCTS, s)?;
     }
-    if wanted(asked, b"methods") {
-        measure(b"methods", &workload::METHODS, with_method(s));
+    if wanted(asked, "methods") {
+        measure(rt, "methods", &workload::METHODS, with_method(s))?;
     }
-    if wanted(asked, b"interrupts") {
-        measure(b"interrupts", &workload::INTERRUPTS, with_interrupts(s));
+    if wanted(asked, "interrupts") {
+        measure(rt, "interrupts", &workload::INTERRUPTS, with_interrupts(s))?;
     }
+    Ok(())
 }
 
-fn main() {
-    if os::arg_count() != 5 {
-        io::write_all(
-            STDERR_FILENO,
-            b"usage: speed loop|calls|memory|products|methods|interrupts|all BUDGET MAINLEN W\n",
-        );
-        return;
+fn main(rt: HostRuntime) -> Result<()> {
+    if !has_argument(&rt, 4) | has_argument(&rt, 5) {
+        let usage =
+            b"usage: speed loop|calls|memory|products|methods|interrupts|all BUDGET MAINLEN W\n";
+        return rt.stderr().write_all(usage);
     }
     let s = Setting {
-        budget: argument(2),
-        main: argument(3),
-        words: argument(4),
+        budget: argument(&rt, 2),
+        main: argument(&rt, 3),
+        words: argument(&rt, 4),
         entry: 0,
         method: Method {
             on: false,
@@ -295,7 +300,7 @@ fn main() {
         },
         records: 0,
     };
-    let mut asked = io::buffer();
-    let n = os::arg(1, &mut asked);
-    measure_wanted(&asked[..n], s);
+    let mut asked = [0u8; 4096];
+    let n = put_argument(&rt, 1, &mut asked);
+    measure_wanted(&rt, &asked[..n], s)
 }

@@ -79,7 +79,7 @@ impl State {
         config: Config,
         entry: u32,
     ) -> Opened
-        ensures cache_after { open_with result cache.new ≡ opening (setup code.now config) (buffers main.now local.now cache.old) entry }
+        ensures opened { open_with result cache.new ≡ opening (setup code.now config) (buffers main.now local.now cache.old) entry }
         ensures fixed { FixedHeld result.state.held }
     {
         let g = config.settings(code, main.len(), local.len(), cache.len());

@@ -77,7 +77,7 @@ impl State {
         cache: &mut [u32],
         config: Config,
     ) -> Stepped
-        ensures cache_value { full (stepped_of result) (left main local cache) ≡ step (replaying list.now table.now (setup code.now config)) (state_of self) (found main local cache) }
+        ensures stepped { full (stepped_of result) (left main local cache) ≡ step (replaying list.now table.now (setup code.now config)) (state_of self) (found main local cache) }
         ensures fixed { FixedHeld result.state.held }
     {
         let mut registers = self.registers;

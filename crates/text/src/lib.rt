@@ -1,5 +1,6 @@
 // Text: the fields of a line, the numbers that are read from them, tables of texts, and texts and digits put into a buffer.
 #![tactic(auto)]
+
 mod digits;
 pub mod fields;
 pub mod numbers;

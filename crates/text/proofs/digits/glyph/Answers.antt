@@ -1,6 +1,5 @@
 use borrow.Author.Tests.{lt-ltb, le-ltb}
 use Rattle.text.specs.Number.{glyph}
-use borrow.Author.Rules.{rules}
 use Rattle.text.proofs.digits.glyph.Goals as goal
 
 pub returns-then-d-lt10 : goal.returns-then-d-lt10

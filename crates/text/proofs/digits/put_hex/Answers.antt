@@ -1,8 +1,7 @@
 use native.Mathlib.Omega.{arith}
-use Prim.Native.Nat.{ℕ, ◌≤◌}
+use Prim.Native.Nat.{ℕ}
 use mathlib.Core.Path.{◌≡◌, refl, sym, ap, ◌∙◌}
-use mathlib.Core.List.{[], ◌∷◌}
-use borrow.Author.Rules.{rules}
+use mathlib.Core.List.{◌∷◌}
 use lib.ListN.{length, drop, length-set, drop_of_length-le}
 use Rattle.text.specs.Number.{hex_before}
 use Rattle.text.specs.NumberLaws.{put_before, hex_step, hex_none}

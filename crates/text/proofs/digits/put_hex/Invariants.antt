@@ -1,11 +1,8 @@
-use native.Mathlib.Omega.{arith}
-use Prim.Native.Nat.{ℕ, ◌≤◌}
-use mathlib.Core.Path.{◌≡◌, refl, sym, ap, ◌∙◌}
-use mathlib.Core.List.{[], ◌∷◌}
-use borrow.Author.Rules.{rules}
-use lib.ListN.{length, drop, length-set, drop_of_length-le}
+use Prim.Native.Nat.{◌≤◌}
+use mathlib.Core.Path.{◌≡◌}
+use mathlib.Core.List.{[]}
+use lib.ListN.{length, drop}
 use Rattle.text.specs.Number.{hex_before}
-use Rattle.text.specs.NumberLaws.{put_before, hex_step, hex_none}
 use Rattle.text.proofs.digits.put_hex.Given as goal
 
 abbrev pub invariant-loop-at : goal.invariant-loop-at

@@ -1,8 +1,5 @@
 use native.Mathlib.Omega.{arith}
-use Prim.Native.Nat.{◌≤◌, ◌+◌, ◌-◌}
-use mathlib.Core.Path.{◌≡◌, refl, ◌∙◌}
-use lib.ListN.{length, drop}
-use Rattle.text.specs.Field.{field_length}
+use mathlib.Core.Path.{refl, ◌∙◌}
 use Rattle.text.specs.FieldLaws.{field_step, field_stop, field_end}
 use Rattle.text.proofs.fields.after_field.Goals as goal
 

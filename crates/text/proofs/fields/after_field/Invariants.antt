@@ -1,9 +1,7 @@
-use native.Mathlib.Omega.{arith}
 use Prim.Native.Nat.{◌≤◌, ◌+◌, ◌-◌}
-use mathlib.Core.Path.{◌≡◌, refl, ◌∙◌}
+use mathlib.Core.Path.{◌≡◌}
 use lib.ListN.{length, drop}
 use Rattle.text.specs.Field.{field_length}
-use Rattle.text.specs.FieldLaws.{field_step, field_stop, field_end}
 use Rattle.text.proofs.fields.after_field.Given as goal
 
 abbrev pub invariant-loop-i : goal.invariant-loop-i

@@ -1,8 +1,5 @@
 use native.Mathlib.Omega.{arith}
-use Prim.Native.Nat.{◌≤◌, ◌+◌, ◌-◌}
-use mathlib.Core.Path.{◌≡◌, refl, ◌∙◌}
-use lib.ListN.{length, drop}
-use Rattle.text.specs.Field.{spaces}
+use mathlib.Core.Path.{refl, ◌∙◌}
 use Rattle.text.specs.FieldLaws.{spaces_step, spaces_stop, spaces_end}
 use Rattle.text.proofs.fields.after_spaces.Goals as goal
 

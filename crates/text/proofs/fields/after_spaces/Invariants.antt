@@ -1,9 +1,7 @@
-use native.Mathlib.Omega.{arith}
 use Prim.Native.Nat.{◌≤◌, ◌+◌, ◌-◌}
-use mathlib.Core.Path.{◌≡◌, refl, ◌∙◌}
+use mathlib.Core.Path.{◌≡◌}
 use lib.ListN.{length, drop}
 use Rattle.text.specs.Field.{spaces}
-use Rattle.text.specs.FieldLaws.{spaces_step, spaces_stop, spaces_end}
 use Rattle.text.proofs.fields.after_spaces.Given as goal
 
 abbrev pub invariant-loop-i : goal.invariant-loop-i

@@ -1,9 +1,5 @@
 use native.Mathlib.Omega.{arith}
-use Prim.Native.Nat.{◌≤◌, ◌-◌}
-use mathlib.Core.Path.{◌≡◌, refl, sym, ◌∙◌}
-use lib.ListN.{length, drop}
-use borrow.Author.Tests.{not-true, not-false}
-use Rattle.text.specs.Field.{are_name_bytes}
+use mathlib.Core.Path.{refl, sym, ◌∙◌}
 use Rattle.text.specs.FieldLaws.{names_step, names_stop, names_end}
 use Rattle.text.proofs.fields.are_name_bytes.Goals as goal
 

@@ -1,10 +1,7 @@
-use native.Mathlib.Omega.{arith}
 use Prim.Native.Nat.{◌≤◌, ◌-◌}
-use mathlib.Core.Path.{◌≡◌, refl, sym, ◌∙◌}
+use mathlib.Core.Path.{◌≡◌}
 use lib.ListN.{length, drop}
-use borrow.Author.Tests.{not-true, not-false}
 use Rattle.text.specs.Field.{are_name_bytes}
-use Rattle.text.specs.FieldLaws.{names_step, names_stop, names_end}
 use Rattle.text.proofs.fields.are_name_bytes.Given as goal
 
 abbrev pub invariant-loop-i : goal.invariant-loop-i

@@ -1,5 +1,4 @@
 use Rattle.text.specs.Field.{field_from}
-use borrow.Author.Rules.{rules}
 use Rattle.text.proofs.fields.next_field.Goals as goal
 
 pub returns : goal.returns

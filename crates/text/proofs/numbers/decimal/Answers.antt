@@ -1,6 +1,5 @@
 use borrow.Author.Tests.{eq-eqb, ne_eqb}
 use Rattle.text.specs.Number.{decimal_of}
-use borrow.Author.Rules.{rules}
 use Rattle.text.proofs.numbers.decimal.Goals as goal
 
 pub returns-then-s-eq0 : goal.returns-then-s-eq0

@@ -1,7 +1,6 @@
 use native.Mathlib.Omega.{arith}
 use borrow.Author.Tests.{le-leb, lt-leb}
 use Rattle.text.specs.Number.{digit}
-use borrow.Author.Rules.{rules}
 use Rattle.text.proofs.numbers.digit.Goals as goal
 
 pub returns-then-c-lt48 : goal.returns-then-c-lt48

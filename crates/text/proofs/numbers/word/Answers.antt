@@ -1,6 +1,5 @@
 use borrow.Author.Tests.{eq-eqb, ne_eqb}
 use Rattle.text.specs.Number.{word_of}
-use borrow.Author.Rules.{rules}
 use Rattle.text.proofs.numbers.word.Goals as goal
 
 pub returns-then-s-eq8 : goal.returns-then-s-eq8

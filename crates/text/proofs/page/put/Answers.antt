@@ -1,8 +1,8 @@
 use native.Mathlib.Omega.{arith}
-use Prim.Native.Nat.{◌+◌, ◌-◌}
-use mathlib.Core.Path.{◌≡◌, refl, ap, ◌∙◌}
-use lib.ListN.{length, drop}
-use Rattle.text.specs.Page.{Page, page, with_text}
+use Prim.Native.Nat.{◌+◌}
+use mathlib.Core.Path.{refl, ap, ◌∙◌}
+use lib.ListN.{drop}
+use Rattle.text.specs.Page.{Page, with_text}
 use Rattle.text.specs.PageLaws.{text_step, text_end}
 use Rattle.text.proofs.page.put.Goals as goal
 

@@ -1,9 +1,7 @@
-use native.Mathlib.Omega.{arith}
-use Prim.Native.Nat.{◌+◌, ◌-◌}
-use mathlib.Core.Path.{◌≡◌, refl, ap, ◌∙◌}
+use Prim.Native.Nat.{◌-◌}
+use mathlib.Core.Path.{◌≡◌}
 use lib.ListN.{length, drop}
-use Rattle.text.specs.Page.{Page, page, with_text}
-use Rattle.text.specs.PageLaws.{text_step, text_end}
+use Rattle.text.specs.Page.{page, with_text}
 use Rattle.text.proofs.page.put.Given as goal
 
 abbrev pub invariant-loop-i : goal.invariant-loop-i

@@ -2,7 +2,6 @@ use Prim.Native.Nat.{ℕ}
 use mathlib.Core.Path.{ap, ◌∙◌}
 use mathlib.Core.List.{List}
 use Rattle.text.specs.Page.{page, with_text}
-use borrow.Author.Rules.{rules}
 use Rattle.text.proofs.page.put_word.Goals as goal
 
 pub returns : goal.returns

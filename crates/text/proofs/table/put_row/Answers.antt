@@ -1,14 +1,14 @@
 use native.Mathlib.Omega.{arith}
-use Prim.Native.Nat.{ℕ, ◌+◌, ◌-◌}
-use mathlib.Core.Path.{◌≡◌, refl, sym, ap, ◌∙◌}
+use Prim.Native.Nat.{ℕ, ◌+◌}
+use mathlib.Core.Path.{refl, sym, ap, ◌∙◌}
 use mathlib.Core.List.{List}
-use mathlib.Core.Logic.{⊎_elim}
-use lib.ListN.{length, drop}
+use lib.ListN.{drop}
 use Rattle.text.specs.Page.{Page, page, with_text}
 use Rattle.text.specs.PageLaws.{text_none}
 use Rattle.text.specs.Table.{row_text}
 use Rattle.text.specs.TableLaws.{row_over, row_ends, row_next, row_byte, row_past}
 use Rattle.text.proofs.table.put_row.Goals as goal
+use Rattle.text.proofs.table.put_row.Goals.{then-b-eq10+else-left-eq0, else-b-eq10+then-left-eq0-2, else-b-eq10+else-left-eq0-2}
 
 pub loop-i-init : goal.loop-i-init
 loop-i-init c = (refl, refl)
@@ -38,12 +38,11 @@ loop-i-preserved c = let l = c.loop-i in
     let t = c.args.table.now in
     let h = c.loop-i-test.true in
     let p = page l.at l.out in
-    ⊎_elim
-    (λ w. rw (w.2, w.3, w.4) (l.invariant.0, ap (λ (s : List ℕ). with_text p s) (row_next t l.left l.i h w.0.taken w.1.left) ∙ l.invariant.1))
-    (⊎_elim
-    (λ w. rw (w.6, w.7, w.8) (w.3.kept.0 ∙ l.invariant.0, ap (λ (q : Page). with_text q (row_text (drop (l.i + 1) t) l.left)) w.3.ensures ∙ row_byte p t l.left l.i h w.0.left w.1.taken ∙ l.invariant.1))
-    (λ w. rw (w.2, w.3, w.4) (l.invariant.0, ap (λ (s : List ℕ). with_text p s) (row_past t l.left l.i h w.0.left w.1.left) ∙ l.invariant.1)))
-    c.if-b-eq10.branch
+    elim c.if-b-eq10.branch [
+      | then-b-eq10+else-left-eq0 w ↦ rw (w.out-is, w.at-is, w.left-is) (l.invariant.0, ap (λ (s : List ℕ). with_text p s) (row_next t l.left l.i h w.if-b-eq10.true w.if-left-eq0.false) ∙ l.invariant.1)
+      | else-b-eq10+then-left-eq0-2 w ↦ rw (w.out-is, w.at-is, w.left-is) (w.put_byte-at.auto.out ∙ l.invariant.0, ap (λ (q : Page). with_text q (row_text (drop (l.i + 1) t) l.left)) w.put_byte-at.ensures ∙ row_byte p t l.left l.i h w.if-b-eq10.false w.if-left-eq0-2.true ∙ l.invariant.1)
+      | else-b-eq10+else-left-eq0-2 w ↦ rw (w.out-is, w.at-is, w.left-is) (l.invariant.0, ap (λ (s : List ℕ). with_text p s) (row_past t l.left l.i h w.if-b-eq10.false w.if-left-eq0-2.false) ∙ l.invariant.1)
+    ]
 
 pub shape_of-out : goal.shape_of-out
 shape_of-out c = c.loop-i.invariant.0

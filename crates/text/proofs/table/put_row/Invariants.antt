@@ -1,13 +1,8 @@
-use native.Mathlib.Omega.{arith}
-use Prim.Native.Nat.{ℕ, ◌+◌, ◌-◌}
-use mathlib.Core.Path.{◌≡◌, refl, sym, ap, ◌∙◌}
-use mathlib.Core.List.{List}
-use mathlib.Core.Logic.{⊎_elim}
+use Prim.Native.Nat.{◌-◌}
+use mathlib.Core.Path.{◌≡◌}
 use lib.ListN.{length, drop}
-use Rattle.text.specs.Page.{Page, page, with_text}
-use Rattle.text.specs.PageLaws.{text_none}
+use Rattle.text.specs.Page.{page, with_text}
 use Rattle.text.specs.Table.{row_text}
-use Rattle.text.specs.TableLaws.{row_over, row_ends, row_next, row_byte, row_past}
 use Rattle.text.proofs.table.put_row.Given as goal
 
 abbrev pub invariant-loop-i : goal.invariant-loop-i

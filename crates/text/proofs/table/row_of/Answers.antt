@@ -1,15 +1,15 @@
 use native.Mathlib.Omega.{arith}
 use native.Mathlib.Nat.{zero-add, add-zero}
-use Prim.Native.Nat.{ℕ, ◌+◌, ◌-◌, ◌≤◌}
-use mathlib.Core.Path.{◌≡◌, sym, ap, ◌∙◌}
+use Prim.Native.Nat.{ℕ, ◌+◌}
+use mathlib.Core.Path.{sym, ap, ◌∙◌}
 use mathlib.Core.List.{List}
-use mathlib.Core.Logic.{⊎_elim}
-use mathlib.Core.Option.{Option, some}
-use lib.ListN.{length, drop, get_or}
+use mathlib.Core.Option.{Option}
+use lib.ListN.{length, get_or}
 use borrow.Author.Tests.{eq-eqb, ne_eqb}
 use Rattle.text.specs.Table.{row_from, left_at}
 use Rattle.text.specs.TableLaws.{met_to_lem, left_all, left_met, scan_over, scan_found, scan_next, scan_byte}
 use Rattle.text.proofs.table.row_of.Goals as goal
+use Rattle.text.proofs.table.row_of.Goals.{then-b-eq10+else-j-s, else-b-eq10}
 
 pub loop-i-init : goal.loop-i-init
 loop-i-init c = let a = c.args in
@@ -40,14 +40,12 @@ loop-i-preserved c = let l = c.loop-i in
     let s = a.s.now in
     let h = c.loop-i-test.true in
     let left = left_at s l.j in
-    ⊎_elim
-    (λ w.
-    let e = scan_next t s left l.i h w.0.taken (left_met s l.j ∙ ne_eqb l.j (length s) w.1.left) in
-    rw (w.2, w.3, left_all s) (omega (arith, l.invariant.0), omega (arith, e, l.invariant.1)))
-    (λ w.
-    let e = scan_byte t s left l.i h w.0.left in
-    rw (w.2, w.3, w.1.ensures, met_to_lem s l.j (get_or t l.i 0)) (omega (arith, l.invariant.0), ap (λ (n : ℕ). l.row + n) (sym e) ∙ l.invariant.1))
-    c.if-b-eq10.branch
+    elim c.if-b-eq10.branch [
+      | then-b-eq10+else-j-s w ↦ let e = scan_next t s left l.i h w.if-b-eq10.true (left_met s l.j ∙ ne_eqb l.j (length s) w.if-j-s.false) in
+          rw (w.row-is, w.j-is, left_all s) (omega (arith, l.invariant.0), omega (arith, e, l.invariant.1))
+      | else-b-eq10 w ↦ let e = scan_byte t s left l.i h w.if-b-eq10.false in
+          rw (w.row-is, w.j-is, w.matched-j.ensures, met_to_lem s l.j (get_or t l.i 0)) (omega (arith, l.invariant.0), ap (λ (n : ℕ). l.row + n) (sym e) ∙ l.invariant.1)
+    ]
 
 pub returns : goal.returns
 returns c = let l = c.loop-i in

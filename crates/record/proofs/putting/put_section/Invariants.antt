@@ -1,0 +1,17 @@
+use Rattle.big_endian.specs.BytesLaws.{length_put_number}
+use Rattle.record.specs.PutLaws.{put_next, put_none, put_one}
+use Rattle.sections.specs.Words.{put_words}
+use lib.ListN.{length, get_or, drop}
+use mathlib.Core.List.{List}
+use Prim.Native.Nat.{ℕ, ◌+◌, ◌-◌, ◌*◌, ◌≤◌}
+use borrow.Author.Rules.{rules}
+use native.Mathlib.Omega.{arith}
+use mathlib.Core.Path.{◌≡◌, refl, sym, ap, ◌∙◌}
+use Rattle.record.proofs.putting.put_section.Given as goal
+
+abbrev pub invariant-loop-i : goal.invariant-loop-i
+invariant-loop-i l =
+    (l.i ≤ length l.words) × (l.next ≡ l.initial.next + 4 * l.i) × (length l.out ≡ length l.initial.out) × (put_words l.out l.next (drop l.i l.words) ≡ put_words l.initial.out l.initial.next l.words)
+
+abbrev pub decreases-loop-i : goal.decreases-loop-i
+decreases-loop-i l = length l.words - l.i

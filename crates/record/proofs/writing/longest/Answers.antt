@@ -1,0 +1,18 @@
+use Rattle.settings.specs.SettingsLaws.{size_words, size_made}
+use Rattle.record.specs.Written.{longest_of}
+use Rattle.settings.specs.SettingsLaws.{size_refused}
+use native.Mathlib.Omega.{arith}
+use mathlib.Core.Path.{sym, ◌∙◌}
+use borrow.Author.Rules.{rules}
+use Rattle.record.proofs.writing.longest.Goals as goal
+
+pub returns-in-Refused : goal.returns-in-Refused
+unfolding longest_of
+returns-in-Refused c = rw (size_refused c.args.words (sym c.new.ensures ∙ c.in-Refused.is))
+
+pub returns-in-Cache : goal.returns-in-Cache
+unfolding longest_of
+returns-in-Cache c =
+    let w = c.args.words in
+    let e = sym c.new.ensures ∙ c.in-Cache.is in
+    rw (size_made w e) (omega (arith, size_words w e))
