@@ -11,6 +11,6 @@ pub returns : goal.returns
 returns c =
     let a = c.args in
     let r = c.resume-r in
-    ap (λ (n : ℕ). called_of n r.new.local.1.0 r.new.1.1.1.0 r.new.1.1.1.1.0) c.number_of.ensures
+    ap (λ (n : ℕ). called_of n r.new.main r.new.local r.new.out) c.number_of.ensures
     ∙ ap called r.ensures
     ∙ ap (λ (k : Config). called (resumed (replaying a.list.now a.table.now (setup a.code.now k)) a.budget a.words a.stopped.now a.main.now a.local.now a.out.now)) c.config_of-config.ensures
