@@ -77,7 +77,7 @@ returns-in-Refused c =
     let z : List ℕ = replicate 512 0 in
     let long = part_long z a.words (omega (arith, length-replicate {A = ℕ} 512 0, words_small g yes)) in
     let o = c.open-opened in
-    not_opened x a.words a.entry a.main.now a.local.now a.out.now (take (a.words - 0) z) o.new.cache o.result long o.ensures.cache_after yes room _ c.in-Refused.is ∙ ap (λ (y : Config). called (opened_record (setup a.code.now y) a.words a.entry a.main.now a.local.now a.out.now)) same
+    not_opened x a.words a.entry a.main.now a.local.now a.out.now (take (a.words - 0) z) o.new.cache o.result long o.ensures.opened yes room _ c.in-Refused.is ∙ ap (λ (y : Config). called (opened_record (setup a.code.now y) a.words a.entry a.main.now a.local.now a.out.now)) same
 
 pub returns-in-Fine : goal.returns-in-Fine
 returns-in-Fine c =
@@ -97,4 +97,4 @@ returns-in-Fine c =
     c.write_record.ensures
     ∙ ap (λ (q : List ℕ). writing (box (state_of o.result.state) q c.no_counts.result) a.out.now) (part_again l _ a.words (o.auto.cache ∙ long))
     ∙ ap (λ (n : Counts). writing (box (state_of o.result.state) l n) a.out.now) c.no_counts.ensures in
-    is_opened x a.words a.entry a.main.now a.local.now a.out.now (take (a.words - 0) z) l o.result long o.ensures.cache_after yes room _ _ c.in-Fine.is put ∙ ap (λ (y : Config). called (opened_record (setup a.code.now y) a.words a.entry a.main.now a.local.now a.out.now)) same
+    is_opened x a.words a.entry a.main.now a.local.now a.out.now (take (a.words - 0) z) l o.result long o.ensures.opened yes room _ _ c.in-Fine.is put ∙ ap (λ (y : Config). called (opened_record (setup a.code.now y) a.words a.entry a.main.now a.local.now a.out.now)) same
