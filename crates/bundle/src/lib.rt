@@ -2,6 +2,7 @@
 // blocks that it holds lent beside it.
 // Open first: advance.rt, then attempt.rt, fetched.rt and execute.rt.
 #![tactic(auto)]
+
 pub mod advance;
 mod attempt;
 mod counting;

@@ -1,6 +1,7 @@
 // What a bundle does: its refusals, its writes and counts, and the step, in specs/. Here are the types of what it gives, how they are
 // made, and what is judged before.
 #![tactic(auto)]
+
 pub mod outcome;
 pub mod ready;
 

@@ -1,6 +1,7 @@
 // What a bundle that is not refused writes to the state, in the order of the writes, and the cycles of a transfer; before that, slot one
 // carried out on the stores, and looked up.
 #![tactic(auto)]
+
 ghost use Rattle.std.specs.Prelude.{◌≡◌, Bool, List, ℕ};
 ghost use Rattle.products.specs.Words.{nearer_product_words};
 ghost use Rattle.core_state.specs.State.{landed, arrived};

@@ -1,6 +1,7 @@
 // The state beside registers, predicates and blocks held, and what a bundle writes to it. The registers and predicates are lent; no write
 // reads or changes the blocks.
 #![tactic(auto)]
+
 pub mod flow;
 pub mod judged;
 mod special;

@@ -1,6 +1,7 @@
 // The method cache: its capacity and the limits of it, the blocks that it holds, which are lent, and what a lookup does to them.
 // Open first: lookup.rt, then words.rt.
 #![tactic(auto)]
+
 ghost use Rattle.std.specs.Prelude.{◌≡◌};
 ghost use Rattle.method_cache.specs.MethodCache.{capacity_ok};
 

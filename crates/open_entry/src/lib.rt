@@ -2,6 +2,7 @@
 // Numbers and byte slices in, a number out; include/laqemdit.h declares it, docs/C.md tells how it is used.
 // Open first: OpenEntry.antt.
 #![tactic(auto)]
+
 ghost use Rattle.std.specs.Prelude.{◌≡◌};
 ghost use Rattle.settings.specs.Setup.{setup};
 ghost use Rattle.entries.specs.Entries.{config_of, called_of, called};

@@ -1,6 +1,7 @@
 // The record of a stopped box: how it is written over a lent buffer, and what is read of one.
 // Open first: writing.rt and reading.rt, then putting.rt.
 #![tactic(auto)]
+
 mod putting;
 pub mod reading;
 pub mod writing;

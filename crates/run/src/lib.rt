@@ -1,5 +1,6 @@
 // A run with a budget.
 #![tactic(auto)]
+
 ghost use Rattle.std.specs.Prelude.{◌≡◌};
 ghost use Rattle.settings.specs.Setup.{replaying, setup, found, left};
 ghost use Rattle.method_cache.specs.Words.{FixedHeld};

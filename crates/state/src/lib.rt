@@ -1,5 +1,6 @@
 // The state by value with its methods, and the fresh state.
 #![tactic(auto)]
+
 pub mod open;
 pub mod whole_state;
 

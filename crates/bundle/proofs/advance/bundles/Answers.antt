@@ -13,7 +13,7 @@ use Rattle.core_state.specs.Core.{joined, Canonical}
 use Rattle.bundle_model.specs.declared.Counts.{Counts}
 use Rattle.bundle_model.specs.Counts.{no_counts, counts_in, plus_none, Few, few_none, few_more}
 use Rattle.bundle_model.specs.Bundle.{returned, outcome, counted}
-use Rattle.step_laws.specs.StackKept.{lent_same}
+use Rattle.step_laws.proofs.StackKept.{lent_same}
 use Rattle.run_model.specs.RunLaws.{counted_none}
 use Rattle.run_model.specs.Loop.{goes_on}
 use Rattle.run_model.specs.LoopLaws.{goes_none, goes_ended, turn_stops, turn_goes_on, turn_few}
@@ -24,17 +24,16 @@ stopped-here : (c : Counts) (a : Returned) (s : State) (b : Buffers) → outcome
 stopped-here c a s b = ap (λ (d : Counts). outcome a s d b) (sym (plus_none c))
 
 pub loop-left-init : goal.loop-left-init
-loop-left-init c =
-    (
-      search rules,
-      subst (Few _) (sym c.requires.2) (few_none _),
-      refl,
-      refl,
-      refl,
-      ap (λ (n : Counts). counted n (goes_on (replaying c.args.list.now c.args.table.now (setup_of c.args.code.now c.args.g)) c.args.budget (with_held (joined c.args.registers.now c.args.predicates.now c.args.start) (held_in c.args.held.now)) (buffers c.args.main.now c.args.local.now c.args.cache.now))) c.requires.2 ∙ counted_none _,
-      λ k. k,
-      λ f. f,
-    )
+loop-left-init c = (
+  search rules,
+  subst (Few _) (sym c.requires.2) (few_none _),
+  refl,
+  refl,
+  refl,
+  ap (λ (n : Counts). counted n (goes_on (replaying c.args.list.now c.args.table.now (setup_of c.args.code.now c.args.g)) c.args.budget (with_held (joined c.args.registers.now c.args.predicates.now c.args.start) (held_in c.args.held.now)) (buffers c.args.main.now c.args.local.now c.args.cache.now))) c.requires.2 ∙ counted_none _,
+  λ k. k,
+  λ f. f,
+)
 
 pub shape_of-main-then-has_ended : goal.shape_of-main-then-has_ended
 shape_of-main-then-has_ended c = c.loop-left.invariant.2
