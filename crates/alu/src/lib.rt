@@ -1,5 +1,6 @@
 // What the ALU, compare, predicate and multiply functions give.
 #![tactic(auto)]
+
 ghost use Rattle.std.specs.Prelude.{◌≡◌};
 ghost use Rattle.alu.specs.Alu.{arithmetic, multiply, compare, combine};
 

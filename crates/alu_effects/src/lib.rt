@@ -1,5 +1,6 @@
 // What an operation that either slot can hold does, as a value, and the special registers that an operation can read.
 #![tactic(auto)]
+
 pub mod either_slot;
 pub mod special;
 

@@ -1,5 +1,6 @@
 // The ALU formats: what either slot can hold, and the long immediate.
 #![tactic(auto)]
+
 ghost use Rattle.std.specs.Prelude.{◌≡◌};
 ghost use Rattle.std.proofs.Math.Option.{some};
 ghost use Rattle.isa.specs.Format.{reading, row};

@@ -1,6 +1,7 @@
 // Numbers in bytes, most significant byte first. Bytes past the end read as 0, and are not written.
 // Each function has a short way for a number that lies within the bytes, and goes byte by byte at their end.
 #![tactic(auto)]
+
 ghost use Rattle.std.specs.Prelude.{◌≡◌, ◌+◌, ◌*◌, ◌%◌, get_or, set};
 ghost use Rattle.big_endian.specs.Bytes.{word_at, put_word, number_at, put_number};
 

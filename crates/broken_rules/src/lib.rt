@@ -1,5 +1,6 @@
 // What an operation and a bundle are found to break. Where `guard` is a parameter it says whether the guard is private.
 #![tactic(auto)]
+
 ghost use Rattle.std.specs.Prelude.{true, ◌≡◌};
 ghost use Rattle.marking_rules.specs.Rules.{asked, operation_breaks, instruction_breaks, breaks};
 ghost use Rattle.broken_rules.specs.Found.{right, slot_two_breaks, first_found};

@@ -1,6 +1,7 @@
 // The check for C, in a library of its own, so that a run need not share the decoder with it (docs/DECISIONS.md). include/laqemdit.h declares it,
 // docs/C.md tells how it is used.
 #![tactic(auto)]
+
 ghost use Rattle.settings.specs.Setup.{setup};
 ghost use Rattle.single_path.specs.Check.{checked};
 ghost use Rattle.entries.specs.Entries.{config_of};

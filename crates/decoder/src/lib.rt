@@ -1,6 +1,7 @@
 // The decoder: a first and a second word to the bundle that they encode. Whoever executes or checks a bundle goes by the
 // contracts of `decode` and `bundle_words`.
 #![tactic(auto)]
+
 ghost use Rattle.std.specs.Prelude.{◌≡◌, cond};
 ghost use Rattle.std.proofs.Math.Option.{none};
 ghost use Rattle.isa.specs.Format.{reading};

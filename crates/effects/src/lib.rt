@@ -1,5 +1,6 @@
 // What the slots of a bundle do, as values: computed from the state at the start, before anything is written.
 #![tactic(auto)]
+
 pub mod slot;
 
 use alu_effects::AluEffect;

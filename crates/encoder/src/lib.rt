@@ -1,5 +1,6 @@
 // The encoder: the words of a bundle, or its refusal. The decoder reads them as that bundle again (encoder_laws).
 #![tactic(auto)]
+
 pub mod bundles;
 pub mod words;
 

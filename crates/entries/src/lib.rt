@@ -2,5 +2,6 @@
 // they are used. Each does nothing but put its arguments together, call one function, and number the answer.
 // Open first: running.rt, then numbers.rt.
 #![tactic(auto)]
+
 pub mod numbers;
 pub mod running;

@@ -1,5 +1,6 @@
 // The bundle at an address of the code, for whoever does it or checks it.
 #![tactic(auto)]
+
 ghost use Rattle.std.specs.Prelude.{◌≡◌, ◌<◌};
 ghost use Rattle.decoder.specs.Decode.{bundle_words};
 ghost use Rattle.fetch.specs.Fetch.{is_undecodable, fetched};

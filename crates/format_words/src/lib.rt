@@ -1,6 +1,7 @@
 // The words of the formats: fixed bits and fields are put, in the order of `Formats` in isa, into a word that has its guard. Where formats
 // share a function its contract has the numbers put; the callers in encoder join them to their formats.
 #![tactic(auto)]
+
 ghost use Rattle.std.specs.Prelude.{◌≡◌, [], ◌∷◌};
 ghost use Rattle.isa.specs.Formats.{long_formats, alu_formats, first_formats};
 ghost use Rattle.fields.specs.Place.{at, grown, in_format};

@@ -1,6 +1,7 @@
 // The instructions, as the words of sections 2.5 and 2.6 of the handbook tell them apart. An immediate is kept as its
 // field has it, in full width; what it means is left to whoever executes it. Only br's field is a signed number.
 #![tactic(auto)]
+
 pub mod tables;
 
 // A predicate as an operand: four bits, of which the upper one negates the predicate that the others name.

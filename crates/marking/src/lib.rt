@@ -1,5 +1,6 @@
 // The marking: what it calls private. A number that names no register or predicate is not marked.
 #![tactic(auto)]
+
 ghost use Rattle.std.specs.Prelude.{◌≡◌};
 ghost use Rattle.marking.specs.Marking.{private_register, private_predicate, private_operand, private_store, private_special, public_register, public_predicate, public_special, marking_ok};
 

@@ -1,5 +1,6 @@
 // The marking rules, and what they ask about an operation: the table of `Rules.antt`.
 #![tactic(auto)]
+
 ghost use Rattle.std.specs.Prelude.{ℕ, true, false, ◌≡◌};
 ghost use Rattle.marking.specs.Marking.{on_special};
 ghost use Rattle.marking_rules.specs.Rules.{private_op2, private_amount, of_result, controlling, asked};

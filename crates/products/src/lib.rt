@@ -1,6 +1,7 @@
 // Products under way: what a multiply has begun, and sl and sh do not show yet.
 // Open first: specs/Products.antt, then words.rt.
 #![tactic(auto)]
+
 pub mod words;
 
 // A product that lands after so many bundles. The two words do not stand side by side: as one number of 64 bits they would be put together

@@ -1,1 +1,2 @@
 // The record of a stopped box: its definition and its laws, in specs/.
+#![tactic(auto)]

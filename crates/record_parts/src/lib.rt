@@ -1,6 +1,7 @@
 // The parts of a box as the words of their sections, and read from them again.
 // Open first: writing.rt, then reading.rt and form.rt.
 #![tactic(auto)]
+
 pub mod form;
 pub mod reading;
 pub mod writing;

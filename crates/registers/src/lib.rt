@@ -1,5 +1,6 @@
 // The registers and the predicates, as lists of which the first place is never written.
 #![tactic(auto)]
+
 ghost use Rattle.std.specs.Prelude.{◌≡◌};
 ghost use Rattle.registers.specs.Registers.{put_later};
 

@@ -1,6 +1,7 @@
 // A replay of recorded interrupts: what its list and its table say, and how far it is.
 // Open first: specs/Replay.antt.
 #![tactic(auto)]
+
 ghost use Rattle.std.specs.Prelude.{◌≡◌};
 ghost use Rattle.replay.specs.Replay.{records, handler_at, handler_of, records_ok, replay_ok, due_in, one_more};
 

@@ -1,5 +1,6 @@
 // Sections of words in bytes, each after its count of words: how they are found. Nothing is asked of the bytes.
 #![tactic(auto)]
+
 ghost use Rattle.std.specs.Prelude.{◌≡◌, ◌≤◌, ◌%◌, length, get_or, drop};
 ghost use Rattle.sections.specs.Words.{words_in};
 ghost use Rattle.sections.specs.Sections.{is_cut, behind, has_first, words_of_first, section_at};

@@ -1,5 +1,6 @@
 // What is handed to a run: the numbers beside what is lent, the settings that they make together, and their limits.
 #![tactic(auto)]
+
 ghost use Rattle.std.specs.Prelude.{◌≡◌};
 ghost use Rattle.stack_cache.specs.Stack.{is_cache_size};
 ghost use Rattle.settings.specs.Settings.{code_length_ok, area_ok, admits};

@@ -1,5 +1,6 @@
 // The check of code against a marking of what is private. Marking and Rule are passed on, for those who call it.
 #![tactic(auto)]
+
 ghost use Rattle.std.specs.Prelude.{true, ◌≡◌, ◌≤◌, ◌+◌, ◌/◌, length};
 ghost use Rattle.settings.specs.Setup.{setup};
 ghost use Rattle.single_path.specs.Check.{returned, letter_broken, walk_from, checked};

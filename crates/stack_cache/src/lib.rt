@@ -1,5 +1,6 @@
 // The stack cache: its limits, its window, and its words, which are lent; what moves between it and the stack area.
 #![tactic(auto)]
+
 ghost use Rattle.std.specs.Prelude.{◌≡◌};
 ghost use Rattle.stack_cache.specs.Stack.{make_cache};
 

@@ -1,5 +1,6 @@
 // What a stack instruction is to move, judged before anything moves. W may be any number here.
 #![tactic(auto)]
+
 ghost use Rattle.std.specs.Prelude.{◌≡◌, ◌-◌, min};
 ghost use Rattle.stack_cache.specs.Stack.{planned};
 ghost use Rattle.stack_cache.specs.Count.{Window, inside};

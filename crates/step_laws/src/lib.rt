@@ -1,1 +1,2 @@
 // Laws about bundles and steps, for what is built on them: see specs/.
+#![tactic(auto)]

@@ -14,16 +14,16 @@ unfolding planned bad_amount
 returns-then-w-n c = rw (window_good c.args.w c.args.st c.args.ss c.requires, lt-ltb _ _ c.if-w-n.true)
 
 pub overflow_mul-result : goal.overflow_mul-result
-overflow_mul-result c = 
+overflow_mul-result c =
     omega (arith, inside_end c.args.lo c.args.hi c.args.ss c.saturating_sub-filled.result (sym c.fill_open.ensures ∙ c.if-fill_open.true) c.ranges.ss.fits c.ranges.hi.fits)
 
 pub overflow_add-result : goal.overflow_add-result
-overflow_add-result c = 
+overflow_add-result c =
     omega (arith, inside_end c.args.lo c.args.hi c.args.ss c.saturating_sub-filled.result (sym c.fill_open.ensures ∙ c.if-fill_open.true) c.ranges.ss.fits c.ranges.hi.fits)
 
 pub returns-then-fill_open : goal.returns-then-fill_open
 unfolding spill_count fill_count ss_after top_after
-returns-then-fill_open c = 
+returns-then-fill_open c =
     let a = c.args in
     let g = accept_sens a.w a.st a.ss a.n c.requires c.if-w-n.false in
     let r = c.saturating_sub-filled.ensures in
@@ -32,7 +32,7 @@ returns-then-fill_open c =
 
 pub returns : goal.returns
 unfolding spill_count fill_count ss_after top_after
-returns c = 
+returns c =
     let a = c.args in
     let g = accept_sens a.w a.st a.ss a.n c.requires c.if-w-n.false in
     let r = c.saturating_sub-filled.ensures in

@@ -14,14 +14,14 @@ returns-then-sum-ge4294967296 c = rw (window_good c.args.w c.args.st c.args.ss c
 
 pub returns-then-ss-top : goal.returns-then-ss-top
 unfolding spill_count fill_count ss_after top_after
-returns-then-ss-top c = 
+returns-then-ss-top c =
     let a = c.args in
     let g = accept_sfree a.w a.st a.ss a.n c.requires c.if-sum-ge4294967296.false in
     rw (max-eq_right (le_of_lt c.if-ss-top.true)) at (sym (planned_moves Sfree a.w a.lo a.hi a.st a.ss a.n g c.ranges.ss.fits c.ranges.hi.fits refl refl))
 
 pub returns : goal.returns
 unfolding spill_count fill_count ss_after top_after
-returns c = 
+returns c =
     let a = c.args in
     let g = accept_sfree a.w a.st a.ss a.n c.requires c.if-sum-ge4294967296.false in
     rw (max-eq_left c.if-ss-top.false) at (sym (planned_moves Sfree a.w a.lo a.hi a.st a.ss a.n g c.ranges.ss.fits c.ranges.hi.fits refl refl))

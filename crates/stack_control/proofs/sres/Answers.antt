@@ -17,7 +17,7 @@ returns-then-st-n c = rw (window_good c.args.w c.args.st c.args.ss c.requires, l
 
 pub returns-then-spill_open : goal.returns-then-spill_open
 unfolding spill_count fill_count ss_after top_after
-returns-then-spill_open c = 
+returns-then-spill_open c =
     let a = c.args in
     let g = accept_sres a.w a.st a.ss a.n c.requires c.if-w-n.false c.if-st-n.false in
     let r = c.saturating_sub-spilled.ensures in
@@ -26,7 +26,7 @@ returns-then-spill_open c =
 
 pub returns : goal.returns
 unfolding spill_count fill_count ss_after top_after
-returns c = 
+returns c =
     let a = c.args in
     let g = accept_sres a.w a.st a.ss a.n c.requires c.if-w-n.false c.if-st-n.false in
     let r = c.saturating_sub-spilled.ensures in

@@ -8,7 +8,7 @@ use Rattle.stack_control.proofs.sspill.Goals as goal
 
 pub returns-then-spill_open : goal.returns-then-spill_open
 unfolding spill_count fill_count ss_after top_after
-returns-then-spill_open c = 
+returns-then-spill_open c =
     let a = c.args in
     let g = accept_sspill a.w a.st a.ss a.n c.requires in
     let r = c.min-spilled.ensures in
@@ -17,7 +17,7 @@ returns-then-spill_open c =
 
 pub returns : goal.returns
 unfolding spill_count fill_count ss_after top_after
-returns c = 
+returns c =
     let a = c.args in
     let g = accept_sspill a.w a.st a.ss a.n c.requires in
     let r = c.min-spilled.ensures in
