@@ -24,7 +24,7 @@ use Rattle.core_state.specs.declared.Core.{Core}
 use Rattle.core_state.specs.declared.WaitingTransfer.TheVariants as transfer
 use Rattle.core_state.specs.State.{State, none_waits, entered, one_place_on, with_held, with_done}
 use Rattle.core_state.specs.Core.{joined, waiting_transfer, transfer_words, Written, Canonical}
-use Rattle.core_state.specs.WordLaws.{words_fixed, canonical_with}
+use Rattle.core_state.proofs.WordLaws.{words_fixed, canonical_with}
 use Rattle.bundle_model.specs.declared.Answer.{Answer}
 use Rattle.bundle_model.specs.declared.Answer.TheVariants.{Done, Ended, Refused}
 use Rattle.bundle_model.specs.declared.Bundled.{Bundled}
@@ -36,7 +36,7 @@ use Rattle.bundle_model.specs.Counts.{no_counts, plus, plus_none, counts_in, Few
 use Rattle.bundle_model.specs.Bundle.{Outcome, outcome, counted, full, returned, if_done, refused_or, finished, bundle, attempt}
 use Rattle.bundle_model.specs.Execute.{bundled, stepped_as}
 use Rattle.step_laws.specs.StepCases.{is_done, bundle_cases}
-use Rattle.step_laws.specs.CountLaws.{bundle_few}
+use Rattle.step_laws.proofs.CountLaws.{bundle_few}
 use Rattle.step_laws.specs.LookupLaws.{entry_found, entry_misses, entry_fetched}
 use Rattle.bundle_model.specs.contracts.Answer.{the_type}
 use denote.Enum.Declared.{tag_of}

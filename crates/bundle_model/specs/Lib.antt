@@ -7,8 +7,4 @@ pub mod InterruptLaws
 pub mod Counts
 pub mod Bundle
 pub mod Execute
-pub mod HeldLaws
-pub mod ExecuteLaws
 pub mod TallyLaws
-pub mod BundleLaws
-pub mod HandedLaws

@@ -3,9 +3,9 @@ use Rattle.std.specs.Prelude.{ℕ, ◌≤◌, Bool, true, false, not, cond, ◌&
 use Rattle.std.proofs.Math.Path.{refl}
 use Rattle.word.specs.BoolLaws.{and_left}
 use Rattle.method_cache.specs.MethodCache.{capacity_ok, looked, held_after}
-use Rattle.method_cache.specs.CacheLaws.{capacity_on, looked_few}
+use Rattle.method_cache.proofs.CacheLaws.{capacity_on, looked_few}
 use Rattle.method_cache.specs.Words.{held_in, words_after, FixedHeld}
-use Rattle.method_cache.specs.WordLaws.{held_few, looked_back, looked_fixed}
+use Rattle.method_cache.proofs.WordLaws.{held_few, looked_back, looked_fixed}
 use Rattle.settings.specs.Setup.{Setup}
 use Rattle.effects.specs.declared.Transfer.{Transfer}
 use Rattle.effects.specs.declared.Transfer.TheVariants.{Br, Call, Block, Xret}

@@ -60,14 +60,14 @@ module _ (g : Settings) (x : Setup) (s : State) (vector handler : ℕ) (b : Buff
   abbrev call : Effect
   call = effect.Transfer false (Call handler)
 
-  judged : verdict (slot_tests g x s (effect.Trap vector handler)) ≡ and_then (verdict own) (verdict (slot_tests g x s call))
-  unfolding slot_tests
-  judged = verdict_append own (slot_tests g x s call)
-
   pub trap_refused : (n : ℕ) → verdict own ≡ Refused n → carried_as (carried.Refused n) b ≡ carried_out g x s (effect.Trap vector handler) b
-  unfolding carried_out buffers_after
-  trap_refused n e = sym (ap (λ (v : Verdict). unless_refused v b (carried_as plainly b)) (judged ∙ ap (λ (v : Verdict). and_then v (verdict (slot_tests g x s call))) e))
+  unfolding carried_out buffers_after slot_tests
+  trap_refused n e =
+      let judged : verdict (slot_tests g x s (effect.Trap vector handler)) ≡ and_then (verdict own) (verdict (slot_tests g x s call)) = verdict_append own (slot_tests g x s call) in
+      sym (ap (λ (v : Verdict). unless_refused v b (carried_as plainly b)) (judged ∙ ap (λ (v : Verdict). and_then v (verdict (slot_tests g x s call))) e))
 
   pub trap_carried : verdict own ≡ Fine → carried_out g x s call b ≡ carried_out g x s (effect.Trap vector handler) b
-  unfolding carried_out buffers_after
-  trap_carried e = sym (ap (λ (v : Verdict). unless_refused v b (carried_as plainly b)) (judged ∙ ap (λ (v : Verdict). and_then v (verdict (slot_tests g x s call))) e))
+  unfolding carried_out buffers_after slot_tests
+  trap_carried e =
+      let judged : verdict (slot_tests g x s (effect.Trap vector handler)) ≡ and_then (verdict own) (verdict (slot_tests g x s call)) = verdict_append own (slot_tests g x s call) in
+      sym (ap (λ (v : Verdict). unless_refused v b (carried_as plainly b)) (judged ∙ ap (λ (v : Verdict). and_then v (verdict (slot_tests g x s call))) e))

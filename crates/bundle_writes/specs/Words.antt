@@ -13,7 +13,7 @@ use Rattle.core_state.specs.declared.WaitingTransfer.TheVariants as transfer
 use Rattle.core_state.specs.declared.WaitingLoad.TheVariants as load
 use Rattle.core_state.specs.declared.Core.{Core}
 use Rattle.core_state.specs.Core.{waiting_load, load_words, transfer_words, nearer_words, begun_words, Canonical}
-use Rattle.core_state.specs.WordLaws.{Fixed, words_fixed as transfer-fixed, load_fixed, begun_fixed, nearer_fixed, canonical_with}
+use Rattle.core_state.proofs.WordLaws.{Fixed, words_fixed as transfer-fixed, load_fixed, begun_fixed, nearer_fixed, canonical_with}
 
 -- Its own transfer begins, its trap leaves none waiting, or the one that waits comes nearer.
 abbrev pub onward_words : Effect → TransferWords → TransferWords

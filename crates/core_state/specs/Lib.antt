@@ -3,4 +3,3 @@ pub mod State
 pub mod Writes
 pub mod Core
 pub mod CoreLaws
-pub mod WordLaws

@@ -17,7 +17,7 @@ use Rattle.settings.specs.SetupLaws.{stack_byte, stack_byte_from, stack_byte_bel
 use Rattle.memory.specs.Access.{main_open, access_open, read_number, stored}
 use Rattle.core_state.specs.State.{State}
 use Rattle.bundle_model.specs.Bundle.{area, stack_moved}
-use Rattle.step_laws.specs.StackKept.{stack_moved_lengths, area_same, stack_moved_area, stack_moved_outside}
+use Rattle.step_laws.proofs.StackKept.{stack_moved_lengths, area_same, stack_moved_area, stack_moved_outside}
 use Rattle.marking.specs.declared.Marking.{Marking}
 use Rattle.marking.specs.Marking.{private_store}
 use Rattle.even_pace.specs.Terms.{Same, private_byte, SameBuffers}

@@ -21,8 +21,8 @@ use Rattle.single_path.specs.declared.Checked.{Checked}
 use Rattle.single_path.specs.declared.Checked.TheVariants.{Accepted}
 use Rattle.single_path.specs.Check.{returned, checked}
 use Rattle.even_pace.specs.Terms.{Agree, Stops}
-use Rattle.even_pace.specs.BundleLaws.{SameOutcome}
-use Rattle.even_pace.specs.Theorem.{even_runs}
+use Rattle.even_pace.proofs.BundleLaws.{SameOutcome}
+use Rattle.even_pace.proofs.Theorem.{even_runs}
 
 -- What the contract of `run` says of what it returns: the outcome of the run, and the shape of the state handed in.
 pub record Ran-as (x : Setup) (budget : ℕ) (start : struct.State) (b : Buffers) (r : Ran) (after : Buffers) : Type 0 where

@@ -32,7 +32,7 @@ use Rattle.state.specs.OpenLaws.{fresh_shaped, fresh_well_formed}
 use Rattle.record_model.specs.Record.{Box, box, record_sections, record_of, transfer_section, load_section, product_section, count_section, replay_section, longest, InWords}
 use Rattle.record.specs.Written.{Written, written_of, writing}
 use Rattle.resume_model.specs.Resume.{Resumed, as_found, handed_out, from_record}
-use Rattle.resume_model.specs.ResumeLaws.{from_box}
+use Rattle.resume_model.proofs.ResumeLaws.{from_box}
 use Rattle.entries.specs.Entries.{answer_number, called_of, called}
 use Rattle.open_entry.specs.OpenEntry.{opened_record}
 

@@ -6,4 +6,3 @@ pub mod Run
 pub mod Machine
 pub mod Late
 pub mod Interrupts
-pub mod Cases

@@ -15,7 +15,7 @@ use Rattle.record_model.specs.Record.{Box, transfer_section, load_section, produ
 use Rattle.record_model.specs.PartLaws.{transfer_few, load_few, products_few}
 use Rattle.record_parts.specs.declared.Few.{Few}
 use Rattle.record_parts.specs.Few.{few_of, Holds, holds}
-use Rattle.record_model.specs.RecordLaws.{record_long}
+use Rattle.record_model.proofs.RecordLaws.{record_long}
 use Rattle.record.specs.Written.{Put, written_of, writing}
 
 -- A turn of the loop over the words, and its end.

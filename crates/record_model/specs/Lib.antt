@@ -2,4 +2,3 @@
 pub mod Record
 pub mod PartLaws
 pub mod FormLaws
-pub mod RecordLaws

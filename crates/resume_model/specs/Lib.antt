@@ -1,4 +1,3 @@
 -- Open first: Resume.antt, then ResumeLaws.antt.
 pub mod Resume
-pub mod ResumeLaws
 pub mod StepLaws

@@ -12,7 +12,8 @@ use Rattle.bundle_model.specs.declared.Readiness.{Readiness}
 use Rattle.bundle_model.specs.declared.Readiness.TheVariants as ready
 use Rattle.bundle_model.specs.Counts.{no_counts, plus, plus_none}
 use Rattle.bundle_model.specs.Bundle.{Outcome, outcome, counted, if_done, readiness, ready_or, step}
-use Rattle.step_laws.specs.StepCases.{is_done, attempt_done, step_cases}
+use Rattle.step_laws.specs.StepCases.{is_done, attempt_done}
+use Rattle.step_laws.proofs.StepCases.{step_cases}
 use Rattle.run_model.specs.Run.{run}
 use Rattle.record_model.specs.Record.{read_record, accepts, longest}
 use Rattle.resume_model.specs.Resume.{Resumed, resumed_of, as_found, handed_out, from_record, as_step, resumed, restepped}

@@ -4,7 +4,5 @@ pub mod RunLaws
 pub mod RefusalLaws
 pub mod ReplayLaws
 pub mod SplitLaws
-pub mod TriesLaws
 pub mod Loop
 pub mod LoopLaws
-pub mod FigureLaws

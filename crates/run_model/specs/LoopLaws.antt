@@ -16,10 +16,10 @@ use Rattle.bundle_model.specs.declared.Readiness.TheVariants as ready
 use Rattle.bundle_model.specs.Counts.{no_counts, plus, plus_none, Few, few_more, few_plus}
 use Rattle.bundle_model.specs.Bundle.{Outcome, outcome, counted, attempt, well_formed, readiness, ready_or, step}
 use Rattle.step_laws.specs.StepCases.{is_done, step_attempt, step_ended}
-use Rattle.bundle_model.specs.BundleLaws.{ready_admits, ready_well_formed, ready_replay, ready_not_ended}
-use Rattle.step_laws.specs.StackKept.{attempt_lengths, lent_same}
-use Rattle.step_laws.specs.CountLaws.{attempt_few}
-use Rattle.step_laws.specs.WellLaws.{attempt_well_formed}
+use Rattle.bundle_model.proofs.BundleLaws.{ready_admits, ready_well_formed, ready_replay, ready_not_ended}
+use Rattle.step_laws.proofs.StackKept.{attempt_lengths, lent_same}
+use Rattle.step_laws.proofs.CountLaws.{attempt_few}
+use Rattle.step_laws.proofs.WellLaws.{attempt_well_formed}
 use Rattle.settings.specs.SettingsLaws.{area_ordered, capacity_ok_lem}
 use Rattle.run_model.specs.Run.{run}
 use Rattle.bundle_model.specs.Bundle.{if_done}

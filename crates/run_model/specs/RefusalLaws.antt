@@ -26,8 +26,8 @@ use Rattle.bundle_model.specs.Refusal.{effect_tests, slot_tests, bundle_tests}
 use Rattle.bundle_model.specs.Interrupt.{due, handler_due, entry_lookups, entry_tests, taken}
 use Rattle.bundle_model.specs.Bundle.{outcome, counted, attempt, well_formed, readiness, ready_or, step}
 use Rattle.step_laws.specs.StepCases.{effect_at, attempt_cases}
-use Rattle.step_laws.specs.StackKept.{lent_same, step_lengths}
-use Rattle.step_laws.specs.WellLaws.{step_well_formed}
+use Rattle.step_laws.proofs.StackKept.{lent_same, step_lengths}
+use Rattle.step_laws.proofs.WellLaws.{step_well_formed}
 use Rattle.run_model.specs.Run.{run}
 use Rattle.bundle_model.specs.Bundle.{if_done}
 

@@ -22,8 +22,9 @@ use Rattle.core_state.specs.State.{State, none_waits, entered, with_register, la
 use Rattle.bundle_model.specs.Interrupt.{due, taken}
 use Rattle.bundle_model.specs.InterruptLaws.{due_taken, none_taken}
 use Rattle.bundle_model.specs.Bundle.{Outcome, if_done, write_one, written, step}
-use Rattle.step_laws.specs.StepCases.{is_done, step_cases, step_unchanged, step_going}
-use Rattle.step_laws.specs.KeptLaws.{with_special_cases, write_alu_cases, arrived_cases, onward_cases}
+use Rattle.step_laws.specs.StepCases.{is_done}
+use Rattle.step_laws.proofs.StepCases.{step_cases, step_unchanged, step_going}
+use Rattle.step_laws.proofs.KeptLaws.{with_special_cases, write_alu_cases, arrived_cases, onward_cases}
 
 abbrev pub place_of : State → ℕ
 place_of s = s.further.replay.place

@@ -9,8 +9,8 @@ use Rattle.bundle_model.specs.declared.Readiness.{Readiness}
 use Rattle.bundle_model.specs.declared.Readiness.TheVariants.{Ready, Ended, Refused}
 use Rattle.bundle_model.specs.Counts.{no_counts, plus, none_plus, plus_plus}
 use Rattle.bundle_model.specs.Bundle.{Outcome, outcome, counted, well_formed, readiness, ready_or, step}
-use Rattle.step_laws.specs.KeptLaws.{step_shaped}
-use Rattle.step_laws.specs.WellLaws.{step_well_formed}
+use Rattle.step_laws.proofs.KeptLaws.{step_shaped}
+use Rattle.step_laws.proofs.WellLaws.{step_well_formed}
 use Rattle.run_model.specs.Run.{run}
 use Rattle.bundle_model.specs.Bundle.{if_done}
 

@@ -11,7 +11,7 @@ use Rattle.bundle_model.specs.declared.Readiness.TheVariants as ready
 use Rattle.bundle_model.specs.Counts.{no_counts}
 use Rattle.bundle_model.specs.Bundle.{Outcome, outcome, counted, attempt, readiness, ready_or, step}
 use Rattle.step_laws.specs.StepCases.{attempt_cases}
-use Rattle.step_laws.specs.StackKept.{SameLengths, lengths_same, step_lengths}
+use Rattle.step_laws.proofs.StackKept.{SameLengths, lengths_same, step_lengths}
 use Rattle.run_model.specs.Run.{run}
 use Rattle.bundle_model.specs.Bundle.{if_done}
 use Rattle.run_model.specs.RunLaws.{counted_counted, counted_none}

@@ -2,13 +2,13 @@
 use Rattle.std.specs.Prelude.{ℕ, Bool, List, [], ◌≡◌, length}
 use Rattle.std.proofs.Common.{sym, ap, subst, ◌∙◌}
 use Rattle.method_cache.specs.Words.{held_in, held_words, FixedHeld}
-use Rattle.method_cache.specs.WordLaws.{held_few, words_back}
-use Rattle.method_cache.specs.WordLaws as held
+use Rattle.method_cache.proofs.WordLaws.{held_few, words_back}
+use Rattle.method_cache.proofs.WordLaws as held
 use Rattle.products.specs.Words as product
 use Rattle.core_state.specs.State.{State, state, further, with_held}
 use Rattle.core_state.specs.declared.Core.{Core}
 use Rattle.core_state.specs.Core.{joined, transfer_words, load_words, Canonical}
-use Rattle.core_state.specs.WordLaws.{transfer_back, load_back, words_fixed, load_fixed, determined}
+use Rattle.core_state.proofs.WordLaws.{transfer_back, load_back, words_fixed, load_fixed, determined}
 use Rattle.bundle_model.specs.Bundle.{Stepped}
 use Rattle.state.specs.declared.State as struct
 use Rattle.state.specs.declared.Stepped as struct_step

@@ -1,9 +1,3 @@
 -- Open first: StepCases.antt, then WellLaws.antt and CountLaws.antt.
 pub mod LookupLaws
 pub mod StepCases
-pub mod KeptLaws
-pub mod WellFormedLaws
-pub mod WellLaws
-pub mod StackKept
-pub mod FrameLaws
-pub mod CountLaws

@@ -5,7 +5,7 @@ use Rattle.answers.specs.declared.Verdict.TheVariants as verdict
 use Rattle.answers.specs.Test.{test, verdict as verdict_of}
 use Rattle.answers.specs.TestLaws.{fine_applies, fine_both}
 use Rattle.method_cache.specs.MethodCache.{capacity_ok, bad_block, held_after, misses, words_fetched, held_ok}
-use Rattle.method_cache.specs.CacheLaws.{capacity_on, looked_ok, misses_few, fetched_few}
+use Rattle.method_cache.proofs.CacheLaws.{capacity_on, looked_ok, misses_few, fetched_few}
 use Rattle.settings.specs.Setup.{Setup}
 use Rattle.effects.specs.declared.Effect.{Effect}
 use Rattle.core_state.specs.State.{State}

@@ -9,7 +9,7 @@ use Rattle.effects.specs.contracts.Effect.{the_type}
 use Rattle.products.specs.declared.ProductWords.{ProductWords}
 use Rattle.core_state.specs.State.{State}
 use Rattle.core_state.specs.declared.LoadWords.{LoadWords}
-use Rattle.core_state.specs.WordLaws.{load_back}
+use Rattle.core_state.proofs.WordLaws.{load_back}
 use Rattle.bundle_writes.specs.Words.{load_after, products_after}
 use Rattle.bundle_model.specs.Execute.{write_done}
 use Rattle.bundle_writes.proofs.write_one.Goals as goal

@@ -8,8 +8,8 @@ use Rattle.core_state.specs.Core.{joined}
 use Rattle.bundle_model.specs.declared.Counts.{Counts}
 use Rattle.bundle_model.specs.declared.Readiness.{Readiness}
 use Rattle.bundle_model.specs.Bundle.{outcome, readiness, ready_or}
-use Rattle.bundle_model.specs.BundleLaws.{ready_admits}
-use Rattle.bundle_model.specs.HandedLaws.{counts_as}
+use Rattle.bundle_model.proofs.BundleLaws.{ready_admits}
+use Rattle.bundle_model.proofs.HandedLaws.{counts_as}
 use Rattle.run_model.specs.Loop.{goes_on}
 use borrow.Author.Rules.{rules}
 use Rattle.bundle.proofs.advance.advance.Goals as goal

@@ -13,7 +13,7 @@ use Rattle.core_state.specs.Core.{joined, Canonical}
 use Rattle.bundle_model.specs.declared.Counts.{Counts}
 use Rattle.bundle_model.specs.Counts.{no_counts, counts_in, plus_none, Few, few_none, few_more}
 use Rattle.bundle_model.specs.Bundle.{returned, outcome, counted}
-use Rattle.step_laws.specs.StackKept.{lent_same}
+use Rattle.step_laws.proofs.StackKept.{lent_same}
 use Rattle.run_model.specs.RunLaws.{counted_none}
 use Rattle.run_model.specs.Loop.{goes_on}
 use Rattle.run_model.specs.LoopLaws.{goes_none, goes_ended, turn_stops, turn_goes_on, turn_few}

@@ -3,8 +3,8 @@ use mathlib.Core.List.{[]}
 use Rattle.settings.specs.Setup.{setup_of}
 use Rattle.core_state.specs.Core.{joined, Canonical}
 use Rattle.bundle_model.specs.declared.Bundled.{Bundled}
-use Rattle.bundle_model.specs.HandedLaws.{handed_refused, handed_done}
-use Rattle.step_laws.specs.CountLaws.{one_more_fits}
+use Rattle.bundle_model.proofs.HandedLaws.{handed_refused, handed_done}
+use Rattle.step_laws.proofs.CountLaws.{one_more_fits}
 use Rattle.bundle_writes.specs.Words.{written_canonical}
 use borrow.Author.Rules.{rules}
 use Rattle.bundle.proofs.execute.execute.Goals as goal

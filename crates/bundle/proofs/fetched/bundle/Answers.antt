@@ -7,8 +7,8 @@ use Rattle.core_state.specs.Core.{Canonical}
 use Rattle.bundle_model.specs.declared.Bundled.{Bundled}
 use Rattle.bundle_model.specs.Counts.{counts_in}
 use Rattle.bundle_model.specs.Bundle.{counted}
-use Rattle.bundle_model.specs.ExecuteLaws.{executed_replay}
-use Rattle.bundle_model.specs.HandedLaws.{handed_unread, handed_read}
+use Rattle.bundle_model.proofs.ExecuteLaws.{executed_replay}
+use Rattle.bundle_model.proofs.HandedLaws.{handed_unread, handed_read}
 use borrow.Author.Rules.{rules}
 use Rattle.bundle.proofs.fetched.bundle.Goals as goal
 

@@ -18,7 +18,7 @@ use Rattle.bundle_model.specs.Lookup.{lookup_tests}
 use Rattle.bundle_model.specs.Refusal.{slot_tests}
 use Rattle.bundle_model.specs.Bundle.{buffers_after}
 use Rattle.bundle_model.specs.Execute.{plainly, carried_as, carried_out, Tallied}
-use Rattle.bundle_model.specs.ExecuteLaws.{load_carried, store_carried}
+use Rattle.bundle_model.proofs.ExecuteLaws.{load_carried, store_carried}
 use Rattle.bundle_model.specs.TallyLaws.{tallied_as, tallied_none}
 use Rattle.bundle.proofs.slot_one.carry_out.Goals as goal
 

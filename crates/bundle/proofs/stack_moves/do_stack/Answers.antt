@@ -11,7 +11,7 @@ use Rattle.stack_control.specs.PlanLaws.{planned_told}
 use Rattle.effects.specs.declared.Effect.TheVariants as effect
 use Rattle.bundle_model.specs.Counts.{plus, plus_none, counts_in}
 use Rattle.bundle_model.specs.Execute.{carried_out}
-use Rattle.bundle_model.specs.ExecuteLaws.{slot_plain, stack_tests_lem, one_way, stack_carried, stack_counted}
+use Rattle.bundle_model.proofs.ExecuteLaws.{slot_plain, stack_tests_lem, one_way, stack_carried, stack_counted}
 use Rattle.bundle.proofs.stack_moves.do_stack.Goals as goal
 
 pub returns-then-not-aligned : goal.returns-then-not-aligned

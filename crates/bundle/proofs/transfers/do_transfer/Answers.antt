@@ -9,7 +9,7 @@ use Rattle.core_state.specs.Core.{waiting_transfer, joined}
 use Rattle.bundle_model.specs.Counts.{few_words, counts_in}
 use Rattle.bundle_writes.specs.Lookup.{judged_done}
 use Rattle.bundle_model.specs.TallyLaws.{tallied_refused}
-use Rattle.bundle_model.specs.ExecuteLaws.{extra_few}
+use Rattle.bundle_model.proofs.ExecuteLaws.{extra_few}
 use native.Mathlib.Omega.{arith}
 use borrow.Author.Rules.{rules}
 use Rattle.method_cache.specs.Words.{held_in}

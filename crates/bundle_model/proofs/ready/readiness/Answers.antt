@@ -2,7 +2,7 @@ use mathlib.Core.Path.{refl}
 use Rattle.method_cache.specs.Words.{held_in}
 use Rattle.settings.specs.Setup.{replaying, setup_of}
 use Rattle.core_state.specs.Core.{joined}
-use Rattle.bundle_model.specs.BundleLaws.{ready_as}
+use Rattle.bundle_model.proofs.BundleLaws.{ready_as}
 use Rattle.bundle_model.proofs.ready.readiness.Goals as goal
 
 pub returns-then-not-admits : goal.returns-then-not-admits

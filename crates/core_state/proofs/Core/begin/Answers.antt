@@ -1,6 +1,6 @@
 use mathlib.Core.Path.{◌∙◌}
 use Rattle.core_state.specs.Core.{begun_words}
-use Rattle.core_state.specs.WordLaws.{transfer_back}
+use Rattle.core_state.proofs.WordLaws.{transfer_back}
 use Rattle.core_state.proofs.Core.begin.Goals as goal
 
 pub returns-then-delayed : goal.returns-then-delayed

@@ -1,7 +1,7 @@
 use mathlib.Core.Path.{◌∙◌}
 use Rattle.core_state.specs.declared.WaitingTransfer.TheVariants as transfer
 use Rattle.core_state.specs.State.{entered}
-use Rattle.core_state.specs.WordLaws.{transfer_back}
+use Rattle.core_state.proofs.WordLaws.{transfer_back}
 use borrow.Author.Rules.{rules}
 use Rattle.core_state.proofs.Core.enter.Goals as goal
 

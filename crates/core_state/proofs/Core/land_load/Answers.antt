@@ -3,7 +3,7 @@ use Rattle.core_state.specs.State.{State, landed, with_register, with_load}
 use Rattle.core_state.specs.declared.WaitingLoad.TheVariants as load
 use Rattle.core_state.specs.Core.{waiting_load}
 use Rattle.core_state.specs.CoreLaws.{no_load, some_load}
-use Rattle.core_state.specs.WordLaws.{load_back}
+use Rattle.core_state.proofs.WordLaws.{load_back}
 use Rattle.core_state.proofs.Core.land_load.Goals as goal
 
 pub returns-then-load-eq0 : goal.returns-then-load-eq0

@@ -2,7 +2,7 @@ use borrow.Author.Tests.{eq-eqb, ne_eqb, le-leb, lt-leb}
 use mathlib.Core.Path.{◌∙◌}
 use Rattle.core_state.specs.Core.{nearer_words}
 use Rattle.core_state.specs.CoreLaws.{no_transfer, some_transfer}
-use Rattle.core_state.specs.WordLaws.{one_nearer}
+use Rattle.core_state.proofs.WordLaws.{one_nearer}
 use borrow.Author.Rules.{rules}
 use Rattle.core_state.proofs.Core.nearer.Goals as goal
 

@@ -1,7 +1,7 @@
 use mathlib.Core.Path.{◌∙◌}
 use Rattle.core_state.specs.declared.WaitingTransfer.TheVariants as transfer
 use Rattle.core_state.specs.State.{transferred}
-use Rattle.core_state.specs.WordLaws.{transfer_back}
+use Rattle.core_state.proofs.WordLaws.{transfer_back}
 use Rattle.core_state.proofs.Core.transfer.Goals as goal
 
 pub returns-in-Br : goal.returns-in-Br

@@ -7,7 +7,7 @@ use borrow.Author.Rules.{rules}
 use Rattle.method_cache.specs.MethodCache.{size_at, bytes_held, room_for}
 use Rattle.method_cache.specs.Words.{held_in}
 use Rattle.method_cache.specs.LoopLaws.{bytes_step, room_step, room_judged, past_end}
-use Rattle.method_cache.specs.WordLaws.{held_few}
+use Rattle.method_cache.proofs.WordLaws.{held_few}
 use Rattle.method_cache.proofs.lookup.evicted.Goals as goal
 
 pub loop-k-init : goal.loop-k-init

@@ -1,4 +1,4 @@
-use Rattle.method_cache.specs.WordLaws.{held_at, held_few}
+use Rattle.method_cache.proofs.WordLaws.{held_at, held_few}
 use mathlib.Core.Path.{sym, ap, ◌∙◌}
 use native.Mathlib.Omega.{arith}
 use native.Mathlib.Numerals.{add-one}

@@ -5,7 +5,7 @@ use Prim.Native.Nat.{◌+◌, ◌-◌}
 use lib.ListN.{length}
 use borrow.Author.Rules.{rules}
 use Rattle.method_cache.specs.Words.{held_in}
-use Rattle.method_cache.specs.WordLaws.{held_few, Settling, settling_none, settling_more, settling_all}
+use Rattle.method_cache.proofs.WordLaws.{held_few, Settling, settling_none, settling_more, settling_all}
 use Rattle.method_cache.proofs.words.settle.Goals as goal
 
 pub overflow_sub-stay : goal.overflow_sub-stay

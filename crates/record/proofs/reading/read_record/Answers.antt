@@ -1,6 +1,6 @@
 use mathlib.Core.Bool.{true, false}
 use Rattle.record.specs.Read.{reading_of, reading}
-use Rattle.record_model.specs.RecordLaws.{form_of}
+use Rattle.record_model.proofs.RecordLaws.{form_of}
 use Rattle.record_model.specs.Record.{box, box_in, counts_of_words}
 use borrow.Author.Tests.{not-true, not-false}
 use Rattle.record.specs.CopyLaws.{over_all}

@@ -1,7 +1,7 @@
 use Rattle.record_model.specs.Record.{box_in, specials_in, transfer_in, load_in, products_in, replay_in}
 use Rattle.state.specs.Whole.{state_of}
 use Rattle.core_state.specs.State.{state, further, predicates_of}
-use Rattle.method_cache.specs.WordLaws.{words_back, words_fixed}
+use Rattle.method_cache.proofs.WordLaws.{words_back, words_fixed}
 use Rattle.method_cache.specs.Words.{held_in, held_words, FixedHeld}
 use lib.ListN.{get_or}
 use Rattle.sections.specs.Sections.{section_at}

@@ -1,7 +1,7 @@
 use Rattle.record.specs.RoomLaws.{size_none, size_some, size_longest, size_small, no_cache, no_room}
 use Rattle.record.specs.PutLaws.{put_whole}
 use Rattle.record_model.specs.Record.{box}
-use Rattle.method_cache.specs.WordLaws.{held_few}
+use Rattle.method_cache.proofs.WordLaws.{held_few}
 use Rattle.state.specs.Whole.{state_of}
 use lib.ListN.{length}
 use native.Mathlib.Omega.{arith}

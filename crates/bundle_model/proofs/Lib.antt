@@ -1,0 +1,4 @@
+pub mod BundleLaws
+pub mod HeldLaws
+pub mod ExecuteLaws
+pub mod HandedLaws

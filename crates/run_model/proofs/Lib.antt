@@ -1,0 +1,2 @@
+pub mod TriesLaws
+pub mod FigureLaws
