@@ -1,2 +1,2 @@
-// The record of a stopped box: its definition and its laws, in specs/.
+// The record of a stopped box: its definition, in specs/, and its laws, in proofs/.
 #![tactic(auto)]
