@@ -39,6 +39,7 @@ fn slot_one(w: u32) -> Reading
     first_formats::read_first(w)
 }
 
+#[tactic(auto, unfolding(crate::specs::Decode::slot_two))]
 fn slot_two(w: u32) -> AluReading
     ensures { alu_found result ≡ slot_two w }
 {

@@ -63,7 +63,7 @@ module _ (x : Setup) (k : ℕ) (s : State) (b : Buffers) (admitted : admits (len
 
   module _ (e : has_ended s (length x.code) ≡ false) where
     going : Going x s b
-    going = record { admitted = admitted; well_formed_lem = well; replay = replayed; not_ended = e }
+    going = record { admitted = admitted; well_formed = well; replay = replayed; not_ended = e }
 
     abbrev o : Outcome
     o = attempt (lent x b) x s b

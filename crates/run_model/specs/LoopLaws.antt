@@ -120,7 +120,7 @@ module _ (x : Setup) where
           → after (step x s b) (run x k (step x s b).state (step x s b).buffers) ≡ ending x (cond t (outcome ended s no_counts b) (after o (goes_on x k o.state o.buffers)))
       go true e next = ap (λ (y : Outcome). after y (run x k y.state y.buffers)) (step_ended x s b a w v e)
       go false e next =
-          ap (λ (y : Outcome). after y (run x k y.state y.buffers)) (step_attempt x s b (record { admitted = a; well_formed_lem = w; replay = v; not_ended = e }))
+          ap (λ (y : Outcome). after y (run x k y.state y.buffers)) (step_attempt x s b (record { admitted = a; well_formed = w; replay = v; not_ended = e }))
           ∙ by_answer o.answer refl next
 
 -- What a run gives where no bundle is to be tried.

@@ -28,7 +28,7 @@ module _ (x : Setup) (s : State) (b : Buffers) where
       go true true false z p q v r = same (refused 15) refl
       go true true true true p q v r = same ended refl
       go true true true false p q v r =
-          attempt_cases (lent x b) x s b P (λ n j. same (refused n) refl) (fine (record { admitted = p; well_formed_lem = q; replay = v; not_ended = r }))
+          attempt_cases (lent x b) x s b P (λ n j. same (refused n) refl) (fine (record { admitted = p; well_formed = q; replay = v; not_ended = r }))
 
   -- A step that answers anything but Done changes nothing.
   pub step_unchanged : (a : Returned) → is_done a ≡ false → (step x s b).answer ≡ a → step x s b ≡ outcome a s no_counts b
@@ -36,7 +36,7 @@ module _ (x : Setup) (s : State) (b : Buffers) where
 
   -- A step that answers Done went past 1, 11, 15 and ended.
   pub step_going : (step x s b).answer ≡ done → Going x s b
-  step_going = step_cases (λ o. o.answer ≡ done → Going x s b) (λ c q e. record { admitted = cc; well_formed_lem = cc; replay = cc; not_ended = cc }) (λ q j e. q)
+  step_going = step_cases (λ o. o.answer ≡ done → Going x s b) (λ c q e. record { admitted = cc; well_formed = cc; replay = cc; not_ended = cc }) (λ q j e. q)
 
   -- Its bundle was judged fine.
   pub step_fine : (step x s b).answer ≡ done → Passes (lent x b) x s

@@ -111,7 +111,7 @@ is_done (refused n) = false
 -- and a state that has not ended.
 pub record Going (x : Setup) (s : State) (b : Buffers) : Type 0 where
   pub admitted : admits (lent x b) ≡ true
-  pub well_formed_lem : well_formed x s ≡ true
+  pub well_formed : well_formed x s ≡ true
   pub replay : replay_ok x.list x.table ≡ true
   pub not_ended : has_ended s (length x.code) ≡ false
 
@@ -140,4 +140,4 @@ module _ (x : Setup) (s : State) (b : Buffers) where
   -- Any other step is its bundle as it is tried.
   pub step_attempt : Going x s b → step x s b ≡ attempt (lent x b) x s b
   unfolding step readiness
-  step_attempt p = rw (p.admitted, p.well_formed_lem, p.replay, p.not_ended)
+  step_attempt p = rw (p.admitted, p.well_formed, p.replay, p.not_ended)

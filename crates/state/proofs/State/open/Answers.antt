@@ -1,4 +1,5 @@
 use mathlib.Core.Path.{◌≡◌, sym, ap, ◌∙◌}
+use mathlib.Core.Bool.{true, false}
 use native.Mathlib.Omega.{arith}
 use borrow.Author.Tests.{not-true, not-false}
 use Rattle.settings.specs.Settings.{admits}
@@ -16,8 +17,8 @@ returns-then-not-admitted c =
     let a = c.args in
     let x = setup a.code.now a.config in
     let l = buffers a.main.now a.local.now a.cache.now in
-    let judged : admits (lent x l) ≡ c.admits-admitted.result = ap admits (sym c.settings-g.ensures) ∙ sym c.admits-admitted.ensures in
-    let none = settings_refused x l a.entry (judged ∙ c.if-not-admitted.true) in
+    let no : admits (lent x l) ≡ false = cc in
+    let none = settings_refused x l a.entry no in
     record { opened = ap (λ (s : State). open_of (refused 1) s a.cache.now) c.blank.ensures.0 ∙ sym none; fixed = c.blank.ensures.1 }
 
 pub returns-then-not-inside : goal.returns-then-not-inside
@@ -25,8 +26,8 @@ returns-then-not-inside c =
     let a = c.args in
     let x = setup a.code.now a.config in
     let l = buffers a.main.now a.local.now a.cache.now in
-    let judged : admits (lent x l) ≡ c.admits-admitted.result = ap admits (sym c.settings-g.ensures) ∙ sym c.admits-admitted.ensures in
-    let none = entry_refused x l a.entry (judged ∙ c.if-not-admitted.false) (c.if-not-inside.true) in
+    let yes : admits (lent x l) ≡ true = cc in
+    let none = entry_refused x l a.entry yes (c.if-not-inside.true) in
     record { opened = ap (λ (s : State). open_of (refused 2) s a.cache.now) c.blank-then-not-inside.ensures.0 ∙ sym none; fixed = c.blank-then-not-inside.ensures.1 }
 
 pub overflow_cast-code : goal.overflow_cast-code
@@ -34,14 +35,14 @@ overflow_cast-code c =
     let a = c.args in
     let x = setup a.code.now a.config in
     let l = buffers a.main.now a.local.now a.cache.now in
-    let judged : admits (lent x l) ≡ c.admits-admitted.result = ap admits (sym c.settings-g.ensures) ∙ sym c.admits-admitted.ensures in
-    omega (arith, code_small (lent x l) (judged ∙ c.if-not-admitted.false))
+    let yes : admits (lent x l) ≡ true = cc in
+    omega (arith, code_small (lent x l) yes)
 
 pub returns : goal.returns
 returns c =
     let a = c.args in
     let x = setup a.code.now a.config in
     let l = buffers a.main.now a.local.now a.cache.now in
-    let judged : admits (lent x l) ≡ c.admits-admitted.result = ap admits (sym c.settings-g.ensures) ∙ sym c.admits-admitted.ensures in
-    let built = nothing_refused x l a.entry (judged ∙ c.if-not-admitted.false) (c.if-not-inside.false) in
+    let yes : admits (lent x l) ≡ true = cc in
+    let built = nothing_refused x l a.entry yes (c.if-not-inside.false) in
     record { opened = (λ i. open_of accepted (c.fresh.ensures.0 i) (c.clear.ensures i)) ∙ sym built; fixed = c.fresh.ensures.1 }
