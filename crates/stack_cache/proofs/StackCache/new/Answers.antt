@@ -3,7 +3,6 @@ use mathlib.Core.Path.{◌≡◌, sym}
 use borrow.Author.Tests.{eq-eqb, ne_eqb, le-leb, lt-leb}
 use Rattle.stack_cache.specs.Stack.{least, greatest, is_cache_size, make_cache}
 use Rattle.stack_cache.specs.declared.Made.TheVariants as made
-use borrow.Author.Rules.{rules}
 use Rattle.stack_cache.proofs.StackCache.new.Goals as goal
 
 pub returns-then-words-least : goal.returns-then-words-least
