@@ -17,11 +17,7 @@ use settings::Config;
 fn clear(cache: &mut [u32])
     ensures { cache.new ≡ replicate (length cache.old) 0 }
 {
-    let mut i = 0;
-    while i < cache.len() {
-        cache[i] = 0;
-        i += 1;
-    }
+    cache.fill(0);
 }
 
 impl State {
