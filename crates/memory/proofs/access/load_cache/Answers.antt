@@ -11,7 +11,7 @@ returns-in-Half c = rw (c.in-Half.is, ← c.load_half.ensures, ← c.sign_extend
 
 pub returns-in-Byte : goal.returns-in-Byte
 unfolding load_scale extended
-returns-in-Byte c = rw (c.in-Byte.is, ← c.load_byte.ensures, ← c.sign_extend.ensures)
+returns-in-Byte c = rw (c.in-Byte.is, ← c.load_byte.ensures, ← c.sign_extend-in-Byte.ensures)
 
 pub returns-in-HalfUnsigned : goal.returns-in-HalfUnsigned
 unfolding load_scale extended
