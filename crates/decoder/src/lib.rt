@@ -2,11 +2,9 @@
 // contracts of `decode` and `bundle_words`.
 #![tactic(auto)]
 
-ghost use Rattle.std.specs.Prelude.{◌≡◌, cond};
-ghost use Rattle.std.proofs.Math.Option.{none};
+ghost use Rattle.std.specs.Prelude.{◌≡◌, cond, None};
 ghost use Rattle.isa.specs.Format.{reading};
 ghost use Rattle.isa.specs.Formats.{long_formats, applied};
-ghost use Rattle.alu_formats.specs.Readings.{alu_found};
 ghost use Rattle.first_formats.specs.Readings.{found};
 ghost use Rattle.decoder.specs.Decode.{is_two_words, bundle_words, guard_of, slot_one, slot_two, decode};
 
@@ -51,7 +49,7 @@ fn slot_two(w: u32) -> AluReading
 
 // A long immediate, which needs a bundle of two words.
 fn long(first: u32, second: u32) -> AluReading
-    ensures { alu_found result ≡ cond (is_two_words first) (applied (reading long_formats first) second) none }
+    ensures { alu_found result ≡ cond (is_two_words first) (applied (reading long_formats first) second) None }
 {
     if bundle_words(first) == 1 {
         return AluReading::Nothing;

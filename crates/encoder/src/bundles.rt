@@ -1,6 +1,5 @@
 // Bundles asked for by one instruction or by any two, written.
-ghost use Rattle.std.specs.Prelude.{◌≡◌};
-ghost use Rattle.std.proofs.Math.Option.{some};
+ghost use Rattle.std.specs.Prelude.{◌≡◌, Some};
 ghost use Rattle.encoder.specs.Encode.{either_slot, constant_in, constant_of, single, pair, written};
 ghost use Rattle.fields.specs.Readings.{found};
 ghost use Rattle.encoder.specs.Readings.{found_alu};
@@ -40,7 +39,7 @@ fn constant_in(op2: Op2) -> Word
 
 // The constant of a long immediate.
 pub(crate) fn constant_of(a: AluOperation) -> Word
-    ensures { found result ≡ constant_of (some a) }
+    ensures { found result ≡ constant_of (Some a) }
 {
     match a {
         AluOperation::Arithmetic { op2, .. } => constant_in(op2),

@@ -1,6 +1,5 @@
 -- The codes of `Fields` and the tables of isa undo each other, and so do the numbers of predicates, of bits and of two's complement.
-use Rattle.std.specs.Prelude.{ℕ, zero, suc, ◌+◌, ◌-◌, ◌/◌, ◌%◌, ◌^◌, ◌<◌, Bool, true, false, cond, List, [], ◌∷◌, ◌≡◌, refl, eqb, ltb, ℤ, pos, negsuc}
-use Rattle.std.proofs.Math.Option.{Option, some}
+use Rattle.std.specs.Prelude.{ℕ, zero, suc, ◌+◌, ◌-◌, ◌/◌, ◌%◌, ◌^◌, ◌<◌, Bool, true, false, cond, List, [], ◌∷◌, ◌≡◌, refl, eqb, ltb, ℤ, pos, negsuc, Option, Some}
 use Rattle.std.proofs.Common.{sym, ap, ◌∙◌, subst, sub-one, arith, ltb-true, ltb-false, lt-ltb, le-ltb, eqb-true}
 use Rattle.std.proofs.Math.Nat.{two-pow-succ}
 use Rattle.std.proofs.lemmas.Bool.{eqb-false}
@@ -32,7 +31,7 @@ row_back Q (r ∷ rs) n make s = go (eqb n r.code) refl (row_back Q rs n make s.
 -- A table and the codes of its values undo each other: the code of each row's value is the row's code, and each value has a row.
 pub record Inverse {A : Type 0} (t : List (Row A)) (code : A → ℕ) : Type 0 where
   pub codes : Each (λ r. code r.value ≡ r.code) t
-  pub has : (a : A) → row t (code a) some ≡ some a
+  pub has : (a : A) → row t (code a) Some ≡ Some a
 
 pub row_coded : {A B : Type 0} {t : List (Row A)} {code : A → ℕ} → Inverse t code → (Q : ℕ → B → Type 0) (n : ℕ) (make : A → Option B)
     → ((a : A) → IfSome (Q (code a)) (make a)) → IfSome (Q n) (row t n make)
@@ -49,32 +48,32 @@ row_of {A} {t = t} {code = code} v a make = row_then t (code a) make ∙ ap (λ 
 pub alu_inverse : Inverse alu_table alu_code
 alu_inverse = record {
   codes = refl also refl also refl also refl also refl also refl also refl also refl also refl also refl also refl also tt;
-  has = λ x. alu_row_lem x some;
+  has = λ x. alu_row_lem x Some;
 }
 
 pub multiply_inverse : Inverse multiply_table multiply_code
-multiply_inverse = record { codes = refl also refl also tt; has = λ x. multiply_row_lem x some }
+multiply_inverse = record { codes = refl also refl also tt; has = λ x. multiply_row_lem x Some }
 
 pub compare_inverse : Inverse compare_table compare_code
-compare_inverse = record { codes = refl also refl also refl also refl also refl also refl also refl also tt; has = λ x. compare_row_lem x some }
+compare_inverse = record { codes = refl also refl also refl also refl also refl also refl also refl also tt; has = λ x. compare_row_lem x Some }
 
 pub predicate_inverse : Inverse predicate_table predicate_code
-predicate_inverse = record { codes = refl also refl also refl also tt; has = λ x. predicate_row_lem x some }
+predicate_inverse = record { codes = refl also refl also refl also tt; has = λ x. predicate_row_lem x Some }
 
 pub special_inverse : Inverse special_table special_code
 special_inverse = record {
   codes = refl also refl also refl also refl also refl also refl also refl also refl also refl also tt;
-  has = λ x. special_row_lem x some;
+  has = λ x. special_row_lem x Some;
 }
 
 pub kind_inverse : Inverse kind_table kind_code
-kind_inverse = record { codes = refl also refl also refl also refl also tt; has = λ x. kind_row x some }
+kind_inverse = record { codes = refl also refl also refl also refl also tt; has = λ x. kind_row x Some }
 
 pub load_inverse : Inverse load_table load_code
-load_inverse = record { codes = refl also refl also refl also refl also refl also tt; has = λ x. load_row x some }
+load_inverse = record { codes = refl also refl also refl also refl also refl also tt; has = λ x. load_row x Some }
 
 pub store_inverse : Inverse store_table store_code
-store_inverse = record { codes = refl also refl also refl also tt; has = λ x. store_row x some }
+store_inverse = record { codes = refl also refl also refl also tt; has = λ x. store_row x Some }
 
 -- One bit.
 pub bit_back : (n : ℕ) → n < 2 → bit (is_set n) ≡ n

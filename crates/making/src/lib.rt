@@ -1,8 +1,7 @@
 // The operation that a mnemonic and its operands make, by the places of `forms` (assembly).
 #![tactic(auto)]
 
-ghost use Rattle.std.specs.Prelude.{◌≡◌, ◌/◌, ◌%◌};
-ghost use Rattle.std.proofs.Math.Option.{some};
+ghost use Rattle.std.specs.Prelude.{◌≡◌, ◌/◌, ◌%◌, Some};
 ghost use Rattle.isa.specs.Format.{row};
 ghost use Rattle.isa.specs.Tables.{alu_table, multiply_table, compare_table, predicate_table, special_table, kind_table, load_table, store_table};
 ghost use Rattle.assembly.specs.Forms.{predicate as predicateOf, made};
@@ -32,7 +31,7 @@ pub fn predicate_of(o: Operand) -> PredicateOperand
 }
 
 fn arithmetic(func: u32, rd: u32, rs1: u32, op2: Op2) -> Made
-    ensures { made_of result ≡ row alu_table func (λ f. some (Operation.Alu (AluOperation.Arithmetic f rd rs1 op2))) }
+    ensures { made_of result ≡ row alu_table func (λ f. Some (Operation.Alu (AluOperation.Arithmetic f rd rs1 op2))) }
 {
     let AluRow::Row(function) = isa::tables::alu_function(func) else {
         return Made::Nothing;
@@ -46,7 +45,7 @@ fn arithmetic(func: u32, rd: u32, rs1: u32, op2: Op2) -> Made
 }
 
 fn multiply(func: u32, rs1: u32, rs2: u32) -> Made
-    ensures { made_of result ≡ row multiply_table func (λ f. some (Operation.Multiply f rs1 rs2)) }
+    ensures { made_of result ≡ row multiply_table func (λ f. Some (Operation.Multiply f rs1 rs2)) }
 {
     let MultiplyRow::Row(function) = isa::tables::multiply_function(func) else {
         return Made::Nothing;
@@ -55,7 +54,7 @@ fn multiply(func: u32, rs1: u32, rs2: u32) -> Made
 }
 
 fn compare(func: u32, pd: u32, rs1: u32, op2: Op2) -> Made
-    ensures { made_of result ≡ row compare_table func (λ f. some (Operation.Alu (AluOperation.Compare f pd rs1 op2))) }
+    ensures { made_of result ≡ row compare_table func (λ f. Some (Operation.Alu (AluOperation.Compare f pd rs1 op2))) }
 {
     let CompareRow::Row(function) = isa::tables::compare_function(func) else {
         return Made::Nothing;
@@ -69,7 +68,7 @@ fn compare(func: u32, pd: u32, rs1: u32, op2: Op2) -> Made
 }
 
 fn predicate(func: u32, pd: u32, ps1: PredicateOperand, ps2: PredicateOperand) -> Made
-    ensures { made_of result ≡ row predicate_table func (λ f. some (Operation.Alu (AluOperation.Predicate f pd ps1 ps2))) }
+    ensures { made_of result ≡ row predicate_table func (λ f. Some (Operation.Alu (AluOperation.Predicate f pd ps1 ps2))) }
 {
     let PredicateRow::Row(function) = isa::tables::predicate_function(func) else {
         return Made::Nothing;
@@ -83,7 +82,7 @@ fn predicate(func: u32, pd: u32, ps1: PredicateOperand, ps2: PredicateOperand) -
 }
 
 fn to_special(number: u32, rs1: u32) -> Made
-    ensures { made_of result ≡ row special_table number (λ s. some (Operation.Mts s rs1)) }
+    ensures { made_of result ≡ row special_table number (λ s. Some (Operation.Mts s rs1)) }
 {
     let SpecialRow::Row(special) = isa::tables::special(number) else {
         return Made::Nothing;
@@ -92,7 +91,7 @@ fn to_special(number: u32, rs1: u32) -> Made
 }
 
 fn from_special(rd: u32, number: u32) -> Made
-    ensures { made_of result ≡ row special_table number (λ s. some (Operation.Mfs rd s)) }
+    ensures { made_of result ≡ row special_table number (λ s. Some (Operation.Mfs rd s)) }
 {
     let SpecialRow::Row(special) = isa::tables::special(number) else {
         return Made::Nothing;
@@ -102,7 +101,7 @@ fn from_special(rd: u32, number: u32) -> Made
 
 // The memory is in the low two bits of a type.
 fn access_kind(func: u32) -> AccessKind
-    ensures { row kind_table (func % 4) some ≡ some result }
+    ensures { row kind_table (func % 4) Some ≡ Some result }
 {
     match func % 4 {
         0 => AccessKind::Stack,
@@ -113,7 +112,7 @@ fn access_kind(func: u32) -> AccessKind
 }
 
 fn load(func: u32, rd: u32, ra: u32, offset: u32) -> Made
-    ensures { made_of result ≡ row load_table (func / 4) (λ w. row kind_table (func % 4) (λ k. some (Operation.Load k w rd ra offset))) }
+    ensures { made_of result ≡ row load_table (func / 4) (λ w. row kind_table (func % 4) (λ k. Some (Operation.Load k w rd ra offset))) }
 {
     let kind = access_kind(func);
     let LoadWidthRow::Row(width) = isa::tables::load_width(func / 4) else {
@@ -129,7 +128,7 @@ fn load(func: u32, rd: u32, ra: u32, offset: u32) -> Made
 }
 
 fn store(func: u32, ra: u32, offset: u32, rs: u32) -> Made
-    ensures { made_of result ≡ row store_table (func / 4) (λ w. row kind_table (func % 4) (λ k. some (Operation.Store k w ra rs offset))) }
+    ensures { made_of result ≡ row store_table (func / 4) (λ w. row kind_table (func % 4) (λ k. Some (Operation.Store k w ra rs offset))) }
 {
     let kind = access_kind(func);
     let StoreWidthRow::Row(width) = isa::tables::store_width(func / 4) else {
@@ -145,13 +144,13 @@ fn store(func: u32, ra: u32, offset: u32, rs: u32) -> Made
 }
 
 fn stack(operation: StackOperation) -> Made
-    ensures { made_of result ≡ some (Operation.StackControl operation) }
+    ensures { made_of result ≡ Some (Operation.StackControl operation) }
 {
     Made::Found(Operation::StackControl(operation))
 }
 
 fn transfer(delayed: bool, target: Target) -> Made
-    ensures { made_of result ≡ some (Operation.Transfer delayed target) }
+    ensures { made_of result ≡ Some (Operation.Transfer delayed target) }
 {
     Made::Found(Operation::Transfer { delayed, target })
 }
