@@ -2,8 +2,8 @@
 ghost use Rattle.std.specs.Prelude.{◌≡◌, Some};
 ghost use Rattle.encoder.specs.Encode.{either_slot, constant_in, constant_of, single, pair, written};
 
-use crate::words::{write_long, write_one, write_two};
 use crate::Written;
+use crate::words::{write_long, write_one, write_two};
 use isa::{AluInstruction, AluOperation, Instruction, Op2, Operation};
 
 // The operation as one that either slot may hold.
@@ -12,15 +12,7 @@ pub(crate) fn either_slot(o: Operation) -> Option<AluOperation>
 {
     match o {
         Operation::Alu(a) => Some(a),
-        Operation::Multiply { .. } => None,
-        Operation::Mts { .. } => None,
-        Operation::Mfs { .. } => None,
-        Operation::Load { .. } => None,
-        Operation::Store { .. } => None,
-        Operation::StackControl(_) => None,
-        Operation::Transfer { .. } => None,
-        Operation::Trap(_) => None,
-        Operation::Xret { .. } => None,
+        _ => None,
     }
 }
 
@@ -28,9 +20,8 @@ fn constant_in(op2: Op2) -> Option<u32>
     ensures { result ≡ constant_in op2 }
 {
     match op2 {
-        Op2::Register(_) => None,
-        Op2::Immediate(_) => None,
         Op2::Long(n) => Some(n),
+        _ => None,
     }
 }
 
@@ -40,9 +31,7 @@ pub(crate) fn constant_of(a: AluOperation) -> Option<u32>
 {
     match a {
         AluOperation::Arithmetic { op2, .. } => constant_in(op2),
-        AluOperation::Compare { .. } => None,
-        AluOperation::Predicate { .. } => None,
-        AluOperation::BitCopy { .. } => None,
+        _ => None,
     }
 }
 
@@ -51,13 +40,13 @@ pub fn write_single(i: Instruction) -> Written
     ensures { result ≡ written (single i) }
 {
     let operation = i.operation;
-    match either_slot(operation) {
-        None => write_one(i),
-        Some(a) => match constant_of(a) {
-            None => write_one(i),
-            Some(_) => write_long(i),
-        },
+    let Some(a) = either_slot(operation) else {
+        return write_one(i);
+    };
+    if constant_of(a).is_none() {
+        return write_one(i);
     }
+    write_long(i)
 }
 
 // The words of a bundle of two instructions. What slot two cannot hold is refused here, and not left to whoever asks.
@@ -66,14 +55,8 @@ pub fn write_pair(i: Instruction, j: Instruction) -> Written
 {
     let guard = j.guard;
     let operation = j.operation;
-    match either_slot(operation) {
-        None => Written::Refused(12),
-        Some(a) => write_two(
-            i,
-            AluInstruction {
-                guard,
-                operation: a,
-            },
-        ),
-    }
+    let Some(operation) = either_slot(operation) else {
+        return Written::Refused(12);
+    };
+    write_two(i, AluInstruction { guard, operation })
 }

@@ -1,5 +1,5 @@
 // The encoder: the words of a bundle, or its refusal. The decoder reads them as that bundle again (encoder_laws).
-#![tactic(auto)]
+#![tactic(auto, unfolding(fields::specs::Place::writing, crate::specs::Encode::guarded, crate::specs::Encode::slot_word, crate::specs::Encode::written, crate::specs::Encode::single, crate::specs::Encode::pair))]
 
 pub mod bundles;
 pub mod words;

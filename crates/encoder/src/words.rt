@@ -5,8 +5,8 @@ ghost use Rattle.fields.specs.Place.{writing};
 ghost use Rattle.fields.specs.Fields.{long_fields, alu_fields, amount_fields, first_fields};
 ghost use Rattle.encoder.specs.Encode.{guarded, slot_word, alone, beside, written};
 
-use crate::bundles::{constant_of, either_slot};
 use crate::Written;
+use crate::bundles::{constant_of, either_slot};
 use fields::codes::{
     alu_code, bit, compare_code, kind_code, load_code, multiply_code, predicate_code, special_code,
     store_code,
@@ -177,8 +177,8 @@ fn slot_word(two: u32, g: PredicateOperand, o: Operation) -> Option<u32>
 {
     let w = put(guarded(g), 2, 2147483648, two);
     match either_slot(o) {
-        None => first_word(w, o),
         Some(a) => alu_word(w, a),
+        None => first_word(w, o),
     }
 }
 
@@ -190,15 +190,9 @@ fn long_in_format(w: Option<u32>, a: AluOperation) -> Option<u32>
             function,
             rd,
             rs1,
-            op2,
-        } => match op2 {
-            Op2::Register(_) => None,
-            Op2::Immediate(_) => None,
-            Op2::Long(_) => format_words::alu_long(w, rd, rs1, alu_code(function)),
-        },
-        AluOperation::Compare { .. } => None,
-        AluOperation::Predicate { .. } => None,
-        AluOperation::BitCopy { .. } => None,
+            op2: Op2::Long(_),
+        } => format_words::alu_long(w, rd, rs1, alu_code(function)),
+        _ => None,
     }
 }
 
@@ -206,20 +200,17 @@ fn alone(w: Option<u32>) -> Written
     ensures { result ≡ alone w }
 {
     match w {
-        None => Written::Refused(12),
         Some(x) => Written::One(x),
+        None => Written::Refused(12),
     }
 }
 
 fn beside(w: Option<u32>, v: Option<u32>) -> Written
     ensures { result ≡ beside w v }
 {
-    match w {
-        None => Written::Refused(12),
-        Some(x) => match v {
-            None => Written::Refused(12),
-            Some(y) => Written::Two(x, y),
-        },
+    match (w, v) {
+        (Some(x), Some(y)) => Written::Two(x, y),
+        _ => Written::Refused(12),
     }
 }
 
@@ -250,10 +241,10 @@ pub(crate) fn write_long(i: Instruction) -> Written
 {
     let guard = i.guard;
     let operation = i.operation;
-    match either_slot(operation) {
-        None => Written::Refused(12),
-        Some(a) => beside(long_in_format(guarded(guard), a), constant_of(a)),
-    }
+    let Some(a) = either_slot(operation) else {
+        return Written::Refused(12);
+    };
+    beside(long_in_format(guarded(guard), a), constant_of(a))
 }
 
 // The words of a bundle: 12 for a number that does not fit its field, and for a bundle that the slots do not allow.
