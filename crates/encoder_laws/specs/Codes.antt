@@ -1,13 +1,13 @@
 -- The codes of `Fields` and the tables of isa undo each other, and so do the numbers of predicates, of bits and of two's complement.
 use Rattle.std.specs.Prelude.{ℕ, zero, suc, ◌+◌, ◌-◌, ◌/◌, ◌%◌, ◌^◌, ◌<◌, Bool, true, false, cond, List, [], ◌∷◌, ◌≡◌, refl, eqb, ltb, ℤ, pos, negsuc, Option, Some}
-use Rattle.std.proofs.Common.{sym, ap, ◌∙◌, subst, sub-one, arith, ltb-true, ltb-false, lt-ltb, le-ltb, eqb-true}
+use Rattle.std.proofs.Common.{sym, ap, subst, sub-one, arith, ltb-true, ltb-false, lt-ltb, le-ltb, eqb-true}
 use Rattle.std.proofs.Math.Nat.{two-pow-succ}
 use Rattle.std.proofs.lemmas.Bool.{eqb-false}
 use Rattle.word.specs.Word.{signed}
 use Rattle.isa.specs.Format.{Row, row}
 use Rattle.isa.specs.Formats.{is_set, predicate_operand}
 use Rattle.isa.specs.Tables.{alu_table, multiply_table, compare_table, predicate_table, special_table, kind_table, load_table, store_table}
-use Rattle.isa.specs.TableLaws.{and_then, row_then}
+use Rattle.isa.specs.TableLaws.{row_used}
 use Rattle.decoder_laws.specs.RangeLaws.{IfSome, ◌also◌}
 use Rattle.fields.specs.CodeLaws.{alu_row_lem, multiply_row_lem, compare_row_lem, predicate_row_lem, special_row_lem, kind_row, load_row, store_row}
 use Rattle.fields.specs.Fields.{alu_code, multiply_code, compare_code, predicate_code, special_code, kind_code, load_code, store_code, bit, operand_number, twos_complement}
@@ -43,7 +43,7 @@ row_coded {A} {t = t} {code = code} v Q n make q = row_back Q t n make (go t v.c
 
 pub row_of : {A B : Type 0} {t : List (Row A)} {code : A → ℕ} → Inverse t code → (a : A) (make : A → Option B)
     → row t (code a) make ≡ make a
-row_of {A} {t = t} {code = code} v a make = row_then t (code a) make ∙ ap (λ (x : Option A). and_then x make) (v.has a)
+row_of {t = t} {code = code} v a make = row_used t (code a) make a (v.has a)
 
 pub alu_inverse : Inverse alu_table alu_code
 alu_inverse = record {
