@@ -1,12 +1,11 @@
 // The formats that only slot one can hold.
 #![tactic(auto, using(isa::specs::TableLaws::row_unused, isa::specs::TableLaws::row_used), unfolding(isa::specs::Format::reading))]
 
-ghost use Rattle.std.specs.Prelude.{◌≡◌, ◌/◌, ◌%◌, ◌<◌, Some};
-ghost use Rattle.isa.specs.Format.{reading, row};
-ghost use Rattle.isa.specs.Tables.{kind_table};
+ghost use Rattle.std.specs.Prelude.{◌≡◌, ◌/◌, ◌%◌, Some};
+ghost use Rattle.isa.specs.Format.{reading};
 ghost use Rattle.isa.specs.Formats.{first_formats};
 
-use isa::{AccessKind, Operation, StackAmount, StackOperation, Target};
+use isa::{Operation, StackAmount, StackOperation, Target};
 
 // ALUm.
 fn read_multiply(w: u32) -> Option<Operation>
@@ -47,27 +46,13 @@ fn read_special(w: u32) -> Option<Operation>
     None
 }
 
-// Tables 2.5 and 2.6, the memory: all four codes are used.
-#[tactic(auto, unfolding(isa::specs::Format::row))]
-fn access_kind(code: u32) -> AccessKind
-    requires { code < 4 }
-    ensures { row kind_table code Some ≡ Some result }
-{
-    match code {
-        0 => AccessKind::Stack,
-        1 => AccessKind::Local,
-        2 => AccessKind::Cached,
-        _ => AccessKind::Main,
-    }
-}
-
 // LDT.
 fn read_load(w: u32) -> Option<Operation>
     requires { w / 4194304 % 32 ≡ 10 }
     ensures { result ≡ reading first_formats w }
 {
     let width = isa::tables::load_width(w / 512 % 8)?;
-    let kind = access_kind(w / 128 % 4);
+    let kind = isa::tables::access_kind(w / 128 % 4)?;
     Some(Operation::Load {
         kind,
         width,
@@ -83,7 +68,7 @@ fn read_store(w: u32) -> Option<Operation>
     ensures { result ≡ reading first_formats w }
 {
     let width = isa::tables::store_width(w / 524288 % 8)?;
-    let kind = access_kind(w / 131072 % 4);
+    let kind = isa::tables::access_kind(w / 131072 % 4)?;
     Some(Operation::Store {
         kind,
         width,

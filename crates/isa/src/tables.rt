@@ -1,11 +1,12 @@
-// The tables of function codes: the row of a code, or that the code is unused.
+// The tables of function codes: the row of a code, or none where the code is unused. Each is a match, and not a search by the numbers that the
+// variants stand for: every bundle is decoded by these.
 ghost use Rattle.std.specs.Prelude.{◌≡◌, Some};
 ghost use Rattle.isa.specs.Format.{row};
-ghost use Rattle.isa.specs.Tables.{alu_table, multiply_table, compare_table, predicate_table, special_table, load_table, store_table};
+ghost use Rattle.isa.specs.Tables.{alu_table, multiply_table, compare_table, predicate_table, special_table, kind_table, load_table, store_table};
 
 use crate::{
-    AluFunction, CompareFunction, LoadWidth, MultiplyFunction, PredicateFunction, Special,
-    StoreWidth,
+    AccessKind, AluFunction, CompareFunction, LoadWidth, MultiplyFunction, PredicateFunction,
+    Special, StoreWidth,
 };
 
 // Table 2.1.
@@ -81,6 +82,19 @@ pub fn special(code: u32) -> Option<Special>
         8 => Some(Special::Sro),
         9 => Some(Special::Sxb),
         10 => Some(Special::Sxo),
+        _ => None,
+    }
+}
+
+// Tables 2.5 and 2.6, the memory.
+pub fn access_kind(code: u32) -> Option<AccessKind>
+    ensures { result ≡ row kind_table code Some }
+{
+    match code {
+        0 => Some(AccessKind::Stack),
+        1 => Some(AccessKind::Local),
+        2 => Some(AccessKind::Cached),
+        3 => Some(AccessKind::Main),
         _ => None,
     }
 }

@@ -6,7 +6,7 @@ use Rattle.isa.specs.declared.Operation.{Operation}
 use Rattle.assembly.specs.declared.Operand.{Operand}
 use Rattle.assembly.specs.declared.Mnemonic.{Mnemonic}
 use Rattle.assembly.specs.Forms.{forms, made}
-use Rattle.making.specs.Readings.{in_forms}
+use Rattle.making.specs.InForms.{in_forms}
 
 -- A number that is none of n numbers from first on.
 abbrev pub Apart : ℕ → ℕ → ℕ → Type 0
