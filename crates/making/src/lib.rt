@@ -193,6 +193,7 @@ fn make_flow(m: Mnemonic, a: Operand, b: Operand, c: Operand, d: Operand) -> Opt
     }
 }
 
+#[tactic(auto, using(crate::specs::MakingLaws::made_within, crate::specs::MakingLaws::made_last))]
 pub fn make(m: Mnemonic, a: Operand, b: Operand, c: Operand, d: Operand) -> Option<Operation>
     ensures { result ≡ made m a b c d }
 {
