@@ -2,7 +2,7 @@ use mathlib.Core.Logic.{⊎_elim}
 use mathlib.Core.Path.{◌≡◌, subst}
 use Rattle.isa.specs.declared.Instruction.{Instruction}
 use Rattle.effects.specs.Effect.{start, slot_one_effect}
-use Rattle.effects.proofs.slot.slot_one.Goals as goal
+use Rattle.effects.proofs.AtStart.slot_one.Goals as goal
 
 pub returns-in-Undecodable : goal.returns-in-Undecodable
 returns-in-Undecodable c = rw c.in-Undecodable.is

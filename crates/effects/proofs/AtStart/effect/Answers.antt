@@ -1,6 +1,6 @@
 use Rattle.effects.specs.Effect.{effect_of}
 use borrow.Author.Rules.{rules}
-use Rattle.effects.proofs.slot.effect.Goals as goal
+use Rattle.effects.proofs.AtStart.effect.Goals as goal
 
 pub returns-in-Alu : goal.returns-in-Alu
 unfolding effect_of
@@ -32,7 +32,7 @@ returns-in-StackControl c = rw (c.in-StackControl.is, ← c.stack_effect.ensures
 
 pub returns-in-Transfer : goal.returns-in-Transfer
 unfolding effect_of
-returns-in-Transfer c = rw (c.in-Transfer.is, ← c.transfer_of.ensures _ _)
+returns-in-Transfer c = rw (c.in-Transfer.is, ← c.transfer_of.ensures)
 
 pub returns-in-Trap : goal.returns-in-Trap
 unfolding effect_of

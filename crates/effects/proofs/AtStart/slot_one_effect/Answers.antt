@@ -1,5 +1,5 @@
 use Rattle.effects.specs.Effect.{slot_one_effect}
-use Rattle.effects.proofs.slot.slot_one_effect.Goals as goal
+use Rattle.effects.proofs.AtStart.slot_one_effect.Goals as goal
 
 pub returns-then-operand : goal.returns-then-operand
 unfolding slot_one_effect
