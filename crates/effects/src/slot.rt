@@ -14,6 +14,7 @@ use word::arithmetic::add;
 use word::bits::shift_left;
 
 // A stack access is relative to st.
+#[tactic(auto, unfolding(crate::specs::Effect::access_address))]
 fn access_address(kind: AccessKind, st: u32, a: u32) -> u32
     ensures { result ≡ access_address kind st a }
 {
@@ -26,6 +27,7 @@ fn access_address(kind: AccessKind, st: u32, a: u32) -> u32
 }
 
 // The words that a stack instruction's operand says.
+#[tactic(auto, unfolding(crate::specs::Effect::amount_words))]
 fn amount_words(registers: &[u32], a: StackAmount) -> u32
     ensures { result ≡ amount_words registers.now a }
 {
@@ -35,6 +37,7 @@ fn amount_words(registers: &[u32], a: StackAmount) -> u32
     }
 }
 
+#[tactic(auto, unfolding(crate::specs::Effect::amount_aligned))]
 fn amount_aligned(registers: &[u32], a: StackAmount) -> bool
     ensures { result ≡ amount_aligned registers.now a }
 {
@@ -44,6 +47,7 @@ fn amount_aligned(registers: &[u32], a: StackAmount) -> bool
     }
 }
 
+#[tactic(auto, unfolding(crate::specs::Effect::stack_effect))]
 fn stack_effect(registers: &[u32], o: StackOperation) -> Effect
     ensures { result ≡ stack_effect registers.now o }
 {
@@ -88,6 +92,7 @@ impl AtStart<'_> {
     }
 
     // Where a transfer of this bundle goes.
+    #[tactic(auto, unfolding(crate::specs::Effect::transfer_of))]
     fn transfer_of(&self, t: Target) -> Transfer
         ensures { result ≡ transfer_of (at_start self.now) t }
     {
@@ -132,6 +137,7 @@ impl AtStart<'_> {
     }
 
     // What an operation does.
+    #[tactic(auto, unfolding(crate::specs::Effect::effect_of))]
     fn effect(&self, o: Operation) -> Effect
         ensures { result ≡ effect_of (at_start self.now) o }
     {
@@ -200,6 +206,7 @@ impl AtStart<'_> {
     }
 
     // What the instruction of slot one does: nothing where its guard is false.
+    #[tactic(auto, unfolding(crate::specs::Effect::slot_one_effect))]
     fn slot_one_effect(&self, i: Instruction) -> Effect
         ensures { result ≡ slot_one_effect (at_start self.now) i }
     {
