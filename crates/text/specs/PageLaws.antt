@@ -36,6 +36,9 @@ text_append p (b ∷ s) t = text_append (with_byte p b) s t
 pub text_then : (p q r : Page) (s t : List ℕ) → q ≡ with_text p s → r ≡ with_text q t → r ≡ with_text p (s ++ t)
 text_then p q r s t e f = f ∙ ap (λ (x : Page). with_text x t) e ∙ sym (text_append p s t)
 
+pub text_both : (p : Page) (s t : List ℕ) → with_text (with_text p s) t ≡ with_text p (s ++ t)
+text_both p s t = sym (text_append p s t)
+
 pub text_none : (p : Page) → with_text p [] ≡ p
 unfolding with_text
 text_none p = refl
@@ -52,6 +55,9 @@ pub text_end : (p : Page) (s : List ℕ) (i : ℕ) → length s ≤ i → p ≡ 
 unfolding with_text
 text_end p s i h = rw (drop_of_length-le s {i = i} h)
 
+-- What a proof that texts were put on a page one after the other wants: `#[tactic(auto, using(text::specs::PageLaws::texts))]`.
+pub ruleset texts = (text_both, text_none)
+
 -- The same of a lent page.
 pub puts_none : (p : Lent) → Puts p p []
 unfolding with_text
@@ -59,9 +65,6 @@ puts_none p = record { same = refl; put = refl }
 
 pub puts_then : (p q r : Lent) (s t : List ℕ) → Puts p q s → Puts q r t → Puts p r (s ++ t)
 puts_then p q r s t h k = record { same = k.same ∙ h.same; put = text_then (shown p) (shown q) (shown r) s t h.put k.put }
-
-pub puts_equal : (p q : Lent) (s t : List ℕ) → Puts p q s → s ≡ t → Puts p q t
-puts_equal p q s t h e = rw (← e) h
 
 -- The next byte of a text is put.
 pub puts_step : (p q r : Lent) (s : List ℕ) (i : ℕ) → i < length s → Puts p q (take i s) → Puts q r (get_or s i 0 ∷ []) → Puts p r (take (i + 1) s)
