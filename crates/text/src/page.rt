@@ -7,8 +7,8 @@ use crate::digits::put_hex;
 
 #[derive(Drop)]
 pub struct Page<'a> {
-    out: &'a mut [u8],
-    used: usize,
+    pub out: &'a mut [u8],
+    pub used: usize,
 }
 
 impl<'a> Page<'a> {
@@ -18,14 +18,6 @@ impl<'a> Page<'a> {
         ensures empty { shown result ≡ page 0 out.old }
     {
         Page { out, used: 0 }
-    }
-
-    // A page of which so many bytes are used already.
-    pub fn starting_at(out: &'a mut [u8], used: usize) -> Page<'a>
-        ensures same { result.out.ghost_name ≡ out.entry.ghost_name }
-        ensures used { shown result ≡ page used out.old }
-    {
-        Page { out, used }
     }
 
     // What stands on the page.
