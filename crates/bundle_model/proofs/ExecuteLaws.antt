@@ -1,5 +1,5 @@
 -- Laws of a decoded bundle: slot one carried out, and the bundle as a whole.
-use Rattle.std.specs.Prelude.{ℕ, ◌+◌, ◌-◌, ◌^◌, ◌≤◌, Bool, true, false, not, cond, ◌||◌, length, List, [], ◌++◌, ◌≡◌}
+use Rattle.std.specs.Prelude.{ℕ, ◌+◌, ◌-◌, ◌^◌, ◌≤◌, Bool, true, false, not, cond, ◌||◌, length, List, [], ◌++◌, ◌≡◌, Ok, Err}
 use Rattle.std.proofs.Common.{append-nil, ◌∙◌, arith, add-zero}
 use Rattle.std.proofs.Math.Path.{refl, sym, ap}
 use Rattle.stack_cache.specs.declared.StackControl.{StackControl}
@@ -20,10 +20,9 @@ use Rattle.effects.specs.declared.Transfer.{Transfer}
 use Rattle.effects.specs.declared.Transfer.TheVariants.{Br, Call, Block, Xret}
 use Rattle.effects.specs.declared.Effect.{Effect}
 use Rattle.effects.specs.declared.Effect.TheVariants as effect
-use Rattle.answers.specs.declared.Verdict.{Verdict}
-use Rattle.answers.specs.declared.Verdict.TheVariants.{Fine, Refused}
+use Rattle.answers.specs.declared.Refusal.TheVariants as refusal
 use Rattle.answers.specs.Answer.{done, refused}
-use Rattle.answers.specs.Test.{Test, verdict}
+use Rattle.answers.specs.Test.{Verdict, Test, verdict}
 use Rattle.settings.specs.Setup.{Setup, replaying, Buffers, buffers}
 use Rattle.bundle_model.specs.declared.Carried.TheVariants as carried
 use Rattle.bundle_model.specs.declared.Counts.{Counts}
@@ -42,17 +41,17 @@ slot_plain g x s e p = ap (λ (l : List ℕ). effect_tests g x s e ++ lookup_tes
 
 -- a stack instruction is refused as its plan is
 abbrev pub plan_verdict : Plan → Verdict
-plan_verdict (plan.Refused n) = Refused n
-plan_verdict (plan.Moves st ss j k) = Fine
+plan_verdict (plan.Refused n) = Err n
+plan_verdict (plan.Moves st ss j k) = (Ok tt)
 
 pub stack_tests_lem : (g : Settings) (x : Setup) (s : State) (c : StackControl) (n : ℕ) (m : Bool)
-    → verdict (effect_tests g x s (effect.Stack c n m)) ≡ cond (not m) (Refused 5) (plan_verdict (planned c g.words x.lo x.hi s.specials.st s.specials.ss n))
+    → verdict (effect_tests g x s (effect.Stack c n m)) ≡ cond (not m) (Err refusal.Misaligned) (plan_verdict (planned c g.words x.lo x.hi s.specials.st s.specials.ss n))
 unfolding verdict planned
 stack_tests_lem g x s c n m =
-    ap (λ (v : Verdict). cond (not m) (Refused 5) v)
+    ap (λ (v : Verdict). cond (not m) (Err refusal.Misaligned) v)
     (go (bad_window g.words s.specials.st s.specials.ss || bad_amount c g.words s.specials.st n) (moved_outside c g.words x.lo x.hi s.specials.st s.specials.ss n))
   where
-    go : (x y : Bool) → cond x (Refused 7) (cond y (Refused 8) Fine) ≡ plan_verdict (cond x (plan.Refused 7) (cond y (plan.Refused 8)
+    go : (x y : Bool) → cond x (Err refusal.Window) (cond y (Err refusal.MoveOutside) (Ok tt)) ≡ plan_verdict (cond x (plan.Refused 7) (cond y (plan.Refused 8)
         (plan.Moves (top_after c s.specials.st n) (spill_after c g.words s.specials.st s.specials.ss n) (length (spills c g.words s.specials.st s.specials.ss n)) (length (fills c s.specials.st s.specials.ss n)))))
     go true y = refl
     go false true = refl
@@ -152,14 +151,14 @@ module _ (g : Settings) (x : Setup) (t : State) (h : List ℕ) (one : Effect) (t
 
   -- The carried-out slot tells how the bundle was judged.
   refused_verdict : (n : ℕ) (v : Verdict) → carried_as (carried.Refused n) b' ≡ unless_refused v b (carried_as (carried.Done (loaded_by b one) (top_by s one) (spill_by g s one)) (buffers_after g x s one b))
-      → (v ≡ Refused n) × (b ≡ b')
-  refused_verdict n Fine e =
+      → (v ≡ Err n) × (b ≡ b')
+  refused_verdict n (Ok tt) e =
       let p : carried.Refused n ≡ carried.Done (loaded_by b one) (top_by s one) (spill_by g s one) = ap (λ (c : CarriedOut). c.carried) e in
       (cc, cc)
-  refused_verdict n (Refused m) e =
+  refused_verdict n (Err m) e =
       let p : carried.Refused n ≡ carried.Refused m = ap (λ (c : CarriedOut). c.carried) e in
       let k : n ≡ m = cc in
-      (ap Refused (sym k), sym (ap (λ (c : CarriedOut). c.buffers) e))
+      (ap Err (sym k), sym (ap (λ (c : CarriedOut). c.buffers) e))
 
   pub executed_refused : (n : ℕ) (o : Outcome) (c d : Counts) (v : List ℕ) → carried_as (carried.Refused n) b' ≡ carried_out g x (with_held t h) one b
       → o ≡ outcome (refused n) (with_held t v) d b' → v ≡ h → d ≡ plus c no_counts → o ≡ counted c (executed g x (with_held t h) one two following b)
@@ -171,16 +170,16 @@ module _ (g : Settings) (x : Setup) (t : State) (h : List ℕ) (one : Effect) (t
       ∙ sym (ap (λ (w : Verdict). counted c (refused_or w s b (outcome done (state_done g x b s one two following) (counts_of g x s one) (buffers_after g x s one b)))) f.0)
 
   done_verdict : (l st ss : ℕ) (v : Verdict) → carried_as (carried.Done l st ss) b' ≡ unless_refused v b (carried_as (carried.Done (loaded_by b one) (top_by s one) (spill_by g s one)) (buffers_after g x s one b))
-      → (v ≡ Fine) × (l ≡ loaded_by b one) × (st ≡ top_by s one) × (ss ≡ spill_by g s one) × (b' ≡ buffers_after g x s one b)
-  done_verdict l st ss Fine e =
+      → (v ≡ Ok tt) × (l ≡ loaded_by b one) × (st ≡ top_by s one) × (ss ≡ spill_by g s one) × (b' ≡ buffers_after g x s one b)
+  done_verdict l st ss (Ok tt) e =
       let p : carried.Done l st ss ≡ carried.Done (loaded_by b one) (top_by s one) (spill_by g s one) = ap (λ (c : CarriedOut). c.carried) e in
       (refl, cc, cc, cc, ap (λ (c : CarriedOut). c.buffers) e)
-  done_verdict l st ss (Refused m) e =
+  done_verdict l st ss (Err m) e =
       let p : carried.Done l st ss ≡ carried.Refused m = ap (λ (c : CarriedOut). c.carried) e in
       (cc, cc, cc, cc, cc)
 
   -- No test refuses a slot one that was done.
-  pub done_fine : (l st ss : ℕ) → carried_as (carried.Done l st ss) b' ≡ carried_out g x (with_held t h) one b → verdict (slot_tests g x (with_held t h) one) ≡ Fine
+  pub done_fine : (l st ss : ℕ) → carried_as (carried.Done l st ss) b' ≡ carried_out g x (with_held t h) one b → verdict (slot_tests g x (with_held t h) one) ≡ Ok tt
   unfolding carried_out s
   done_fine l st ss e = (done_verdict l st ss (verdict (slot_tests g x s one)) e).0
 

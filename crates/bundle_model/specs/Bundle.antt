@@ -1,9 +1,7 @@
 -- "Doing a bundle": the writes in their order, the counts, and one bundle as a whole.
-use Rattle.std.specs.Prelude.{ℕ, ◌-◌, ◌^◌, Bool, not, cond, ◌&&◌, List, ◌++◌, length, take, drop}
-use Rattle.answers.specs.declared.Verdict.{Verdict}
-use Rattle.answers.specs.declared.Verdict.TheVariants as verdict
+use Rattle.std.specs.Prelude.{ℕ, ◌-◌, ◌^◌, Bool, not, cond, ◌&&◌, List, ◌++◌, length, take, drop, Ok, Err}
 use Rattle.answers.specs.Answer.{Returned, accepted, done, ended, spent, refused}
-use Rattle.answers.specs.Test.{verdict}
+use Rattle.answers.specs.Test.{Verdict, verdict}
 use Rattle.stack_cache.specs.declared.StackControl.{StackControl}
 use Rattle.stack_cache.specs.Stack.{top_after, spill_after, spills, fills, spilled, filled}
 use Rattle.settings.specs.declared.Settings.{Settings}
@@ -138,8 +136,8 @@ full r b = outcome (returned r.answer) r.state r.counts b
 
 -- A refused bundle leaves all as it was, and counts nothing.
 abbrev pub refused_or : Verdict → State → Buffers → Outcome → Outcome
-refused_or verdict.Fine s b other = other
-refused_or (verdict.Refused n) s b other = outcome (refused n) s no_counts b
+refused_or (Ok tt) s b other = other
+refused_or (Err n) s b other = outcome (refused n) s no_counts b
 
 -- The bundle at the fetch address done or refused.
 unfoldable pub bundle : Settings → Setup → State → Buffers → Outcome

@@ -1,12 +1,10 @@
 -- Parts of a bundle, for the contracts of the functions that do it: the outcome of a decoded bundle.
-use Rattle.std.specs.Prelude.{ℕ, ◌-◌, Bool, cond, List, ◌≡◌}
+use Rattle.std.specs.Prelude.{ℕ, ◌-◌, Bool, cond, List, ◌≡◌, Ok, Err}
 use Rattle.stack_cache.specs.Stack.{top_after, spill_after, below, above, spilled, filled}
 use Rattle.method_cache.specs.Words.{held_in, FixedHeld}
 use Rattle.settings.specs.declared.Settings.{Settings}
-use Rattle.answers.specs.declared.Verdict.{Verdict}
-use Rattle.answers.specs.declared.Verdict.TheVariants as verdict
 use Rattle.answers.specs.Answer.{done}
-use Rattle.answers.specs.Test.{verdict}
+use Rattle.answers.specs.Test.{Verdict, verdict}
 use Rattle.settings.specs.Setup.{Setup, Buffers, Lent}
 use Rattle.memory.specs.Access.{loaded_value}
 use Rattle.alu_effects.specs.declared.AluEffect.{AluEffect}
@@ -77,8 +75,8 @@ abbrev pub carried_as : Carried → Buffers → CarriedOut
 carried_as c b = record { carried = c; buffers = b }
 
 abbrev pub unless_refused : Verdict → Buffers → CarriedOut → CarriedOut
-unless_refused verdict.Fine b other = other
-unless_refused (verdict.Refused n) b other = carried_as (carried.Refused n) b
+unless_refused (Ok tt) b other = other
+unless_refused (Err n) b other = carried_as (carried.Refused n) b
 
 -- What it loads, and where it leaves st and ss.
 abbrev pub loaded_by : Buffers → Effect → ℕ

@@ -1,10 +1,9 @@
 -- A transfer and a trap carried out: judged, looked up, and counted.
-use Rattle.std.specs.Prelude.{ℕ, Bool, true, false, not, List, [], ◌∷◌, ◌≡◌, refl}
+use Rattle.std.specs.Prelude.{ℕ, Bool, true, false, not, List, [], ◌∷◌, ◌≡◌, refl, Ok, Err}
 use Rattle.std.proofs.Math.Path.{sym, ap}
 use Rattle.std.proofs.Common.{subst, ◌∙◌}
-use Rattle.answers.specs.declared.Verdict.{Verdict}
-use Rattle.answers.specs.declared.Verdict.TheVariants.{Fine, Refused}
-use Rattle.answers.specs.Test.{Test, test, verdict}
+use Rattle.answers.specs.declared.Refusal.TheVariants as refusal
+use Rattle.answers.specs.Test.{Verdict, Test, test, verdict}
 use Rattle.answers.specs.TestLaws.{and_then, verdict_append}
 use Rattle.method_cache.specs.declared.Looked.{Looked}
 use Rattle.method_cache.specs.MethodCache.{capacity_ok}
@@ -28,14 +27,14 @@ use Rattle.bundle_writes.specs.Lookup.{judged_as, LookedUp}
 
 -- It writes no store.
 pub transfer_carried : (g : Settings) (x : Setup) (s : State) (delayed : Bool) (t : Transfer) (b : Buffers) (r : Carried)
-    → r ≡ judged_as (verdict (test 4 (not (none_waits s.transfer)) ∷ lookup_tests x.method x.code (bases_of x t)))
+    → r ≡ judged_as (verdict (test refusal.TransferWaits (not (none_waits s.transfer)) ∷ lookup_tests x.method x.code (bases_of x t)))
     → carried_as r b ≡ carried_out g x s (effect.Transfer delayed t) b
 unfolding carried_out buffers_after slot_tests
-transfer_carried g x s delayed t b r e = ap (λ (c : Carried). carried_as c b) e ∙ go (verdict (test 4 (not (none_waits s.transfer)) ∷ lookup_tests x.method x.code (bases_of x t)))
+transfer_carried g x s delayed t b r e = ap (λ (c : Carried). carried_as c b) e ∙ go (verdict (test refusal.TransferWaits (not (none_waits s.transfer)) ∷ lookup_tests x.method x.code (bases_of x t)))
   where
     go : (v : Verdict) → carried_as (judged_as v) b ≡ unless_refused v b (carried_as plainly b)
-    go Fine = refl
-    go (Refused n) = refl
+    go (Ok tt) = refl
+    go (Err n) = refl
 
 -- What it counts: its cycles beside the one of its bundle, and what the lookup counts.
 abbrev looked_counts : ℕ → Looked → Counts
@@ -55,18 +54,18 @@ transfer_tallied g code s delayed t w v c d r cycles looked e ok l p q =
 -- A trap: refused by 16 or 17, or carried out as a call of its handler, whose tests come behind those two.
 module _ (g : Settings) (x : Setup) (s : State) (vector handler : ℕ) (b : Buffers) where
   abbrev own : List Test
-  own = test 16 s.further.replay.active ∷ test 17 (no_handler vector handler) ∷ []
+  own = test refusal.HandlerActive s.further.replay.active ∷ test refusal.NoHandler (no_handler vector handler) ∷ []
 
   abbrev call : Effect
   call = effect.Transfer false (Call handler)
 
-  pub trap_refused : (n : ℕ) → verdict own ≡ Refused n → carried_as (carried.Refused n) b ≡ carried_out g x s (effect.Trap vector handler) b
+  pub trap_refused : (n : ℕ) → verdict own ≡ Err n → carried_as (carried.Refused n) b ≡ carried_out g x s (effect.Trap vector handler) b
   unfolding carried_out buffers_after slot_tests
   trap_refused n e =
       let judged : verdict (slot_tests g x s (effect.Trap vector handler)) ≡ and_then (verdict own) (verdict (slot_tests g x s call)) = verdict_append own (slot_tests g x s call) in
       sym (ap (λ (v : Verdict). unless_refused v b (carried_as plainly b)) (judged ∙ ap (λ (v : Verdict). and_then v (verdict (slot_tests g x s call))) e))
 
-  pub trap_carried : verdict own ≡ Fine → carried_out g x s call b ≡ carried_out g x s (effect.Trap vector handler) b
+  pub trap_carried : verdict own ≡ Ok tt → carried_out g x s call b ≡ carried_out g x s (effect.Trap vector handler) b
   unfolding carried_out buffers_after slot_tests
   trap_carried e =
       let judged : verdict (slot_tests g x s (effect.Trap vector handler)) ≡ and_then (verdict own) (verdict (slot_tests g x s call)) = verdict_append own (slot_tests g x s call) in

@@ -1,14 +1,14 @@
 -- The numbers that steps and runs are refused with: never 10; and where 1 lets the settings pass and 11 the state, those behind them.
 use Prim.Native.Nat.{ℕ, zero, suc}
-use Rattle.std.specs.Prelude.{Bool, not, ◌&&◌, ◌||◌, List, [], ◌∷◌, ◌++◌, ◌≡◌, eqb}
+use Rattle.std.specs.Prelude.{Bool, not, ◌&&◌, ◌||◌, List, [], ◌∷◌, ◌++◌, ◌≡◌, eqb, Ok, Err}
 use Rattle.std.proofs.Math.Bool.{true, false, cond}
 use Rattle.std.proofs.lemmas.Bool.{false≢true}
 use Rattle.std.proofs.Math.Path.{refl, ap, subst}
 use Rattle.std.proofs.Common.{◌∙◌}
 use Rattle.word.specs.BoolLaws.{and_left, and_right}
+use Rattle.answers.specs.declared.Refusal.TheVariants as refusal
 use Rattle.answers.specs.Answer.{Returned, accepted, done, ended, spent, refused}
 use Rattle.answers.specs.Test.{Test, test, verdict}
-use Rattle.answers.specs.declared.Verdict.TheVariants as verdict
 use Rattle.method_cache.specs.declared.Method.{Method}
 use Rattle.settings.specs.declared.Settings.{Settings}
 use Rattle.settings.specs.Settings.{admits}
@@ -45,14 +45,14 @@ numbered_append ns [] us p q = q
 numbered_append ns (t ∷ ts) us p q =
     rw (and_left (among ns t.number) (numbered ns ts) p, numbered_append ns ts us (and_right (among ns t.number) (numbered ns ts) p) q) refl
 
-numbered_refused : (ns : List ℕ) (ts : List Test) (n : ℕ) → numbered ns ts ≡ true → verdict ts ≡ verdict.Refused n → among ns n ≡ true
+numbered_refused : (ns : List ℕ) (ts : List Test) (n : ℕ) → numbered ns ts ≡ true → verdict ts ≡ Err n → among ns n ≡ true
 unfolding verdict
 numbered_refused ns [] n p e = cc
 numbered_refused ns (t ∷ ts) n p e =
     go t.applies e (and_left (among ns t.number) (numbered ns ts) p) (numbered_refused ns ts n (and_right (among ns t.number) (numbered ns ts) p))
   where
-    go : (a : Bool) → cond a (verdict.Refused t.number) (verdict ts) ≡ verdict.Refused n → among ns t.number ≡ true
-        → (verdict ts ≡ verdict.Refused n → among ns n ≡ true) → among ns n ≡ true
+    go : (a : Bool) → cond a (Err t.number) (verdict ts) ≡ Err n → among ns t.number ≡ true
+        → (verdict ts ≡ Err n → among ns n ≡ true) → among ns n ≡ true
     go true f q h = let same : t.number ≡ n = cc in subst (λ (m : ℕ). among ns m ≡ true) same q
     go false f q h = h f
 
@@ -85,7 +85,7 @@ entry_numbered : (x : Setup) (s : State) → numbered bundle_numbers (entry_test
 unfolding entry_tests
 entry_numbered x s = go (due x s)
   where
-    go : (t : Bool) → numbered bundle_numbers (cond t (test 17 (eqb (handler_due x s) 0) ∷ lookup_tests x.method x.code (entry_lookups x s)) []) ≡ true
+    go : (t : Bool) → numbered bundle_numbers (cond t (test refusal.NoHandler (eqb (handler_due x s) 0) ∷ lookup_tests x.method x.code (entry_lookups x s)) []) ≡ true
     go true = lookup_numbered x.method x.code (entry_lookups x s)
     go false = refl
 
@@ -100,7 +100,7 @@ module _ (x : Setup) (ns : List ℕ) (wider : (n : ℕ) → among bundle_numbers
       go : (r : Readiness) → readiness (lent x b) x s ≡ r → (ready_or r s b (attempt (lent x b) x s b)).answer ≡ refused n → among ns n ≡ true
       go ready.Ready f p = attempt_cases (lent x b) x s b (λ o. o.answer ≡ refused n → among ns n ≡ true)
           (λ m j q. let same : m ≡ n = cc in wider n (numbered_refused bundle_numbers (entry_tests x s ++ bundle_tests (lent x b) x (taken x s) (effect_at x (taken x s))) n
-          (numbered_append bundle_numbers (entry_tests x s) _ (entry_numbered x s) (bundle_numbered (lent x b) x (taken x s) (effect_at x (taken x s)))) (j ∙ ap verdict.Refused same))) (λ j q. cc) p
+          (numbered_append bundle_numbers (entry_tests x s) _ (entry_numbered x s) (bundle_numbered (lent x b) x (taken x s) (effect_at x (taken x s)))) (j ∙ ap Err same))) (λ j q. cc) p
       go ready.Ended f p = cc
       go (ready.Refused m) f p = let same : m ≡ n = cc in before s b n h (f ∙ ap ready.Refused same)
 

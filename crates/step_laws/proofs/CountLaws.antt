@@ -1,5 +1,5 @@
 -- The counts of a bundle: 4 cycles, 512 words moved each way, one miss and 4,096 words fetched, at most.
-use Rattle.std.specs.Prelude.{ℕ, zero, suc, ◌-◌, ◌*◌, ◌/◌, ◌≤◌, min, Bool, true, false, cond, List, [], ◌∷◌, ◌≡◌, refl, ltb, length}
+use Rattle.std.specs.Prelude.{ℕ, zero, suc, ◌-◌, ◌*◌, ◌/◌, ◌≤◌, min, Bool, true, false, cond, List, [], ◌∷◌, ◌≡◌, refl, ltb, length, Ok, Err}
 use Rattle.std.proofs.Common.{sym, ap, subst, ◌∙◌, arith, le_trans, ltb-false}
 use Rattle.word.specs.Word.{add, sub}
 use Rattle.stack_cache.specs.declared.StackControl.{StackControl}
@@ -25,7 +25,6 @@ use Rattle.bundle_model.specs.Execute.{carried_as, carried_out, one_cycle, Talli
 use Rattle.bundle_model.proofs.ExecuteLaws.{done_fine, counted_one}
 use Rattle.alu_effects.specs.declared.AluEffect.TheVariants.{Nothing}
 use Rattle.bundle_model.proofs.HandedLaws.{told_done}
-use Rattle.answers.specs.declared.Verdict.TheVariants as verdict
 use Rattle.answers.specs.Test.{verdict as verdict_of}
 use Rattle.answers.specs.TestLaws.{fine_both}
 use Rattle.bundle_model.specs.Lookup.{lookups, lookup_tests}
@@ -146,7 +145,7 @@ attempt_few g x s b h m = attempt_cases g x s b (λ o. Few 1 o.counts) (λ n j. 
         }
 
 -- So are those of a slot one that no test refuses.
-slot_few : (g : Settings) (x : Setup) (s : State) (e : Effect) → admits g ≡ true → g.method ≡ x.method → verdict_of (slot_tests g x s e) ≡ verdict.Fine → Few 1 (counts_of g x s e)
+slot_few : (g : Settings) (x : Setup) (s : State) (e : Effect) → admits g ≡ true → g.method ≡ x.method → verdict_of (slot_tests g x s e) ≡ Ok tt → Few 1 (counts_of g x s e)
 unfolding slot_tests
 slot_few g x s e h m f =
     let both = fine_both (effect_tests g x s e) (lookup_tests x.method x.code (lookups x e)) f in

@@ -2,6 +2,7 @@ use Prim.Native.Nat.{◌<◌, ◌^◌}
 use mathlib.Core.List.{◌∷◌}
 use mathlib.Core.Path.{sym, ◌∙◌}
 use mathlib.Core.Bool.{not}
+use Rattle.answers.specs.declared.Refusal.TheVariants as refusal
 use Rattle.answers.specs.Test.{test, verdict}
 use Rattle.bundle_model.specs.Lookup.{bases_of, lookup_tests}
 use Rattle.core_state.specs.State.{none_waits, with_held}
@@ -42,7 +43,7 @@ returns c =
     let p = c.requires.0 in
     λ rs ps b.
     let s = with_held (joined rs ps a.core) (held_in a.held.now) in
-    let v = verdict (test 4 (not (none_waits (waiting_transfer a.core.transfer))) ∷ lookup_tests a.g.method a.code.now (bases_of (setup_of a.code.now a.g) a.transfer)) in (
+    let v = verdict (test refusal.TransferWaits (not (none_waits (waiting_transfer a.core.transfer))) ∷ lookup_tests a.g.method a.code.now (bases_of (setup_of a.code.now a.g) a.transfer)) in (
       transfer_carried a.g (setup_of a.code.now a.g) s a.delayed a.transfer b _ (c.nothing.ensures ∙ judged_done v _ _ _ (sym c.in_default.is ∙ c.judge_transfer-judged.ensures)),
       transfer_tallied a.g a.code.now (joined rs ps a.core) a.delayed a.transfer a.held.now _ a.counts.now _ _ _ _ c.nothing.ensures (capacity_ok_lem a.g p) c.look_up_transfer-looked.ensures c.extra_cycles.ensures c.add.ensures,
     )
