@@ -4,14 +4,15 @@ ghost use Rattle.bundle_model.specs.Counts.{no_counts, counts_in};
 ghost use Rattle.bundle_model.specs.Execute.{bundled, plainly};
 
 use crate::{Answer, Bundled, Carried, Counts};
+use answers::Refusal;
 use core_state::Core;
 
 // A refused bundle changes nothing.
-pub fn refused(core: Core, n: u32) -> Bundled
-    ensures { result ≡ bundled (Answer.Refused n) core }
+pub fn refused(core: Core, refusal: Refusal) -> Bundled
+    ensures { result ≡ bundled (Answer.Refused refusal) core }
 {
     Bundled {
-        answer: Answer::Refused(n),
+        answer: Answer::Refused(refusal),
         core,
     }
 }
@@ -26,14 +27,14 @@ pub fn done(core: Core) -> Bundled
 }
 
 // Slot one carried out, where it reads and writes no store or has nothing to tell.
-pub fn nothing() -> Carried
+pub fn nothing() -> Result<Carried, Refusal>
     ensures { result ≡ plainly }
 {
-    Carried::Done {
+    Ok(Carried {
         value: 0,
         st: 0,
         ss: 0,
-    }
+    })
 }
 
 pub fn no_counts() -> Counts
