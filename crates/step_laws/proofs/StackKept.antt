@@ -10,8 +10,7 @@ use Rattle.isa.specs.declared.AccessKind.{AccessKind}
 use Rattle.isa.specs.declared.AccessKind.TheVariants as kind
 use Rattle.isa.specs.declared.LoadWidth.{LoadWidth}
 use Rattle.stack_cache.specs.declared.StackControl.{StackControl}
-use Rattle.stack_cache.specs.declared.Plan.TheVariants.{Moves}
-use Rattle.stack_cache.specs.Stack.{spills, fills, spilled, top_after, spill_after, bad_window, in_area, spill_open, fill_open, every, moved_outside, planned}
+use Rattle.stack_cache.specs.Stack.{spills, fills, spilled, top_after, spill_after, bad_window, in_area, spill_open, fill_open, every, moved_outside, moves, planned}
 use Rattle.stack_cache.specs.Count.{Accepted}
 use Rattle.stack_control.specs.PlanLaws.{spills_window, moves_window}
 use Rattle.stack_cache.specs.StackLaws.{length_put_cache_number, length_spilled, length_filled}
@@ -211,7 +210,7 @@ module _ (g : Settings) (x : Setup) (s : State) (c : StackControl) (n : ℕ) (m 
 
   -- Its plan is to move.
   pub stack_planned : planned c g.words x.lo x.hi s.specials.st s.specials.ss n
-      ≡ Moves (top_after c s.specials.st n) (spill_after c g.words s.specials.st s.specials.ss n) (length (spills c g.words s.specials.st s.specials.ss n)) (length (fills c s.specials.st s.specials.ss n))
+      ≡ Ok (moves (top_after c s.specials.st n) (spill_after c g.words s.specials.st s.specials.ss n) (length (spills c g.words s.specials.st s.specials.ss n)) (length (fills c s.specials.st s.specials.ss n)))
   unfolding planned
   stack_planned = rw (stack_accepted, moves_inside)
 

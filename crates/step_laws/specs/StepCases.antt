@@ -3,6 +3,8 @@ use Rattle.std.specs.Prelude.{ℕ, Bool, ◌++◌, ◌≡◌, length, Ok, Err}
 use Rattle.std.proofs.Math.Bool.{true, false}
 use Rattle.std.proofs.Math.Path.{refl}
 use Rattle.std.proofs.Common.{ap, ◌∙◌}
+use Rattle.answers.specs.declared.Refusal.{Refusal}
+use Rattle.answers.specs.Refusal.{number}
 use Rattle.settings.specs.declared.Settings.{Settings}
 use Rattle.core_state.specs.State.{State, start_of, with_done, ended as has_ended}
 use Rattle.effects.specs.declared.Effect.{Effect}
@@ -34,9 +36,9 @@ done_outcome g x s b = outcome done (state_after g x s b) (counts_of g x s (effe
 
 module _ (g : Settings) (x : Setup) (s : State) (b : Buffers) where
   -- A bundle whose verdict is a refusal changes nothing and counts nothing.
-  pub bundle_refused : (n : ℕ) → judged g x s ≡ Err n → bundle g x s b ≡ outcome (refused n) s no_counts b
+  pub bundle_refused : (r : Refusal) → judged g x s ≡ Err r → bundle g x s b ≡ outcome (refused (number r)) s no_counts b
   unfolding bundle
-  bundle_refused n e = rw e
+  bundle_refused r e = rw e
 
   -- A bundle judged fine is done.
   pub bundle_done : judged g x s ≡ Ok tt → bundle g x s b ≡ done_outcome g x s b
@@ -44,14 +46,14 @@ module _ (g : Settings) (x : Setup) (s : State) (b : Buffers) where
   bundle_done e = rw e
 
   -- What holds of the outcome of a bundle refused and of one done holds of a bundle.
-  pub bundle_cases : (P : Outcome → Type 0) → ((n : ℕ) → judged g x s ≡ Err n → P (outcome (refused n) s no_counts b))
+  pub bundle_cases : (P : Outcome → Type 0) → ((r : Refusal) → judged g x s ≡ Err r → P (outcome (refused (number r)) s no_counts b))
       → (judged g x s ≡ Ok tt → P (done_outcome g x s b)) → P (bundle g x s b)
   unfolding bundle
   bundle_cases P ref fine = go (judged g x s) refl
     where
       go : (v : Verdict) → judged g x s ≡ v → P (refused_or v s b (done_outcome g x s b))
       go (Ok tt) e = fine e
-      go (Err n) e = ref n e
+      go (Err r) e = ref r e
 
   -- A bundle that answers Refused changes nothing.
   pub bundle_unchanged : (n : ℕ) → (bundle g x s b).answer ≡ refused n → bundle g x s b ≡ outcome (refused n) s no_counts b
@@ -81,7 +83,7 @@ attempt_done g x s b =
 module _ (g : Settings) (x : Setup) (s : State) (b : Buffers) where
   -- What holds of an outcome that changes nothing and of the one done holds of a bundle as it is tried.
   pub attempt_cases : (P : Outcome → Type 0)
-      → ((n : ℕ) → verdict_of (entry_tests x s ++ bundle_tests g x (taken x s) (effect_at x (taken x s))) ≡ Err n → P (outcome (refused n) s no_counts b))
+      → ((r : Refusal) → verdict_of (entry_tests x s ++ bundle_tests g x (taken x s) (effect_at x (taken x s))) ≡ Err r → P (outcome (refused (number r)) s no_counts b))
       → (Passes g x s → P (attempt_done g x s b)) → P (attempt g x s b)
   unfolding attempt
   attempt_cases P ref fine = go (verdict_of (entry_tests x s)) refl
@@ -94,8 +96,8 @@ module _ (g : Settings) (x : Setup) (s : State) (b : Buffers) where
 
       go : (v : Verdict) → verdict_of (entry_tests x s) ≡ v → P (refused_or v s b (finished s b (entry_counts x s) (bundle g x (taken x s) b)))
       go (Ok tt) e =
-          bundle_cases g x (taken x s) b (λ o. P (finished s b (entry_counts x s) o)) (λ n j. ref n (all ∙ ap inner e ∙ j)) (λ j. fine (record { entry = e; slots = j }))
-      go (Err n) e = ref n (all ∙ ap inner e)
+          bundle_cases g x (taken x s) b (λ o. P (finished s b (entry_counts x s) o)) (λ r j. ref r (all ∙ ap inner e ∙ j)) (λ j. fine (record { entry = e; slots = j }))
+      go (Err r) e = ref r (all ∙ ap inner e)
 
 -- Whether an answer is done.
 abbrev pub is_done : Returned → Bool
