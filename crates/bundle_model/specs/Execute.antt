@@ -68,8 +68,11 @@ abbrev pub carrying : ℕ → ℕ → ℕ → Carried
 carrying value st ss = record { value = value; st = st; ss = ss }
 
 -- Done with nothing to tell, and done with a value loaded.
+abbrev pub nothing : Carried
+nothing = carrying 0 0 0
+
 abbrev pub plainly : Result Carried Refusal
-plainly = Ok (carrying 0 0 0)
+plainly = Ok nothing
 
 abbrev pub loading : ℕ → Result Carried Refusal
 loading v = Ok (carrying v 0 0)

@@ -1,7 +1,7 @@
 // What is given of a bundle that is refused or done, of slot one carried out, and of what was counted.
 ghost use Rattle.std.specs.Prelude.{◌≡◌};
 ghost use Rattle.bundle_model.specs.Counts.{no_counts, counts_in};
-ghost use Rattle.bundle_model.specs.Execute.{bundled, plainly};
+ghost use Rattle.bundle_model.specs.Execute.{bundled, nothing};
 
 use crate::{Answer, Bundled, Carried, Counts};
 use answers::Refusal;
@@ -27,14 +27,14 @@ pub fn done(core: Core) -> Bundled
 }
 
 // Slot one carried out, where it reads and writes no store or has nothing to tell.
-pub fn nothing() -> Result<Carried, Refusal>
-    ensures { result ≡ plainly }
+pub fn nothing() -> Carried
+    ensures { result ≡ nothing }
 {
-    Ok(Carried {
+    Carried {
         value: 0,
         st: 0,
         ss: 0,
-    })
+    }
 }
 
 pub fn no_counts() -> Counts

@@ -1,5 +1,5 @@
 -- The lookup of a transfer, for the contracts of the functions that do it.
-use Rattle.std.specs.Prelude.{ℕ, ◌/◌, Bool, true, false, ◌≡◌, refl, length, Ok, Err}
+use Rattle.std.specs.Prelude.{ℕ, ◌/◌, Bool, true, false, ◌≡◌, length, Ok, Err}
 use Rattle.std.proofs.Math.Bool.{not, cond}
 use Rattle.std.proofs.lemmas.Bool.{false≢true}
 use mathlib.Core.List.{List, [], ◌∷◌}
@@ -16,11 +16,8 @@ use Rattle.effects.specs.declared.Transfer.{Transfer}
 use Rattle.effects.specs.declared.Transfer.TheVariants.{Br, Call, Block, Xret}
 use Rattle.core_state.specs.declared.WaitingTransfer.{WaitingTransfer}
 use Rattle.core_state.specs.State.{none_waits}
-use Rattle.bundle_model.specs.declared.Carried.{Carried}
-use Rattle.bundle_model.specs.declared.Carried.TheVariants as carried
 use Rattle.bundle_model.specs.Lookup.{bases_of, lookup_tests}
 use Rattle.bundle_model.specs.LookupLaws.{words_say, words_keep}
-use Rattle.bundle_model.specs.Execute.{plainly}
 
 -- The base that a transfer brings, and 0 for br.
 abbrev pub new_base : Transfer → ℕ
@@ -28,11 +25,6 @@ new_base (Br target) = 0
 new_base (Call target) = target
 new_base (Block target base) = base
 new_base (Xret target base) = base
-
--- A transfer that is judged has nothing else to tell.
-abbrev pub judged_as : Verdict → Carried
-judged_as (Ok tt) = plainly
-judged_as (Err n) = carried.Refused n
 
 -- The words of the blocks held, w before and v after, and what was counted. Under a capacity that 1 lets pass the words say what is held.
 pub record LookedUp (g : Settings) (code : List ℕ) (t : Transfer) (w v : List ℕ) (r : Looked) : Type 0 where
@@ -92,14 +84,10 @@ module _ (g : Settings) (code : List ℕ) (t : Transfer) where
 
 -- A transfer judged: 4 while one waits, and else 13.
 module _ (w : WaitingTransfer) (ts : List Test) (none : Bool) (p : none ≡ none_waits w) where
-  pub transfer_waits : not none ≡ true → carried.Refused 4 ≡ judged_as (verdict (test refusal.TransferWaits (not (none_waits w)) ∷ ts))
+  pub transfer_waits : not none ≡ true → Err refusal.TransferWaits ≡ verdict (test refusal.TransferWaits (not (none_waits w)) ∷ ts)
   unfolding verdict
-  transfer_waits e = ap (λ (u : Bool). judged_as (cond u (Err refusal.TransferWaits) (verdict ts))) (sym e ∙ ap not p)
+  transfer_waits e = ap (λ (u : Bool). cond u (Err refusal.TransferWaits) (verdict ts)) (sym e ∙ ap not p)
 
-  pub transfer_judged : (v : Verdict) → not none ≡ false → v ≡ verdict ts → judged_as v ≡ judged_as (verdict (test refusal.TransferWaits (not (none_waits w)) ∷ ts))
+  pub transfer_judged : (v : Verdict) → not none ≡ false → v ≡ verdict ts → v ≡ verdict (test refusal.TransferWaits (not (none_waits w)) ∷ ts)
   unfolding verdict
-  transfer_judged v e q = ap judged_as q ∙ ap (λ (u : Bool). judged_as (cond u (Err refusal.TransferWaits) (verdict ts))) (sym e ∙ ap not p)
-
-pub judged_done : (v : Verdict) (l st ss : ℕ) → carried.Done l st ss ≡ judged_as v → plainly ≡ judged_as v
-judged_done (Ok tt) l st ss e = refl
-judged_done (Err n) l st ss e = cc
+  transfer_judged v e q = q ∙ ap (λ (u : Bool). cond u (Err refusal.TransferWaits) (verdict ts)) (sym e ∙ ap not p)
