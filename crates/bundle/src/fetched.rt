@@ -33,8 +33,8 @@ pub(crate) fn bundle(
 {
     let at = core.fetch;
     match fetch(code, at) {
-        Fetched::Refused(n) => refused(core, n),
-        Fetched::Found { bundle, following } => {
+        Err(refusal) => refused(core, refusal),
+        Ok(Fetched { bundle, following }) => {
             let specials = core.specials;
             let one = slot_one(&*registers, &*predicates, specials, at, table, bundle);
             let two = slot_two(&*registers, &*predicates, bundle);
