@@ -1,5 +1,6 @@
 -- The opening: the one way to a fresh state (request (v) of document 02). 1 is judged before 2. The lent cache words become zero too; a
 -- refused opening leaves them as found, and hands back a state that no run takes.
+use Rattle.answers.specs.Refusal.{number}
 use Rattle.answers.specs.Test.{Verdict}
 use Rattle.std.specs.Prelude.{ℕ, Bool, not, cond, ◌&&◌, List, ltb, length, replicate, Ok, Err}
 use Rattle.word.specs.Word.{is_multiple_of4}
@@ -21,7 +22,7 @@ open_of a s c = record { answer = a; state = s; cache = c }
 
 abbrev pub returned : Verdict → Returned
 returned (Ok tt) = accepted
-returned (Err n) = refused n
+returned (Err r) = refused (number r)
 
 abbrev pub open_with : Opened → List ℕ → Open
 open_with o c = open_of (returned o.answer) (state_of o.state) c
