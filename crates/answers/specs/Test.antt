@@ -1,17 +1,20 @@
--- Refusals are tests in the order in which they are judged: the first that applies gives the number.
-use Rattle.std.specs.Prelude.{ℕ, Bool, cond, List, [], ◌∷◌}
-use Rattle.answers.specs.declared.Verdict.{Verdict}
-use Rattle.answers.specs.declared.Verdict.TheVariants.{Fine, Refused}
+-- Refusals are tests in the order in which they are judged: the first that applies is told.
+use Rattle.std.specs.Prelude.{Bool, cond, List, [], ◌∷◌, Result, Ok, Err, ⊤}
+use Rattle.answers.specs.declared.Refusal.{Refusal}
 
--- A refusal's number and whether it applies.
+-- Whether something may be done, or why it is refused.
+abbrev pub Verdict : Type 0
+Verdict = Result ⊤ Refusal
+
+-- A refusal and whether it applies.
 pub record Test : Type 0 where
-  pub number : ℕ
+  pub refusal : Refusal
   pub applies : Bool
 
-abbrev pub test : ℕ → Bool → Test
-test n b = record { number = n; applies = b }
+abbrev pub test : Refusal → Bool → Test
+test r b = record { refusal = r; applies = b }
 
--- The first test that applies gives the number.
+-- The first test that applies is told.
 unfoldable pub verdict : List Test → Verdict
-verdict [] = Fine
-verdict (t ∷ ts) = cond t.applies (Refused t.number) (verdict ts)
+verdict [] = Ok tt
+verdict (t ∷ ts) = cond t.applies (Err t.refusal) (verdict ts)

@@ -1,15 +1,16 @@
 -- A bundle as it is tried, of what the functions that do it give: the record taken or not, and the bundle from there done or refused.
 use Prim.Native.Nat.{ℕ, ◌+◌}
-use Rattle.std.specs.Prelude.{Bool, true, ◌&&◌, ◌≡◌, refl, eqb}
+use Rattle.std.specs.Prelude.{Bool, true, ◌&&◌, ◌≡◌, refl, eqb, Ok, Err, Result}
 use Rattle.std.proofs.Math.Bool.{false}
 use Rattle.std.proofs.lemmas.Bool.{false≢true}
 use mathlib.Core.List.{List, [], ◌∷◌}
 use Rattle.std.proofs.Math.Path.{sym, ap}
 use Rattle.std.proofs.Common.{subst, ◌∙◌, arith}
-use Rattle.answers.specs.declared.Verdict.{Verdict}
-use Rattle.answers.specs.declared.Verdict.TheVariants as verdict
+use Rattle.answers.specs.declared.Refusal.{Refusal}
+use Rattle.answers.specs.Refusal.{number}
+use Rattle.answers.specs.declared.Refusal.TheVariants as refusal
 use Rattle.answers.specs.Answer.{Returned, accepted, done, ended, spent, refused}
-use Rattle.answers.specs.Test.{test, verdict as verdict_of}
+use Rattle.answers.specs.Test.{Verdict, test, verdict as verdict_of}
 use Rattle.replay.specs.Replay.{handler_of, due_in}
 use Rattle.method_cache.specs.declared.Looked.{Looked}
 use Rattle.method_cache.specs.MethodCache.{capacity_ok, held_after, misses, words_fetched}
@@ -43,7 +44,6 @@ use denote.Enum.Declared.{tag_of}
 use types.Run.{OneOf, miss}
 use Rattle.bundle_writes.specs.Lookup.{LookedUp}
 use Rattle.bundle.specs.declared.Entry.{Entry}
-use Rattle.bundle.specs.declared.Entry.TheVariants as entry
 
 -- What the lookup of a record counts.
 abbrev pub looked_counts : Looked → Counts
@@ -56,7 +56,7 @@ whole rs ps core w = with_held (joined rs ps core) (held_in w)
 -- The record taken if one is due: from this core, with these words of the blocks held, the bundle is done. t tells whether one is due, and then
 -- `blocks` are the words as they were.
 pub record Entered (x : Setup) (rs : List ℕ) (ps : List Bool) (core from : Core) (w blocks v : List ℕ) (looked : Looked) (t : Bool) : Type 0 where
-  pub fine : verdict_of (entry_tests x (whole rs ps core w)) ≡ verdict.Fine
+  pub fine : verdict_of (entry_tests x (whole rs ps core w)) ≡ Ok tt
   pub state : whole rs ps from v ≡ taken x (whole rs ps core w)
   pub canonical : Canonical core → Canonical from
   pub fixed : FixedHeld w → FixedHeld v
@@ -64,20 +64,23 @@ pub record Entered (x : Setup) (rs : List ℕ) (ps : List Bool) (core from : Cor
   pub none : t ≡ false → (no_counts ≡ entry_counts x (whole rs ps core w)) × (taken x (whole rs ps core w) ≡ whole rs ps core w)
   pub kept : t ≡ true → blocks ≡ w
 
+abbrev pub going : Core → Bool → Looked → Entry
+going from t looked = record { core = from; due = t; looked = looked }
+
 -- What judging and taking it gives, with the words of the blocks held, w before and v after.
-unfoldable pub Enters : Setup → List ℕ → List Bool → Core → List ℕ → List ℕ → List ℕ → Entry → Type 0
-Enters x rs ps core w blocks v (entry.Refused n) = (verdict_of (entry_tests x (whole rs ps core w)) ≡ verdict.Refused n) × (v ≡ w)
-Enters x rs ps core w blocks v (entry.Going from t looked) = Entered x rs ps core from w blocks v looked t
+unfoldable pub Enters : Setup → List ℕ → List Bool → Core → List ℕ → List ℕ → List ℕ → Result Entry Refusal → Type 0
+Enters x rs ps core w blocks v (Err r) = (verdict_of (entry_tests x (whole rs ps core w)) ≡ Err r) × (v ≡ w)
+Enters x rs ps core w blocks v (Ok e) = Entered x rs ps core e.core w blocks v e.looked e.due
 
-pub enters_refused : (x : Setup) (rs : List ℕ) (ps : List Bool) (core : Core) (w blocks v : List ℕ) (y : Entry) (n : ℕ) → y ≡ entry.Refused n → Enters x rs ps core w blocks v y
-    → (verdict_of (entry_tests x (whole rs ps core w)) ≡ verdict.Refused n) × (v ≡ w)
+pub enters_refused : (x : Setup) (rs : List ℕ) (ps : List Bool) (core : Core) (w blocks v : List ℕ) (y : Result Entry Refusal) (r : Refusal) → y ≡ Err r → Enters x rs ps core w blocks v y
+    → (verdict_of (entry_tests x (whole rs ps core w)) ≡ Err r) × (v ≡ w)
 unfolding Enters
-enters_refused x rs ps core w blocks v y n e h = subst (λ (z : Entry). Enters x rs ps core w blocks v z) e h
+enters_refused x rs ps core w blocks v y r e h = subst (λ (z : Result Entry Refusal). Enters x rs ps core w blocks v z) e h
 
-pub enters_going : {x : Setup} {rs : List ℕ} {ps : List Bool} {core : Core} {w blocks v : List ℕ} {y : Entry} (from : Core) (t : Bool) (looked : Looked) → y ≡ entry.Going from t looked
+pub enters_going : {x : Setup} {rs : List ℕ} {ps : List Bool} {core : Core} {w blocks v : List ℕ} {y : Result Entry Refusal} (from : Core) (t : Bool) (looked : Looked) → y ≡ Ok (going from t looked)
     → Enters x rs ps core w blocks v y → Entered x rs ps core from w blocks v looked t
 unfolding Enters
-enters_going {x} {rs} {ps} {core} {w} {blocks} {v} from t looked e h = subst (λ (z : Entry). Enters x rs ps core w blocks v z) e h
+enters_going {x} {rs} {ps} {core} {w} {blocks} {v} from t looked e h = subst (λ (z : Result Entry Refusal). Enters x rs ps core w blocks v z) e h
 
 module _ (list table code : List ℕ) (g : Settings) (rs : List ℕ) (ps : List Bool) (core : Core) (w : List ℕ) where
   abbrev x : Setup
@@ -114,13 +117,13 @@ module _ (list table code : List ℕ) (g : Settings) (rs : List ℕ) (ps : List 
     looked_bases = ap (λ (a : ℕ). looked_up x a a) h ∙ sym (due_lookups x s d)
 
     -- How it is judged.
-    pub entry_judged : verdict_of (entry_tests x s) ≡ verdict_of (test 17 (eqb handler 0) ∷ lookup_tests g.method code (looked_up (setup_of code g) handler handler))
+    pub entry_judged : verdict_of (entry_tests x s) ≡ verdict_of (test refusal.NoHandler (eqb handler 0) ∷ lookup_tests g.method code (looked_up (setup_of code g) handler handler))
     entry_judged =
         ap verdict_of (due_tests x s d)
-        ∙ ap (λ (l : List ℕ). verdict_of (test 17 (eqb (handler_due x s) 0) ∷ lookup_tests g.method code l)) (due_lookups x s d)
-        ∙ ap (λ (a : ℕ). verdict_of (test 17 (eqb a 0) ∷ lookup_tests g.method code (looked_up (setup_of code g) a a))) (sym h)
+        ∙ ap (λ (l : List ℕ). verdict_of (test refusal.NoHandler (eqb (handler_due x s) 0) ∷ lookup_tests g.method code l)) (due_lookups x s d)
+        ∙ ap (λ (a : ℕ). verdict_of (test refusal.NoHandler (eqb a 0) ∷ lookup_tests g.method code (looked_up (setup_of code g) a a))) (sym h)
 
-    pub has_entered : (from : Core) (blocks v : List ℕ) (looked : Looked) → verdict_of (entry_tests x s) ≡ verdict.Fine → capacity_ok g.method ≡ true
+    pub has_entered : (from : Core) (blocks v : List ℕ) (looked : Looked) → verdict_of (entry_tests x s) ≡ Ok tt → capacity_ok g.method ≡ true
         → LookedUp g code (Call handler) w v looked
         → Written ((us : List ℕ) (qs : List Bool) → joined us qs from ≡ one_place_on (entered (joined us qs core) handler core.fetch)) from (transfer_words transfer.Nothing) core.load core.products
         → blocks ≡ w → Entered x rs ps core from w blocks v looked t
@@ -158,12 +161,12 @@ plus_swap c k e =
 
 module _ (g : Settings) (x : Setup) (s : State) (b : Buffers) where
   -- A record that is refused.
-  entry_refused : (n : ℕ) → verdict_of (entry_tests x s) ≡ verdict.Refused n → attempt g x s b ≡ outcome (refused n) s no_counts b
+  entry_refused : (r : Refusal) → verdict_of (entry_tests x s) ≡ Err r → attempt g x s b ≡ outcome (refused (number r)) s no_counts b
   unfolding attempt
-  entry_refused n e = rw e
+  entry_refused r e = rw e
 
   -- One that is let pass, with the bundle from there.
-  entry_passed : (t : State) → t ≡ taken x s → verdict_of (entry_tests x s) ≡ verdict.Fine → attempt g x s b ≡ finished s b (entry_counts x s) (bundle g x t b)
+  entry_passed : (t : State) → t ≡ taken x s → verdict_of (entry_tests x s) ≡ Ok tt → attempt g x s b ≡ finished s b (entry_counts x s) (bundle g x t b)
   unfolding attempt
   entry_passed t p e =
       ap (λ (v : Verdict). refused_or v s b (finished s b (entry_counts x s) (bundle g x (taken x s) b))) e
@@ -184,11 +187,11 @@ not_finished s b c o = go o.answer
     go (refused n) e = refl
 
 module _ (g : Settings) (x : Setup) (rs : List ℕ) (ps : List Bool) (core : Core) (w c : List ℕ) (b : Buffers) where
-  pub handed_entry : (n : ℕ) (z : Bundled) → verdict_of (entry_tests x (whole rs ps core w)) ≡ verdict.Refused n → z ≡ bundled (Refused n) core
+  pub handed_entry : (n : Refusal) (z : Bundled) → verdict_of (entry_tests x (whole rs ps core w)) ≡ Err n → z ≡ bundled (Refused n) core
       → full (stepped_as rs ps w c z) b ≡ counted (counts_in c) (attempt g x (whole rs ps core w) b)
   handed_entry n z e h =
       ap (λ (y : Bundled). full (stepped_as rs ps w c y) b) h
-      ∙ ap (λ (y : Counts). outcome (refused n) (whole rs ps core w) y b) (sym (plus_none (counts_in c)))
+      ∙ ap (λ (y : Counts). outcome (refused (number n)) (whole rs ps core w) y b) (sym (plus_none (counts_in c)))
       ∙ sym (ap (counted (counts_in c)) (entry_refused g x (whole rs ps core w) b n e))
 
   module _ (from : Core) (blocks v : List ℕ) (looked : Looked) (t : Bool) (e : Entered x rs ps core from w blocks v looked t)

@@ -99,8 +99,8 @@ pub fn advance(
         table,
         g,
     ) {
-        Readiness::Refused(n) => Advanced {
-            answer: Answer::Refused(n),
+        Readiness::Refused(refusal) => Advanced {
+            answer: Answer::Refused(refusal),
             core,
             counts: no_counts(),
         },

@@ -12,7 +12,7 @@ ghost use Rattle.bundle.specs.AttemptLaws.{looked_counts, Enters};
 use crate::Entry;
 use crate::counting::add;
 use crate::fetched::bundle;
-use answers::Verdict;
+use answers::{Refusal, Verdict};
 use bundle_model::outcome::{done, refused};
 use bundle_model::{Answer, Bundled, Counts};
 use bundle_writes::lookup::{judge_lookup, look_up_transfer};
@@ -43,10 +43,10 @@ fn add_looked(counts: &mut [u64; 6], looked: Looked)
 
 // 17 and 13 of the handler of a record that is due.
 fn judge_entry(g: Settings, code: &[u8], handler: u32) -> Verdict
-    ensures { result ≡ verdict (test 17 (eqb handler 0) ∷ lookup_tests g.method code.now (looked_up (setup_of code.now g) handler handler)) }
+    ensures { result ≡ verdict (test Refusal.NoHandler (eqb handler 0) ∷ lookup_tests g.method code.now (looked_up (setup_of code.now g) handler handler)) }
 {
     if handler == 0 {
-        return Verdict::Refused(17);
+        return Err(Refusal::NoHandler);
     }
     judge_lookup(g, code, Transfer::Call { target: handler })
 }
@@ -61,7 +61,7 @@ fn enter(
     code: &[u8],
     list: &[u8],
     table: &[u8],
-) -> Entry
+) -> Result<Entry, Refusal>
     requires { admits g ≡ true }
     ensures { (rs : List ℕ) (ps : List Bool) → Enters (replaying list.now table.now (setup_of code.now g)) rs ps core held.old blocks.new held.new result }
 {
@@ -69,27 +69,25 @@ fn enter(
     let waiting = core.transfer;
     let due = is_due(list, replay) & none_waits(waiting);
     if !due {
-        return Entry::Going {
+        return Ok(Entry {
             core,
             due,
             looked: Looked {
                 misses: 0,
                 fetched: 0,
             },
-        };
+        });
     }
     let handler = handler_of(list, table, replay.place);
-    if let Verdict::Refused(n) = judge_entry(g, code, handler) {
-        return Entry::Refused(n);
-    }
+    judge_entry(g, code, handler)?;
     *blocks = *held;
     let call = Transfer::Call { target: handler };
     let looked = look_up_transfer(g, code, &mut *held, call);
-    Entry::Going {
+    Ok(Entry {
         core: core.take(handler),
         due,
         looked,
-    }
+    })
 }
 
 // A bundle, with the record that is due; where it is refused, by whatever number, all is as before.
@@ -112,12 +110,14 @@ pub(crate) fn attempt(
     ensures { Kept (handed_back registers predicates held counts result (left main local cache) ≡ counted (counts_in counts.old) (attempt g (replaying list.now table.now (setup_of code.now g)) (found_whole registers predicates held core) (found main local cache))) core result.core held.old held.new }
 {
     match enter(core, &mut *held, &mut *blocks, g, code, list, table) {
-        Entry::Refused(n) => refused(core, n),
-        Entry::Going {
-            core: from,
-            due,
-            looked,
-        } => {
+        Err(refusal) => refused(core, refusal),
+        Ok(
+            Entry {
+                core: from,
+                due,
+                looked,
+            },
+        ) => {
             let r = bundle(
                 from,
                 &mut *registers,

@@ -47,8 +47,8 @@ pub(crate) fn execute(
         &mut *local,
         &mut *cache,
     ) {
-        Carried::Refused(n) => refused(core, n),
-        Carried::Done { value, st, ss } => {
+        Err(refusal) => refused(core, refusal),
+        Ok(Carried { value, st, ss }) => {
             let next = write(
                 core,
                 &mut *registers,

@@ -33,8 +33,8 @@ pub(crate) fn bundle(
 {
     let at = core.fetch;
     match fetch(code, at) {
-        Fetched::Refused(n) => refused(core, n),
-        Fetched::Found { bundle, following } => {
+        Err(refusal) => refused(core, refusal),
+        Ok(Fetched { bundle, following }) => {
             let start = AtStart {
                 registers: &*registers,
                 predicates: &*predicates,

@@ -15,14 +15,10 @@ mod transfers;
 use core_state::Core;
 use method_cache::Looked;
 
-// A record that is due, judged: refused with a number, or the core from which the bundle is done, whether a record was taken, and what its
-// lookup counts.
+// The core from which a bundle is done, whether a record was taken, and what its lookup counts.
 #[derive(Clone, Copy)]
-pub(crate) enum Entry {
-    Refused(u32),
-    Going {
-        core: Core,
-        due: bool,
-        looked: Looked,
-    },
+pub(crate) struct Entry {
+    pub core: Core,
+    pub due: bool,
+    pub looked: Looked,
 }

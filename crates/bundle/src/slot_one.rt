@@ -7,6 +7,7 @@ ghost use Rattle.bundle_model.specs.Execute.{holding, CarriesOut};
 
 use crate::stack_moves::do_stack;
 use crate::transfers::{do_transfer, do_trap};
+use answers::Refusal;
 use bundle_model::Carried;
 use bundle_model::outcome::nothing;
 use bundle_writes::slot_one::{do_load, do_store};
@@ -25,7 +26,7 @@ pub(crate) fn carry_out(
     main: &mut [u8],
     local: &mut [u8],
     cache: &mut [u32],
-) -> Carried
+) -> Result<Carried, Refusal>
     requires { (admits g ≡ true) × (g.main ≡ length main.old) × Few 4294967294 (counts_in counts.old) }
     ensures { (rs : List ℕ) (ps : List Bool) → CarriesOut g (setup_of code.now g) (holding rs ps core held) one result (found main local cache) (left main local cache) held counts }
 {
@@ -87,6 +88,6 @@ pub(crate) fn carry_out(
             vector,
             handler,
         ),
-        _ => nothing(),
+        _ => Ok(nothing()),
     }
 }

@@ -8,12 +8,13 @@ ghost use Rattle.bundle_model.specs.Counts.{Few, plus, counts_in};
 ghost use Rattle.bundle_model.specs.Execute.{carried_as, carried_out, counted_by, extra_of, Moved};
 
 use crate::counting::add;
+use answers::Refusal;
 use bundle_model::{Carried, Counts};
 use core_state::Core;
 use effects::Effect;
 use settings::Settings;
 use stack_cache::moves::{fill, spill};
-use stack_cache::{Made, Plan, StackCache, StackControl};
+use stack_cache::{Plan, StackCache, StackControl};
 use stack_control::plan;
 
 // A stack instruction: the words that it moves are judged whole, and then moved.
@@ -26,40 +27,34 @@ pub(crate) fn do_stack(
     aligned: bool,
     main: &mut [u8],
     cache: &mut [u32],
-) -> Carried
+) -> Result<Carried, Refusal>
     requires { (admits g ≡ true) × (g.main ≡ length main.old) × Few 4294967294 (counts_in counts.old) }
     ensures { (code rs hs l : List ℕ) (ps : List Bool) → (carried_as result (buffers main.new l cache.new) ≡ carried_out g (setup_of code g) (with_held (joined rs ps core) hs) (Effect.Stack control words aligned) (buffers main.old l cache.old)) × (counts_in counts.new ≡ plus (counts_in counts.old) (counted_by result (extra_of g (setup_of code g) (with_held (joined rs ps core) hs) (Effect.Stack control words aligned)))) }
 {
     if !aligned {
-        return Carried::Refused(5);
+        return Err(Refusal::Misaligned);
     }
-    let Made::Cache(stack) = StackCache::new(g.words) else {
-        return Carried::Refused(1);
-    };
+    let stack = StackCache::new(g.words)?;
     let old = core.specials.ss;
-    match plan(stack, control, g.lo, g.hi, core.specials.st, old, words) {
-        Plan::Refused(number) => Carried::Refused(number),
-        Plan::Moves {
-            st,
-            ss,
-            spilled,
-            filled,
-        } => {
-            move_words(&mut *main, &mut *cache, g.lo, g.hi, old, spilled, filled);
-            add(
-                &mut *counts,
-                Counts {
-                    bundles: 0,
-                    cycles: 0,
-                    spilled: spilled as u64,
-                    filled: filled as u64,
-                    misses: 0,
-                    fetched: 0,
-                },
-            );
-            Carried::Done { value: 0, st, ss }
-        }
-    }
+    let Plan {
+        st,
+        ss,
+        spilled,
+        filled,
+    } = plan(stack, control, g.lo, g.hi, core.specials.st, old, words)?;
+    move_words(&mut *main, &mut *cache, g.lo, g.hi, old, spilled, filled);
+    add(
+        &mut *counts,
+        Counts {
+            bundles: 0,
+            cycles: 0,
+            spilled: spilled as u64,
+            filled: filled as u64,
+            misses: 0,
+            fetched: 0,
+        },
+    );
+    Ok(Carried { value: 0, st, ss })
 }
 
 // The words that a plan moves, between the stack area's part of main memory and the cache.

@@ -6,7 +6,7 @@ ghost use Rattle.bundle_model.specs.Counts.{Few, counts_in};
 ghost use Rattle.bundle_model.specs.Execute.{holding, CarriesOut};
 
 use crate::counting::add;
-use answers::Verdict;
+use answers::Refusal;
 use bundle_model::outcome::nothing;
 use bundle_model::{Carried, Counts};
 use bundle_writes::extra_cycles;
@@ -25,14 +25,11 @@ pub(crate) fn do_transfer(
     code: &[u8],
     delayed: bool,
     transfer: Transfer,
-) -> Carried
+) -> Result<Carried, Refusal>
     requires { (admits g ≡ true) × Few 4294967294 (counts_in counts.old) }
     ensures { (rs : List ℕ) (ps : List Bool) (b : Buffers) → CarriesOut g (setup_of code.now g) (holding rs ps core held) (Effect.Transfer delayed transfer) result b b held counts }
 {
-    let judged = judge_transfer(core, g, code, transfer);
-    if let Carried::Refused(n) = judged {
-        return Carried::Refused(n);
-    }
+    judge_transfer(core, g, code, transfer)?;
     let looked = look_up_transfer(g, code, &mut *held, transfer);
     add(
         &mut *counts,
@@ -45,7 +42,7 @@ pub(crate) fn do_transfer(
             fetched: looked.fetched as u64,
         },
     );
-    nothing()
+    Ok(nothing())
 }
 
 // A trap that neither 16 nor 17 refuses is judged, looked up and counted as a call of its handler.
@@ -57,13 +54,11 @@ pub(crate) fn do_trap(
     code: &[u8],
     vector: u32,
     handler: u32,
-) -> Carried
+) -> Result<Carried, Refusal>
     requires { (admits g ≡ true) × Few 4294967294 (counts_in counts.old) }
     ensures { (rs : List ℕ) (ps : List Bool) (b : Buffers) → CarriesOut g (setup_of code.now g) (holding rs ps core held) (Effect.Trap vector handler) result b b held counts }
 {
-    if let Verdict::Refused(n) = judge_trap(core, vector, handler) {
-        return Carried::Refused(n);
-    }
+    judge_trap(core, vector, handler)?;
     let call = Transfer::Call { target: handler };
     do_transfer(core, &mut *held, &mut *counts, g, code, false, call)
 }

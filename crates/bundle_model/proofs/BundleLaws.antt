@@ -1,8 +1,11 @@
 -- A bundle by what is fetched: refused, or executed.
-use Rattle.std.specs.Prelude.{ℕ, Bool, not, ◌&&◌, List, ◌≡◌}
+use Rattle.std.specs.Prelude.{ℕ, Bool, not, ◌&&◌, List, ◌≡◌, Ok, Err}
 use Rattle.std.proofs.Math.Bool.{true, false, cond}
 use Rattle.std.proofs.Math.Path.{refl, ap}
 use Rattle.std.proofs.Common.{◌∙◌}
+use Rattle.answers.specs.declared.Refusal.{Refusal}
+use Rattle.answers.specs.declared.Refusal.TheVariants as refusal
+use Rattle.answers.specs.Refusal.{number}
 use Rattle.answers.specs.Answer.{refused}
 use Rattle.answers.specs.TestLaws.{verdict_append}
 use Rattle.isa.specs.declared.Bundle.{Bundle}
@@ -11,7 +14,7 @@ use Rattle.settings.specs.declared.Settings.{Settings}
 use Rattle.settings.specs.Setup.{Setup, Buffers}
 use Rattle.settings.specs.Settings.{admits}
 use Rattle.replay.specs.Replay.{replay_ok}
-use Rattle.fetch.specs.declared.Fetched.TheVariants as fetch
+use Rattle.fetch.specs.declared.Fetched.{Fetched}
 use Rattle.fetch.specs.Fetch.{bundle_at, following_at, fetch_tests, fetched}
 use Rattle.fetch.specs.FetchLaws.{refused_verdict, found_verdict, found_bundle}
 use Rattle.effects.specs.Effect.{slot_one, slot_two}
@@ -23,23 +26,23 @@ use Rattle.bundle_model.specs.Bundle.{outcome, bundle, well_formed, readiness}
 use Rattle.bundle_model.specs.Execute.{executed}
 
 module _ (g : Settings) (x : Setup) (s : State) (b : Buffers) where
-  pub bundle_refused : (n : ℕ) → fetched x.code s.fetch ≡ fetch.Refused n → bundle g x s b ≡ outcome (refused n) s no_counts b
+  pub bundle_refused : (r : Refusal) → fetched x.code s.fetch ≡ Err r → bundle g x s b ≡ outcome (refused (number r)) s no_counts b
   unfolding bundle
-  bundle_refused n e =
-      rw (verdict_append (fetch_tests x.code s.fetch) (slot_tests g x s (slot_one (start_of x.table s) (bundle_at x.code s.fetch))), refused_verdict x.code s.fetch n e)
+  bundle_refused r e =
+      rw (verdict_append (fetch_tests x.code s.fetch) (slot_tests g x s (slot_one (start_of x.table s) (bundle_at x.code s.fetch))), refused_verdict x.code s.fetch r e)
 
-  pub bundle_found : (i : Bundle) (following : ℕ) → fetched x.code s.fetch ≡ fetch.Found i following
-      → bundle g x s b ≡ executed g x s (slot_one (start_of x.table s) i) (slot_two (start_of x.table s) i) following b
+  pub bundle_found : (f : Fetched) → fetched x.code s.fetch ≡ Ok f
+      → bundle g x s b ≡ executed g x s (slot_one (start_of x.table s) f.bundle) (slot_two (start_of x.table s) f.bundle) f.following b
   unfolding bundle executed
-  bundle_found i following e =
+  bundle_found f e =
       let there = bundle_at x.code s.fetch in
       let after = following_at x.code s.fetch in
-      let f = found_bundle x.code s.fetch i following e in
+      let told = found_bundle x.code s.fetch f e in
       let here : bundle g x s b ≡ executed g x s (slot_one (start_of x.table s) there) (slot_two (start_of x.table s) there) after b
-      = rw (verdict_append (fetch_tests x.code s.fetch) (slot_tests g x s (slot_one (start_of x.table s) there)), found_verdict x.code s.fetch i following e) in
+      = rw (verdict_append (fetch_tests x.code s.fetch) (slot_tests g x s (slot_one (start_of x.table s) there)), found_verdict x.code s.fetch f e) in
       here
-      ∙ ap (λ (j : Bundle). executed g x s (slot_one (start_of x.table s) j) (slot_two (start_of x.table s) j) after b) f.0
-      ∙ ap (λ (n : ℕ). executed g x s (slot_one (start_of x.table s) i) (slot_two (start_of x.table s) i) n b) f.1
+      ∙ ap (λ (j : Bundle). executed g x s (slot_one (start_of x.table s) j) (slot_two (start_of x.table s) j) after b) told.0
+      ∙ ap (λ (n : ℕ). executed g x s (slot_one (start_of x.table s) f.bundle) (slot_two (start_of x.table s) f.bundle) n b) told.1
 
 -- A bundle is tried under settings inside the limits, from a well-formed state that has not ended.
 module _ (g : Settings) (x : Setup) (s : State) where
@@ -48,7 +51,7 @@ module _ (g : Settings) (x : Setup) (s : State) where
   ready_all = go (admits g) (well_formed x s) (replay_ok x.list x.table) (ended s g.code) refl refl refl refl
     where
       go : (u y w z : Bool) → admits g ≡ u → well_formed x s ≡ y → replay_ok x.list x.table ≡ w → ended s g.code ≡ z
-          → cond (not u) (ready.Refused 1) (cond (not y) (ready.Refused 11) (cond (not w) (ready.Refused 15) (cond z ready.Ended ready.Ready))) ≡ ready.Ready → (admits g ≡ true) × (well_formed x s ≡ true) × (replay_ok x.list x.table ≡ true) × (ended s g.code ≡ false)
+          → cond (not u) (ready.Refused refusal.Limits) (cond (not y) (ready.Refused refusal.IllFormed) (cond (not w) (ready.Refused refusal.Replay) (cond z ready.Ended ready.Ready))) ≡ ready.Ready → (admits g ≡ true) × (well_formed x s ≡ true) × (replay_ok x.list x.table ≡ true) × (ended s g.code ≡ false)
       go true true true false p q v r e = (p, q, v, r)
       go true true true true p q v r e = (cc, cc, cc, cc)
       go true true false z p q v r e = (cc, cc, cc, cc)
@@ -70,7 +73,7 @@ module _ (g : Settings) (x : Setup) (s : State) where
 -- What is judged of a state whose blocks held are lent beside it, of what its parts were judged.
 pub ready_as : (g : Settings) (x : Setup) (s : State) (h : List ℕ) (a p q r e : Bool) → a ≡ admits g → p ≡ parts_ok s → q ≡ held_ok x.method x.code h → r ≡ replay_ok x.list x.table
     → e ≡ ended s g.code
-    → cond (not a) (ready.Refused 1) (cond (not (p && q)) (ready.Refused 11) (cond (not r) (ready.Refused 15) (cond e ready.Ended ready.Ready))) ≡ readiness g x (with_held s h)
+    → cond (not a) (ready.Refused refusal.Limits) (cond (not (p && q)) (ready.Refused refusal.IllFormed) (cond (not r) (ready.Refused refusal.Replay) (cond e ready.Ended ready.Ready))) ≡ readiness g x (with_held s h)
 unfolding readiness well_formed parts_ok ended
 ready_as g x s h a p q r e pa pp pq pr pe =
-    λ i. cond (not (pa i)) (ready.Refused 1) (cond (not (pp i && pq i)) (ready.Refused 11) (cond (not (pr i)) (ready.Refused 15) (cond (pe i) ready.Ended ready.Ready)))
+    λ i. cond (not (pa i)) (ready.Refused refusal.Limits) (cond (not (pp i && pq i)) (ready.Refused refusal.IllFormed) (cond (not (pr i)) (ready.Refused refusal.Replay) (cond (pe i) ready.Ended ready.Ready)))

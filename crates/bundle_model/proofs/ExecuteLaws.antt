@@ -1,13 +1,14 @@
 -- Laws of a decoded bundle: slot one carried out, and the bundle as a whole.
-use Rattle.std.specs.Prelude.{ℕ, ◌+◌, ◌-◌, ◌^◌, ◌≤◌, Bool, true, false, not, cond, ◌||◌, length, List, [], ◌++◌, ◌≡◌}
+use Rattle.std.specs.Prelude.{ℕ, ◌+◌, ◌-◌, ◌^◌, ◌≤◌, Bool, true, false, not, cond, ◌||◌, length, List, [], ◌++◌, ◌≡◌, Ok, Err, Result}
 use Rattle.std.proofs.Common.{append-nil, ◌∙◌, arith, add-zero}
 use Rattle.std.proofs.Math.Path.{refl, sym, ap}
+use Rattle.answers.specs.declared.Refusal.{Refusal}
+use Rattle.answers.specs.Refusal.{number}
 use Rattle.stack_cache.specs.declared.StackControl.{StackControl}
 use Rattle.stack_cache.specs.declared.StackControl.TheVariants.{Sres, Sens, Sfree, Sspill}
 use Rattle.stack_cache.specs.declared.Plan.{Plan}
-use Rattle.stack_cache.specs.declared.Plan.TheVariants as plan
 use Rattle.stack_control.specs.PlanLaws.{planned_told}
-use Rattle.stack_cache.specs.Stack.{bad_window, bad_amount, moved_outside, planned, top_after, spill_after, spills, fills}
+use Rattle.stack_cache.specs.Stack.{bad_window, bad_amount, moved_outside, planned, top_after, spill_after, spills, fills, moves}
 use Rattle.method_cache.specs.MethodCache.{misses, words_fetched}
 use Rattle.settings.specs.declared.Settings.{Settings}
 use Rattle.isa.specs.declared.AccessKind.{AccessKind}
@@ -20,12 +21,11 @@ use Rattle.effects.specs.declared.Transfer.{Transfer}
 use Rattle.effects.specs.declared.Transfer.TheVariants.{Br, Call, Block, Xret}
 use Rattle.effects.specs.declared.Effect.{Effect}
 use Rattle.effects.specs.declared.Effect.TheVariants as effect
-use Rattle.answers.specs.declared.Verdict.{Verdict}
-use Rattle.answers.specs.declared.Verdict.TheVariants.{Fine, Refused}
+use Rattle.answers.specs.declared.Refusal.TheVariants as refusal
 use Rattle.answers.specs.Answer.{done, refused}
-use Rattle.answers.specs.Test.{Test, verdict}
+use Rattle.answers.specs.Test.{Verdict, Test, verdict}
 use Rattle.settings.specs.Setup.{Setup, replaying, Buffers, buffers}
-use Rattle.bundle_model.specs.declared.Carried.TheVariants as carried
+use Rattle.bundle_model.specs.declared.Carried.{Carried}
 use Rattle.bundle_model.specs.declared.Counts.{Counts}
 use Rattle.bundle_model.specs.Lookup.{bases_of, lookups, lookup_tests, held_by}
 use Rattle.bundle_model.specs.Refusal.{effect_tests, slot_tests}
@@ -33,7 +33,7 @@ use Rattle.bundle_model.specs.Counts.{no_counts, plus, plus_plus}
 use Rattle.core_state.specs.Writes.{write_alu}
 use Rattle.bundle_model.specs.Bundle.{Outcome, outcome, counted, written, state_done, write_one, onward, undelayed_cycles, cycles_of, counts_of, buffers_after, refused_or, stack_moved}
 use Rattle.bundle_model.proofs.HeldLaws.{written_held}
-use Rattle.bundle_model.specs.Execute.{executed, CarriedOut, plainly, loading, carried_as, unless_refused, loaded_by, top_by, spill_by, carried_out, extra_cycles, extra_of, one_cycle, write_done, Moved}
+use Rattle.bundle_model.specs.Execute.{executed, CarriedOut, plainly, loading, carried_as, unless_refused, loaded_by, top_by, spill_by, carried_out, extra_cycles, extra_of, one_cycle, write_done, Moved, carrying}
 
 -- An effect that looks nothing up is refused as its own tests say.
 pub slot_plain : (g : Settings) (x : Setup) (s : State) (e : Effect) → lookups x e ≡ [] → slot_tests g x s e ≡ effect_tests g x s e
@@ -41,19 +41,19 @@ unfolding slot_tests lookup_tests
 slot_plain g x s e p = ap (λ (l : List ℕ). effect_tests g x s e ++ lookup_tests x.method x.code l) p ∙ append-nil (effect_tests g x s e)
 
 -- a stack instruction is refused as its plan is
-abbrev pub plan_verdict : Plan → Verdict
-plan_verdict (plan.Refused n) = Refused n
-plan_verdict (plan.Moves st ss j k) = Fine
+abbrev pub plan_verdict : Result Plan Refusal → Verdict
+plan_verdict (Err r) = Err r
+plan_verdict (Ok p) = Ok tt
 
 pub stack_tests_lem : (g : Settings) (x : Setup) (s : State) (c : StackControl) (n : ℕ) (m : Bool)
-    → verdict (effect_tests g x s (effect.Stack c n m)) ≡ cond (not m) (Refused 5) (plan_verdict (planned c g.words x.lo x.hi s.specials.st s.specials.ss n))
+    → verdict (effect_tests g x s (effect.Stack c n m)) ≡ cond (not m) (Err refusal.Misaligned) (plan_verdict (planned c g.words x.lo x.hi s.specials.st s.specials.ss n))
 unfolding verdict planned
 stack_tests_lem g x s c n m =
-    ap (λ (v : Verdict). cond (not m) (Refused 5) v)
+    ap (λ (v : Verdict). cond (not m) (Err refusal.Misaligned) v)
     (go (bad_window g.words s.specials.st s.specials.ss || bad_amount c g.words s.specials.st n) (moved_outside c g.words x.lo x.hi s.specials.st s.specials.ss n))
   where
-    go : (x y : Bool) → cond x (Refused 7) (cond y (Refused 8) Fine) ≡ plan_verdict (cond x (plan.Refused 7) (cond y (plan.Refused 8)
-        (plan.Moves (top_after c s.specials.st n) (spill_after c g.words s.specials.st s.specials.ss n) (length (spills c g.words s.specials.st s.specials.ss n)) (length (fills c s.specials.st s.specials.ss n)))))
+    go : (x y : Bool) → cond x (Err refusal.Window) (cond y (Err refusal.MoveOutside) (Ok tt)) ≡ plan_verdict (cond x (Err refusal.Window) (cond y (Err refusal.MoveOutside)
+        (Ok (moves (top_after c s.specials.st n) (spill_after c g.words s.specials.st s.specials.ss n) (length (spills c g.words s.specials.st s.specials.ss n)) (length (fills c s.specials.st s.specials.ss n))))))
     go true y = refl
     go false true = refl
     go false false = refl
@@ -69,9 +69,9 @@ one_way Sspill w st ss n j k p q r = absurd (r q)
 -- a stack instruction that its plan lets pass, carried out
 pub stack_carried : (g : Settings) (x : Setup) (s : State) (c : StackControl) (n : ℕ) (m : Bool)
     (main local cache main' cache' : List ℕ) (st' ss' j k : ℕ) → not m ≡ false
-    → planned c g.words x.lo x.hi s.specials.st s.specials.ss n ≡ plan.Moves st' ss' j k
+    → planned c g.words x.lo x.hi s.specials.st s.specials.ss n ≡ Ok (moves st' ss' j k)
     → Moved x.lo x.hi s.specials.ss j k main cache main' cache'
-    → carried_as (carried.Done 0 st' ss') (buffers main' local cache') ≡ carried_out g x s (effect.Stack c n m) (buffers main local cache)
+    → carried_as (Ok (carrying 0 st' ss')) (buffers main' local cache') ≡ carried_out g x s (effect.Stack c n m) (buffers main local cache)
 unfolding carried_out buffers_after stack_moved
 stack_carried g x s c n m main local cache main' cache' st' ss' j k p e v =
     let t = planned_told c g.words x.lo x.hi s.specials.st s.specials.ss n st' ss' j k e in
@@ -150,37 +150,40 @@ module _ (g : Settings) (x : Setup) (t : State) (h : List ℕ) (one : Effect) (t
   s : State
   s = with_held t h
 
-  -- The carried-out slot tells how the bundle was judged.
-  refused_verdict : (n : ℕ) (v : Verdict) → carried_as (carried.Refused n) b' ≡ unless_refused v b (carried_as (carried.Done (loaded_by b one) (top_by s one) (spill_by g s one)) (buffers_after g x s one b))
-      → (v ≡ Refused n) × (b ≡ b')
-  refused_verdict n Fine e =
-      let p : carried.Refused n ≡ carried.Done (loaded_by b one) (top_by s one) (spill_by g s one) = ap (λ (c : CarriedOut). c.carried) e in
-      (cc, cc)
-  refused_verdict n (Refused m) e =
-      let p : carried.Refused n ≡ carried.Refused m = ap (λ (c : CarriedOut). c.carried) e in
-      let k : n ≡ m = cc in
-      (ap Refused (sym k), sym (ap (λ (c : CarriedOut). c.buffers) e))
+  abbrev done_as : Result Carried Refusal
+  done_as = Ok (carrying (loaded_by b one) (top_by s one) (spill_by g s one))
 
-  pub executed_refused : (n : ℕ) (o : Outcome) (c d : Counts) (v : List ℕ) → carried_as (carried.Refused n) b' ≡ carried_out g x (with_held t h) one b
-      → o ≡ outcome (refused n) (with_held t v) d b' → v ≡ h → d ≡ plus c no_counts → o ≡ counted c (executed g x (with_held t h) one two following b)
+  -- The carried-out slot tells how the bundle was judged.
+  refused_verdict : (n : Refusal) (v : Verdict) → carried_as (Err n) b' ≡ unless_refused v b (carried_as done_as (buffers_after g x s one b)) → (v ≡ Err n) × (b ≡ b')
+  refused_verdict n (Ok tt) e =
+      let p : Err n ≡ done_as = ap (λ (c : CarriedOut). c.carried) e in
+      (cc, cc)
+  refused_verdict n (Err m) e =
+      let p : ◌≡◌ {A = Result Carried Refusal} (Err n) (Err m) = ap (λ (c : CarriedOut). c.carried) e in
+      let k : n ≡ m = cc in
+      (ap Err (sym k), sym (ap (λ (c : CarriedOut). c.buffers) e))
+
+  pub executed_refused : (n : Refusal) (o : Outcome) (c d : Counts) (v : List ℕ) → carried_as (Err n) b' ≡ carried_out g x (with_held t h) one b
+      → o ≡ outcome (refused (number n)) (with_held t v) d b' → v ≡ h → d ≡ plus c no_counts → o ≡ counted c (executed g x (with_held t h) one two following b)
   unfolding carried_out executed s
   executed_refused n o c d v e p q r =
       let f = refused_verdict n (verdict (slot_tests g x s one)) e in
       p
-      ∙ (λ i. outcome (refused n) (with_held t (q i)) (r i) (sym f.1 i))
+      ∙ (λ i. outcome (refused (number n)) (with_held t (q i)) (r i) (sym f.1 i))
       ∙ sym (ap (λ (w : Verdict). counted c (refused_or w s b (outcome done (state_done g x b s one two following) (counts_of g x s one) (buffers_after g x s one b)))) f.0)
 
-  done_verdict : (l st ss : ℕ) (v : Verdict) → carried_as (carried.Done l st ss) b' ≡ unless_refused v b (carried_as (carried.Done (loaded_by b one) (top_by s one) (spill_by g s one)) (buffers_after g x s one b))
-      → (v ≡ Fine) × (l ≡ loaded_by b one) × (st ≡ top_by s one) × (ss ≡ spill_by g s one) × (b' ≡ buffers_after g x s one b)
-  done_verdict l st ss Fine e =
-      let p : carried.Done l st ss ≡ carried.Done (loaded_by b one) (top_by s one) (spill_by g s one) = ap (λ (c : CarriedOut). c.carried) e in
-      (refl, cc, cc, cc, ap (λ (c : CarriedOut). c.buffers) e)
-  done_verdict l st ss (Refused m) e =
-      let p : carried.Done l st ss ≡ carried.Refused m = ap (λ (c : CarriedOut). c.carried) e in
+  done_verdict : (l st ss : ℕ) (v : Verdict) → carried_as (Ok (carrying l st ss)) b' ≡ unless_refused v b (carried_as done_as (buffers_after g x s one b))
+      → (v ≡ Ok tt) × (l ≡ loaded_by b one) × (st ≡ top_by s one) × (ss ≡ spill_by g s one) × (b' ≡ buffers_after g x s one b)
+  done_verdict l st ss (Ok tt) e =
+      let p : Ok (carrying l st ss) ≡ done_as = ap (λ (c : CarriedOut). c.carried) e in
+      let q : carrying l st ss ≡ carrying (loaded_by b one) (top_by s one) (spill_by g s one) = cc in
+      (refl, ap (λ (c : Carried). c.value) q, ap (λ (c : Carried). c.st) q, ap (λ (c : Carried). c.ss) q, ap (λ (c : CarriedOut). c.buffers) e)
+  done_verdict l st ss (Err m) e =
+      let p : ◌≡◌ {A = Result Carried Refusal} (Ok (carrying l st ss)) (Err m) = ap (λ (c : CarriedOut). c.carried) e in
       (cc, cc, cc, cc, cc)
 
   -- No test refuses a slot one that was done.
-  pub done_fine : (l st ss : ℕ) → carried_as (carried.Done l st ss) b' ≡ carried_out g x (with_held t h) one b → verdict (slot_tests g x (with_held t h) one) ≡ Fine
+  pub done_fine : (l st ss : ℕ) → carried_as (Ok (carrying l st ss)) b' ≡ carried_out g x (with_held t h) one b → verdict (slot_tests g x (with_held t h) one) ≡ Ok tt
   unfolding carried_out s
   done_fine l st ss e = (done_verdict l st ss (verdict (slot_tests g x s one)) e).0
 
@@ -190,7 +193,7 @@ module _ (g : Settings) (x : Setup) (t : State) (h : List ℕ) (one : Effect) (t
   unfolding written
   as_written l st ss pl pt ps = rw (pl, pt, ps, write_done_lem g b t (arrived (landed t)) one) refl
 
-  pub executed_done : (l st ss : ℕ) (o : Outcome) (c d : Counts) (u : State) (v : List ℕ) → carried_as (carried.Done l st ss) b' ≡ carried_out g x (with_held t h) one b
+  pub executed_done : (l st ss : ℕ) (o : Outcome) (c d : Counts) (u : State) (v : List ℕ) → carried_as (Ok (carrying l st ss)) b' ≡ carried_out g x (with_held t h) one b
       → o ≡ outcome done (with_held u v) d b' → u ≡ onward one t.transfer following (write_alu two (write_done one l st ss (arrived (landed t))))
       → v ≡ held_by x (with_held t h) one → d ≡ plus (plus c (extra_of g x (with_held t h) one)) one_cycle
       → o ≡ counted c (executed g x (with_held t h) one two following b)
@@ -222,7 +225,7 @@ executed_replay list table g x s (effect.Trap n handler) two following b = refl
 
 -- What a stack instruction counts, of its plan.
 pub stack_counted : (g : Settings) (x : Setup) (s : State) (c : StackControl) (n : ℕ) (m : Bool) (st' ss' j k : ℕ)
-    → planned c g.words x.lo x.hi s.specials.st s.specials.ss n ≡ plan.Moves st' ss' j k
+    → planned c g.words x.lo x.hi s.specials.st s.specials.ss n ≡ Ok (moves st' ss' j k)
     → record { bundles = 0; cycles = 0; spilled = j; filled = k; misses = 0; fetched = 0 } ≡ extra_of g x s (effect.Stack c n m)
 unfolding misses words_fetched
 stack_counted g x s c n m st' ss' j k e =

@@ -1,9 +1,9 @@
 -- "Doing a bundle": the writes in their order, the counts, and one bundle as a whole.
-use Rattle.std.specs.Prelude.{ℕ, ◌-◌, ◌^◌, Bool, not, cond, ◌&&◌, List, ◌++◌, length, take, drop}
-use Rattle.answers.specs.declared.Verdict.{Verdict}
-use Rattle.answers.specs.declared.Verdict.TheVariants as verdict
+use Rattle.std.specs.Prelude.{ℕ, ◌-◌, ◌^◌, Bool, not, cond, ◌&&◌, List, ◌++◌, length, take, drop, Ok, Err}
+use Rattle.answers.specs.declared.Refusal.TheVariants as refusal
+use Rattle.answers.specs.Refusal.{number}
 use Rattle.answers.specs.Answer.{Returned, accepted, done, ended, spent, refused}
-use Rattle.answers.specs.Test.{verdict}
+use Rattle.answers.specs.Test.{Verdict, verdict}
 use Rattle.stack_cache.specs.declared.StackControl.{StackControl}
 use Rattle.stack_cache.specs.Stack.{top_after, spill_after, spills, fills, spilled, filled}
 use Rattle.settings.specs.declared.Settings.{Settings}
@@ -131,15 +131,15 @@ pub record Stepped : Type 0 where
 abbrev pub returned : Answer → Returned
 returned Done = done
 returned Ended = ended
-returned (Refused n) = refused n
+returned (Refused r) = refused (number r)
 
 abbrev pub full : Stepped → Buffers → Outcome
 full r b = outcome (returned r.answer) r.state r.counts b
 
 -- A refused bundle leaves all as it was, and counts nothing.
 abbrev pub refused_or : Verdict → State → Buffers → Outcome → Outcome
-refused_or verdict.Fine s b other = other
-refused_or (verdict.Refused n) s b other = outcome (refused n) s no_counts b
+refused_or (Ok tt) s b other = other
+refused_or (Err r) s b other = outcome (refused (number r)) s no_counts b
 
 -- The bundle at the fetch address done or refused.
 unfoldable pub bundle : Settings → Setup → State → Buffers → Outcome
@@ -173,16 +173,16 @@ well_formed x s = parts_ok s && held_ok x.method x.code s.further.held
 -- What is judged before a bundle is tried: 1, 11, 15 and ended.
 unfoldable pub readiness : Settings → Setup → State → Readiness
 readiness g x s =
-    cond (not (admits g)) (ready.Refused 1)
-    (cond (not (well_formed x s)) (ready.Refused 11)
-    (cond (not (replay_ok x.list x.table)) (ready.Refused 15)
+    cond (not (admits g)) (ready.Refused refusal.Limits)
+    (cond (not (well_formed x s)) (ready.Refused refusal.IllFormed)
+    (cond (not (replay_ok x.list x.table)) (ready.Refused refusal.Replay)
     (cond (has_ended s g.code) ready.Ended ready.Ready)))
 
 -- Where a bundle is not to be tried, all is left as found.
 abbrev pub ready_or : Readiness → State → Buffers → Outcome → Outcome
 ready_or ready.Ready s b other = other
 ready_or ready.Ended s b other = outcome ended s no_counts b
-ready_or (ready.Refused n) s b other = outcome (refused n) s no_counts b
+ready_or (ready.Refused r) s b other = outcome (refused (number r)) s no_counts b
 
 -- A step: 1, 11, 15, ended, and then the bundle. An ended state stays as it is, and takes no record.
 unfoldable pub step : Setup → State → Buffers → Outcome

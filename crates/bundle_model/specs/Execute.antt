@@ -1,12 +1,11 @@
 -- Parts of a bundle, for the contracts of the functions that do it: the outcome of a decoded bundle.
-use Rattle.std.specs.Prelude.{ℕ, ◌-◌, Bool, cond, List, ◌≡◌}
+use Rattle.std.specs.Prelude.{ℕ, ◌-◌, Bool, cond, List, ◌≡◌, Ok, Err, Result}
+use Rattle.answers.specs.declared.Refusal.{Refusal}
 use Rattle.stack_cache.specs.Stack.{top_after, spill_after, below, above, spilled, filled}
 use Rattle.method_cache.specs.Words.{held_in, FixedHeld}
 use Rattle.settings.specs.declared.Settings.{Settings}
-use Rattle.answers.specs.declared.Verdict.{Verdict}
-use Rattle.answers.specs.declared.Verdict.TheVariants as verdict
 use Rattle.answers.specs.Answer.{done}
-use Rattle.answers.specs.Test.{verdict}
+use Rattle.answers.specs.Test.{Verdict, verdict}
 use Rattle.settings.specs.Setup.{Setup, Buffers, Lent}
 use Rattle.memory.specs.Access.{loaded_value}
 use Rattle.alu_effects.specs.declared.AluEffect.{AluEffect}
@@ -19,7 +18,6 @@ use Rattle.core_state.specs.State.{State, with_special, with_load, with_begun, w
 use Rattle.core_state.specs.Core.{joined, Registers, Predicates, found_state, left_state, Canonical}
 use Rattle.core_state.specs.Writes.{write_alu}
 use Rattle.bundle_model.specs.declared.Carried.{Carried}
-use Rattle.bundle_model.specs.declared.Carried.TheVariants as carried
 use Rattle.bundle_model.specs.declared.Counts.{Counts}
 use Rattle.bundle_model.specs.declared.Answer.{Answer}
 use Rattle.bundle_model.specs.declared.Bundled.{Bundled}
@@ -63,22 +61,28 @@ executed g x s one two following b =
 
 -- Slot one carried out on the stores, with the buffers that it leaves; refused, it leaves them as they were.
 pub record CarriedOut : Type 0 where
-  pub carried : Carried
+  pub carried : Result Carried Refusal
   pub buffers : Buffers
 
+abbrev pub carrying : ℕ → ℕ → ℕ → Carried
+carrying value st ss = record { value = value; st = st; ss = ss }
+
 -- Done with nothing to tell, and done with a value loaded.
-abbrev pub plainly : Carried
-plainly = carried.Done 0 0 0
+abbrev pub nothing : Carried
+nothing = carrying 0 0 0
 
-abbrev pub loading : ℕ → Carried
-loading v = carried.Done v 0 0
+abbrev pub plainly : Result Carried Refusal
+plainly = Ok nothing
 
-abbrev pub carried_as : Carried → Buffers → CarriedOut
+abbrev pub loading : ℕ → Result Carried Refusal
+loading v = Ok (carrying v 0 0)
+
+abbrev pub carried_as : Result Carried Refusal → Buffers → CarriedOut
 carried_as c b = record { carried = c; buffers = b }
 
 abbrev pub unless_refused : Verdict → Buffers → CarriedOut → CarriedOut
-unless_refused verdict.Fine b other = other
-unless_refused (verdict.Refused n) b other = carried_as (carried.Refused n) b
+unless_refused (Ok tt) b other = other
+unless_refused (Err r) b other = carried_as (Err r) b
 
 -- What it loads, and where it leaves st and ss.
 abbrev pub loaded_by : Buffers → Effect → ℕ
@@ -99,7 +103,7 @@ spill_by g s = on_effect 0 (λ c n m. spill_after c g.words s.specials.st s.spec
 
 unfoldable pub carried_out : Settings → Setup → State → Effect → Buffers → CarriedOut
 carried_out g x s one b =
-    unless_refused (verdict (slot_tests g x s one)) b (carried_as (carried.Done (loaded_by b one) (top_by s one) (spill_by g s one)) (buffers_after g x s one b))
+    unless_refused (verdict (slot_tests g x s one)) b (carried_as (Ok (carrying (loaded_by b one) (top_by s one) (spill_by g s one))) (buffers_after g x s one b))
 
 -- What slot one counts beside the one cycle that every bundle has.
 abbrev pub extra_cycles : Effect → ℕ
@@ -113,22 +117,22 @@ abbrev pub one_cycle : Counts
 one_cycle = record { bundles = 1; cycles = 1; spilled = 0; filled = 0; misses = 0; fetched = 0 }
 
 -- Where it is refused, nothing is counted, and the blocks held stay.
-abbrev pub counted_by : Carried → Counts → Counts
-counted_by (carried.Refused n) more = no_counts
-counted_by (carried.Done v st ss) more = more
+abbrev pub counted_by : Result Carried Refusal → Counts → Counts
+counted_by (Err r) more = no_counts
+counted_by (Ok d) more = more
 
-abbrev pub held_left : Carried → List ℕ → List ℕ → List ℕ
-held_left (carried.Refused n) before after = before
-held_left (carried.Done v st ss) before after = after
+abbrev pub held_left : Result Carried Refusal → List ℕ → List ℕ → List ℕ
+held_left (Err r) before after = before
+held_left (Ok d) before after = after
 
 -- In contracts, what carrying slot one out leaves of the blocks held, whose words are w and then v, and of the counts, c and then d.
-pub record Tallied (r : Carried) (g : Settings) (x : Setup) (s : State) (one : Effect) (w v c d : List ℕ) : Type 0 where
+pub record Tallied (r : Result Carried Refusal) (g : Settings) (x : Setup) (s : State) (one : Effect) (w v c d : List ℕ) : Type 0 where
   pub held : held_in v ≡ held_left r s.further.held (held_by x s one)
   pub counts : counts_in d ≡ plus (counts_in c) (counted_by r (extra_of g x s one))
   pub fixed : FixedHeld w → FixedHeld v
 
 -- In contracts, slot one carried out from a state, with all that it finds and leaves: the stores, the blocks held and the counts.
-abbrev pub CarriesOut : Settings → Setup → State → Effect → Carried → Buffers → Buffers → Lent → Lent → Type 0
+abbrev pub CarriesOut : Settings → Setup → State → Effect → Result Carried Refusal → Buffers → Buffers → Lent → Lent → Type 0
 CarriesOut g x s one r b b' held counts =
     (carried_as r b' ≡ carried_out g x s one b) × Tallied r g x s one held.entry.now held.exit.now counts.entry.now counts.exit.now
 

@@ -1,6 +1,7 @@
 -- Interrupts (request (vi) of document 02): when the record at the replay's place is taken, what refuses it, and the state from which the
 -- bundle that it is a part of is then done.
 use Rattle.std.specs.Prelude.{ℕ, Bool, cond, ◌&&◌, List, [], ◌∷◌, eqb}
+use Rattle.answers.specs.declared.Refusal.TheVariants as refusal
 use Rattle.answers.specs.Test.{Test, test}
 use Rattle.replay.specs.Replay.{handler_of, due_in}
 use Rattle.method_cache.specs.MethodCache.{held_after, misses, words_fetched}
@@ -23,7 +24,7 @@ entry_lookups x s = cond (due x s) (looked_up x (handler_due x s) (handler_due x
 
 -- 17 for a handler at 0, and right after it 13.
 unfoldable pub entry_tests : Setup → State → List Test
-entry_tests x s = cond (due x s) (test 17 (eqb (handler_due x s) 0) ∷ lookup_tests x.method x.code (entry_lookups x s)) []
+entry_tests x s = cond (due x s) (test refusal.NoHandler (eqb (handler_due x s) 0) ∷ lookup_tests x.method x.code (entry_lookups x s)) []
 
 -- The state from which the bundle is done: with the record taken if one is due, which enters the handler from the fetch address, and with the
 -- blocks held after the handler's lookup.

@@ -1,6 +1,7 @@
 -- A record that is due, and one that is not.
 use Rattle.std.specs.Prelude.{ℕ, Bool, true, false, cond, List, [], ◌∷◌, ◌≡◌, refl, eqb}
 use Rattle.std.proofs.Common.{sym, ap, ◌∙◌}
+use Rattle.answers.specs.declared.Refusal.TheVariants as refusal
 use Rattle.answers.specs.Test.{Test, test}
 use Rattle.method_cache.specs.MethodCache.{held_after}
 use Rattle.settings.specs.Setup.{Setup}
@@ -15,7 +16,7 @@ module _ (x : Setup) (s : State) where
   unfolding entry_lookups
   due_lookups e = rw e
 
-  pub due_tests : due x s ≡ true → entry_tests x s ≡ test 17 (eqb (handler_due x s) 0) ∷ lookup_tests x.method x.code (entry_lookups x s)
+  pub due_tests : due x s ≡ true → entry_tests x s ≡ test refusal.NoHandler (eqb (handler_due x s) 0) ∷ lookup_tests x.method x.code (entry_lookups x s)
   unfolding entry_tests
   due_tests e = rw e
 

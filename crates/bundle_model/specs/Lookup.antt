@@ -1,5 +1,6 @@
 -- Lookups in the method cache: which blocks slot one looks up, what 13 asks of them, and what they leave and count.
 use Rattle.std.specs.Prelude.{ℕ, not, cond, ◌&&◌, List, [], ◌∷◌, eqb, length}
+use Rattle.answers.specs.declared.Refusal.TheVariants as refusal
 use Rattle.answers.specs.Test.{Test, test}
 use Rattle.method_cache.specs.declared.Method.{Method}
 use Rattle.method_cache.specs.MethodCache.{bad_block, held_after, misses, words_fetched}
@@ -29,7 +30,7 @@ lookups x = on_effect [] (λ c n m. []) (λ d t. bases_of x t) (λ n handler. ba
 -- 13 of each base that is looked up.
 unfoldable pub lookup_tests : Method → List ℕ → List ℕ → List Test
 lookup_tests c code [] = []
-lookup_tests c code (b ∷ bs) = test 13 (bad_block c code b) ∷ lookup_tests c code bs
+lookup_tests c code (b ∷ bs) = test refusal.NoBlock (bad_block c code b) ∷ lookup_tests c code bs
 
 -- What the lookups of slot one leave held, how often they miss, and the words that they fetch.
 abbrev pub held_by : Setup → State → Effect → List ℕ

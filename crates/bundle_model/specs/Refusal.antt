@@ -1,5 +1,6 @@
 -- "Ends and refusals": the tests of a bundle, in the order in which they are judged.
 use Rattle.std.specs.Prelude.{ℕ, Bool, not, ◌||◌, List, [], ◌∷◌, ◌++◌, eqb, ltb}
+use Rattle.answers.specs.declared.Refusal.TheVariants as refusal
 use Rattle.answers.specs.Test.{Test, test}
 use Rattle.replay.specs.Replay.{greatest_vector}
 use Rattle.stack_cache.specs.declared.StackControl.{StackControl}
@@ -17,9 +18,9 @@ use Rattle.bundle_model.specs.Lookup.{lookups, lookup_tests}
 -- outside the stack area.
 abbrev pub stack_tests : Settings → Setup → ℕ → ℕ → StackControl → ℕ → Bool → List Test
 stack_tests g x st ss c n aligned =
-    test 5 (not aligned) ∷
-    test 7 (bad_window g.words st ss || bad_amount c g.words st n) ∷
-    test 8 (moved_outside c g.words x.lo x.hi st ss n) ∷
+    test refusal.Misaligned (not aligned) ∷
+    test refusal.Window (bad_window g.words st ss || bad_amount c g.words st n) ∷
+    test refusal.MoveOutside (moved_outside c g.words x.lo x.hi st ss n) ∷
     []
 
 -- A trap has no handler if its vector is not in the table, or the address there is 0.
@@ -37,8 +38,8 @@ effect_tests g x s (effect.Product l h) = []
 effect_tests g x s (effect.Load k w r a) = load_tests g x s.specials.st s.specials.ss k w a
 effect_tests g x s (effect.Store k w a v) = store_tests g x s.specials.st s.specials.ss k w a
 effect_tests g x s (effect.Stack c n m) = stack_tests g x s.specials.st s.specials.ss c n m
-effect_tests g x s (effect.Transfer d t) = test 4 (not (none_waits s.transfer)) ∷ []
-effect_tests g x s (effect.Trap n handler) = test 16 s.further.replay.active ∷ test 17 (no_handler n handler) ∷ test 4 (not (none_waits s.transfer)) ∷ []
+effect_tests g x s (effect.Transfer d t) = test refusal.TransferWaits (not (none_waits s.transfer)) ∷ []
+effect_tests g x s (effect.Trap n handler) = test refusal.HandlerActive s.further.replay.active ∷ test refusal.NoHandler (no_handler n handler) ∷ test refusal.TransferWaits (not (none_waits s.transfer)) ∷ []
 
 -- All tests of slot one: behind those of its effect is 13, of what it looks up.
 unfoldable pub slot_tests : Settings → Setup → State → Effect → List Test

@@ -5,22 +5,23 @@
 pub mod outcome;
 pub mod ready;
 
+use answers::Refusal;
 use core_state::Core;
 
-// What a step answers; Refused holds document 01's number.
+// What a step answers.
 #[derive(Clone, Copy)]
 pub enum Answer {
     Done,
     Ended,
-    Refused(u32),
+    Refused(Refusal),
 }
 
-// What is judged before a bundle is tried; Refused holds document 01's number.
+// What is judged before a bundle is tried.
 #[derive(Clone, Copy)]
 pub enum Readiness {
     Ready,
     Ended,
-    Refused(u32),
+    Refused(Refusal),
 }
 
 // The six counts.
@@ -49,10 +50,11 @@ pub struct Advanced {
     pub counts: Counts,
 }
 
-// Slot one carried out on the stores: refused with a number, or done. What is done tells the value that was loaded, and where a stack
-// instruction leaves st and ss; what does not apply is 0.
+// What slot one, carried out on the stores, tells: the value that was loaded, and where a stack instruction leaves st and ss; what does not
+// apply is 0.
 #[derive(Clone, Copy)]
-pub enum Carried {
-    Refused(u32),
-    Done { value: u32, st: u32, ss: u32 },
+pub struct Carried {
+    pub value: u32,
+    pub st: u32,
+    pub ss: u32,
 }

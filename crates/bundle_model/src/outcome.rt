@@ -1,17 +1,18 @@
 // What is given of a bundle that is refused or done, of slot one carried out, and of what was counted.
 ghost use Rattle.std.specs.Prelude.{◌≡◌};
 ghost use Rattle.bundle_model.specs.Counts.{no_counts, counts_in};
-ghost use Rattle.bundle_model.specs.Execute.{bundled, plainly};
+ghost use Rattle.bundle_model.specs.Execute.{bundled, nothing};
 
 use crate::{Answer, Bundled, Carried, Counts};
+use answers::Refusal;
 use core_state::Core;
 
 // A refused bundle changes nothing.
-pub fn refused(core: Core, n: u32) -> Bundled
-    ensures { result ≡ bundled (Answer.Refused n) core }
+pub fn refused(core: Core, refusal: Refusal) -> Bundled
+    ensures { result ≡ bundled (Answer.Refused refusal) core }
 {
     Bundled {
-        answer: Answer::Refused(n),
+        answer: Answer::Refused(refusal),
         core,
     }
 }
@@ -27,9 +28,9 @@ pub fn done(core: Core) -> Bundled
 
 // Slot one carried out, where it reads and writes no store or has nothing to tell.
 pub fn nothing() -> Carried
-    ensures { result ≡ plainly }
+    ensures { result ≡ nothing }
 {
-    Carried::Done {
+    Carried {
         value: 0,
         st: 0,
         ss: 0,

@@ -7,6 +7,7 @@ ghost use Rattle.core_state.specs.Core.{joined};
 ghost use Rattle.bundle_model.specs.Bundle.{readiness};
 
 use crate::Readiness;
+use answers::Refusal;
 use core_state::Core;
 use core_state::judged::{has_ended, parts_ok};
 use method_cache::lookup::held_ok;
@@ -27,14 +28,14 @@ pub fn readiness(
     ensures { result ≡ readiness g (replaying list.now table.now (setup_of code.now g)) (with_held (joined registers.now predicates.now core) (held_in held.now)) }
 {
     if !g.admits() {
-        return Readiness::Refused(1);
+        return Readiness::Refused(Refusal::Limits);
     }
     let method = g.method;
     if !(parts_ok(core, registers, predicates) & held_ok(method, code, held)) {
-        return Readiness::Refused(11);
+        return Readiness::Refused(Refusal::IllFormed);
     }
     if !replay_ok(list, table) {
-        return Readiness::Refused(15);
+        return Readiness::Refused(Refusal::Replay);
     }
     if has_ended(core, g.code) {
         return Readiness::Ended;

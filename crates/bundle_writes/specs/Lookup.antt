@@ -1,13 +1,12 @@
 -- The lookup of a transfer, for the contracts of the functions that do it.
-use Rattle.std.specs.Prelude.{ℕ, ◌/◌, Bool, true, false, ◌≡◌, refl, length}
+use Rattle.std.specs.Prelude.{ℕ, ◌/◌, Bool, true, false, ◌≡◌, length, Ok, Err}
 use Rattle.std.proofs.Math.Bool.{not, cond}
 use Rattle.std.proofs.lemmas.Bool.{false≢true}
 use mathlib.Core.List.{List, [], ◌∷◌}
 use Rattle.std.proofs.Math.Path.{sym, ap, subst}
 use Rattle.std.proofs.Common.{◌∙◌, add-zero}
-use Rattle.answers.specs.declared.Verdict.{Verdict}
-use Rattle.answers.specs.declared.Verdict.TheVariants.{Fine, Refused}
-use Rattle.answers.specs.Test.{Test, test, verdict}
+use Rattle.answers.specs.declared.Refusal.TheVariants as refusal
+use Rattle.answers.specs.Test.{Verdict, Test, test, verdict}
 use Rattle.method_cache.specs.declared.Looked.{Looked}
 use Rattle.method_cache.specs.MethodCache.{capacity_ok, bad_block, is_held, size_at, held_after, misses, words_fetched}
 use Rattle.method_cache.specs.Words.{held_in, FixedHeld, looked_words, words_after, looked_count}
@@ -17,11 +16,8 @@ use Rattle.effects.specs.declared.Transfer.{Transfer}
 use Rattle.effects.specs.declared.Transfer.TheVariants.{Br, Call, Block, Xret}
 use Rattle.core_state.specs.declared.WaitingTransfer.{WaitingTransfer}
 use Rattle.core_state.specs.State.{none_waits}
-use Rattle.bundle_model.specs.declared.Carried.{Carried}
-use Rattle.bundle_model.specs.declared.Carried.TheVariants as carried
 use Rattle.bundle_model.specs.Lookup.{bases_of, lookup_tests}
 use Rattle.bundle_model.specs.LookupLaws.{words_say, words_keep}
-use Rattle.bundle_model.specs.Execute.{plainly}
 
 -- The base that a transfer brings, and 0 for br.
 abbrev pub new_base : Transfer → ℕ
@@ -29,11 +25,6 @@ new_base (Br target) = 0
 new_base (Call target) = target
 new_base (Block target base) = base
 new_base (Xret target base) = base
-
--- A transfer that is judged has nothing else to tell.
-abbrev pub judged_as : Verdict → Carried
-judged_as Fine = plainly
-judged_as (Refused n) = carried.Refused n
 
 -- The words of the blocks held, w before and v after, and what was counted. Under a capacity that 1 lets pass the words say what is held.
 pub record LookedUp (g : Settings) (code : List ℕ) (t : Transfer) (w v : List ℕ) (r : Looked) : Type 0 where
@@ -81,26 +72,22 @@ module _ (g : Settings) (code : List ℕ) (t : Transfer) where
   bases_one true n e = e
   bases_one false n e = absurd (false≢true (sym n))
 
-  pub judged_none : [] ≡ bases_of (setup_of code g) t → Fine ≡ verdict (lookup_tests g.method code (bases_of (setup_of code g) t))
+  pub judged_none : [] ≡ bases_of (setup_of code g) t → (Ok tt) ≡ verdict (lookup_tests g.method code (bases_of (setup_of code g) t))
   unfolding verdict lookup_tests
   judged_none e = ap (λ (l : List ℕ). verdict (lookup_tests g.method code l)) e
 
   pub judged_one : (base : ℕ) (bad : Bool) → base ≡ new_base t → new_base t ∷ [] ≡ bases_of (setup_of code g) t → bad ≡ bad_block g.method code base
-      → cond bad (Refused 13) Fine ≡ verdict (lookup_tests g.method code (bases_of (setup_of code g) t))
+      → cond bad (Err refusal.NoBlock) (Ok tt) ≡ verdict (lookup_tests g.method code (bases_of (setup_of code g) t))
   unfolding verdict lookup_tests
   judged_one base bad b e p =
-      ap (λ (u : Bool). cond u (Refused 13) Fine) (p ∙ ap (bad_block g.method code) b) ∙ ap (λ (l : List ℕ). verdict (lookup_tests g.method code l)) e
+      ap (λ (u : Bool). cond u (Err refusal.NoBlock) (Ok tt)) (p ∙ ap (bad_block g.method code) b) ∙ ap (λ (l : List ℕ). verdict (lookup_tests g.method code l)) e
 
 -- A transfer judged: 4 while one waits, and else 13.
 module _ (w : WaitingTransfer) (ts : List Test) (none : Bool) (p : none ≡ none_waits w) where
-  pub transfer_waits : not none ≡ true → carried.Refused 4 ≡ judged_as (verdict (test 4 (not (none_waits w)) ∷ ts))
+  pub transfer_waits : not none ≡ true → Err refusal.TransferWaits ≡ verdict (test refusal.TransferWaits (not (none_waits w)) ∷ ts)
   unfolding verdict
-  transfer_waits e = ap (λ (u : Bool). judged_as (cond u (Refused 4) (verdict ts))) (sym e ∙ ap not p)
+  transfer_waits e = ap (λ (u : Bool). cond u (Err refusal.TransferWaits) (verdict ts)) (sym e ∙ ap not p)
 
-  pub transfer_judged : (v : Verdict) → not none ≡ false → v ≡ verdict ts → judged_as v ≡ judged_as (verdict (test 4 (not (none_waits w)) ∷ ts))
+  pub transfer_judged : (v : Verdict) → not none ≡ false → v ≡ verdict ts → v ≡ verdict (test refusal.TransferWaits (not (none_waits w)) ∷ ts)
   unfolding verdict
-  transfer_judged v e q = ap judged_as q ∙ ap (λ (u : Bool). judged_as (cond u (Refused 4) (verdict ts))) (sym e ∙ ap not p)
-
-pub judged_done : (v : Verdict) (l st ss : ℕ) → carried.Done l st ss ≡ judged_as v → plainly ≡ judged_as v
-judged_done Fine l st ss e = refl
-judged_done (Refused n) l st ss e = cc
+  transfer_judged v e q = q ∙ ap (λ (u : Bool). cond u (Err refusal.TransferWaits) (verdict ts)) (sym e ∙ ap not p)

@@ -6,7 +6,7 @@ ghost use Rattle.settings.specs.Setup.{setup_of};
 ghost use Rattle.bundle_model.specs.Lookup.{bases_of, lookup_tests};
 ghost use Rattle.bundle_writes.specs.Lookup.{new_base, LookedUp};
 
-use answers::Verdict;
+use answers::{Refusal, Verdict};
 use effects::Transfer;
 use method_cache::Looked;
 use method_cache::lookup::{is_bad, look_up};
@@ -43,12 +43,12 @@ pub fn judge_lookup(g: Settings, code: &[u8], t: Transfer) -> Verdict
 {
     let method = g.method;
     if !looks_up(g, code, t) {
-        return Verdict::Fine;
+        return Ok(());
     }
     if is_bad(method, code, new_base(t)) {
-        return Verdict::Refused(13);
+        return Err(Refusal::NoBlock);
     }
-    Verdict::Fine
+    Ok(())
 }
 
 // The lookup of a transfer, if it has one, and what it counts.

@@ -3,7 +3,6 @@ ghost use Rattle.std.specs.Prelude.{◌≡◌, not, List, [], ◌∷◌, ℕ, �
 ghost use Rattle.answers.specs.Test.{test, verdict};
 ghost use Rattle.bundle_model.specs.Lookup.{bases_of, lookup_tests};
 ghost use Rattle.bundle_model.specs.Refusal.{no_handler};
-ghost use Rattle.bundle_writes.specs.Lookup.{judged_as};
 ghost use Rattle.settings.specs.Setup.{buffers, found, left, setup_of};
 ghost use Rattle.memory.specs.Access.{store_scale, loaded_value, load_tests, stored, store_tests};
 ghost use Rattle.core_state.specs.State.{none_waits};
@@ -11,7 +10,7 @@ ghost use Rattle.core_state.specs.Core.{waiting_transfer};
 ghost use Rattle.bundle_model.specs.Execute.{plainly, loading, carried_as, unless_refused};
 
 use crate::lookup::judge_lookup;
-use answers::Verdict;
+use answers::{Refusal, Verdict};
 use bundle_model::Carried;
 use bundle_model::outcome::nothing;
 use core_state::Core;
@@ -32,17 +31,15 @@ pub fn do_load(
     main: &[u8],
     local: &[u8],
     cache: &[u32],
-) -> Carried
+) -> Result<Carried, Refusal>
     ensures { (code : List ℕ) → carried_as result (buffers main.now local.now cache.now) ≡ unless_refused (verdict (load_tests g (setup_of code g) st ss kind width address)) (buffers main.now local.now cache.now) (carried_as (loading (loaded_value (buffers main.now local.now cache.now) kind width address)) (buffers main.now local.now cache.now)) }
 {
-    if let Verdict::Refused(number) = judge_load(g, st, ss, kind, width, address) {
-        return Carried::Refused(number);
-    }
-    Carried::Done {
+    judge_load(g, st, ss, kind, width, address)?;
+    Ok(Carried {
         value: load(main, local, cache, kind, width, address),
         st: 0,
         ss: 0,
-    }
+    })
 }
 
 pub fn do_store(
@@ -56,12 +53,10 @@ pub fn do_store(
     main: &mut [u8],
     local: &mut [u8],
     cache: &mut [u32],
-) -> Carried
+) -> Result<Carried, Refusal>
     ensures { (code : List ℕ) → carried_as result (left main local cache) ≡ unless_refused (verdict (store_tests g (setup_of code g) st ss kind width address)) (found main local cache) (carried_as plainly (stored (found main local cache) kind (2 ^ store_scale width) address value)) }
 {
-    if let Verdict::Refused(number) = judge_store(g, st, ss, kind, width, address) {
-        return Carried::Refused(number);
-    }
+    judge_store(g, st, ss, kind, width, address)?;
     store(
         &mut *main,
         &mut *local,
@@ -71,32 +66,29 @@ pub fn do_store(
         address,
         value,
     );
-    nothing()
+    Ok(nothing())
 }
 
 // A trap is refused while a handler is active, and then where it has no handler.
 pub fn judge_trap(core: Core, vector: u32, handler: u32) -> Verdict
-    ensures { result ≡ verdict (test 16 core.replay.active ∷ test 17 (no_handler vector handler) ∷ []) }
+    ensures { result ≡ verdict (test Refusal.HandlerActive core.replay.active ∷ test Refusal.NoHandler (no_handler vector handler) ∷ []) }
 {
     if core.replay.active {
-        return Verdict::Refused(16);
+        return Err(Refusal::HandlerActive);
     }
     if (31 < vector) | (handler == 0) {
-        return Verdict::Refused(17);
+        return Err(Refusal::NoHandler);
     }
-    Verdict::Fine
+    Ok(())
 }
 
 // A transfer is refused while one waits, and then by what its lookup asks.
-pub fn judge_transfer(core: Core, g: Settings, code: &[u8], t: Transfer) -> Carried
-    ensures { result ≡ judged_as (verdict (test 4 (not (none_waits (waiting_transfer core.transfer))) ∷ lookup_tests g.method code.now (bases_of (setup_of code.now g) t))) }
+pub fn judge_transfer(core: Core, g: Settings, code: &[u8], t: Transfer) -> Verdict
+    ensures { result ≡ verdict (test Refusal.TransferWaits (not (none_waits (waiting_transfer core.transfer))) ∷ lookup_tests g.method code.now (bases_of (setup_of code.now g) t)) }
 {
     let waiting = core.transfer;
     if !none_waits(waiting) {
-        return Carried::Refused(4);
+        return Err(Refusal::TransferWaits);
     }
-    if let Verdict::Refused(number) = judge_lookup(g, code, t) {
-        return Carried::Refused(number);
-    }
-    nothing()
+    judge_lookup(g, code, t)
 }

@@ -1,15 +1,14 @@
 -- A bundle as it is tried, in both runs: an interrupt is due in both or in neither, is taken or refused alike, and the bundle is done from
 -- states that agree.
-use Rattle.std.specs.Prelude.{ℕ, ◌≤◌, Bool, true, false, ◌&&◌, ◌≡◌, refl, eqb, length}
+use Rattle.std.specs.Prelude.{ℕ, ◌≤◌, Bool, true, false, ◌&&◌, ◌≡◌, refl, eqb, length, Ok, Err}
 use Rattle.std.proofs.Math.Bool.{cond}
 use Rattle.std.proofs.lemmas.Bool.{false≢true}
 use mathlib.Core.List.{[], ◌∷◌}
 use Rattle.std.proofs.Common.{sym, ap, ◌∙◌}
 use Rattle.std.proofs.Math.Path.{subst}
-use Rattle.answers.specs.declared.Verdict.{Verdict}
-use Rattle.answers.specs.declared.Verdict.TheVariants.{Fine as Passing, Refused}
+use Rattle.answers.specs.declared.Refusal.TheVariants as refusal
 use Rattle.answers.specs.Answer.{Returned, accepted, done, ended, spent, refused}
-use Rattle.answers.specs.Test.{test, verdict as verdict_of}
+use Rattle.answers.specs.Test.{Verdict, test, verdict as verdict_of}
 use Rattle.replay.specs.Replay.{replay, handler_of, due_in, one_more}
 use Rattle.method_cache.specs.MethodCache.{held_after, misses, words_fetched}
 use Rattle.settings.specs.declared.Settings.{Settings}
@@ -45,7 +44,7 @@ module _ {m : Marking} (x : Setup) {s₁ s₂ : State} (a : SameState m s₁ s�
 
   entry_same : entry_tests x s₁ ≡ entry_tests x s₂
   unfolding entry_tests
-  entry_same = λ i. cond (due_same i) (test 17 (eqb (handler_same i) 0) ∷ lookup_tests x.method x.code (lookups_same i)) []
+  entry_same = λ i. cond (due_same i) (test refusal.NoHandler (eqb (handler_same i) 0) ∷ lookup_tests x.method x.code (lookups_same i)) []
 
   counted_same : entry_counts x s₁ ≡ entry_counts x s₂
   counted_same = λ i.
@@ -138,7 +137,7 @@ module _ {m : Marking} (g : Settings) (x : Setup) (ordered : x.lo ≤ x.hi) {s�
       same = taken_both x a.state
 
       -- The bundle's own answer is that of the whole.
-      free : (s : State) (b : Buffers) → Fine m x.code (taken x s).fetch → verdict_of (entry_tests x s) ≡ Passing
+      free : (s : State) (b : Buffers) → Fine m x.code (taken x s).fetch → verdict_of (entry_tests x s) ≡ Ok tt
           → ((n : ℕ) → (refused_or (verdict_of (entry_tests x s)) s b (made s b)).answer ≡ refused n → of_access n ≡ true
           → has_private_access m (bundle_at x.code (taken x s).fetch) ≡ true → ⊥)
           → has_private_access m (bundle_at x.code (taken x s).fetch) ≡ true → (n : ℕ) → (bundle g x (taken x s) b).answer ≡ refused n → ⊥
@@ -147,8 +146,8 @@ module _ {m : Marking} (g : Settings) (x : Setup) (ordered : x.lo ≤ x.hi) {s�
           (refused_for_access g x (taken x s) b n fine access q) access
 
       go : (v : Verdict) → verdict_of (entry_tests x s₁) ≡ v → out v v
-      go (Refused n) e = record { answer = refl; counts = refl; contents = a }
-      go Passing e =
+      go (Err n) e = record { answer = refl; counts = refl; contents = a }
+      go (Ok tt) e =
           finished_alike x a _ _ _ _ (counted_same x a.state)
           (bundle_alike g x ordered (record { state = same; buffers = a.buffers }) inside (taken_grounded x s₁ w₁) (taken_grounded x s₂ w₂) f
           (free s₁ b₁ f e n₁) (free s₂ b₂ (subst (Fine m x.code) same.fetch f) (sym (ap verdict_of (entry_same x a.state)) ∙ e) n₂))

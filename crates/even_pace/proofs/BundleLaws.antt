@@ -1,12 +1,10 @@
 -- The bundle at the fetch address in both runs: unless a load or store under a private guard is refused, it is answered and counted alike and leaves
 -- what agrees.
-use Rattle.std.specs.Prelude.{ℕ, ◌≤◌, Bool, true, false, ◌≡◌, refl, length, get_or}
+use Rattle.std.specs.Prelude.{ℕ, ◌≤◌, Bool, true, false, ◌≡◌, refl, length, get_or, Ok, Err}
 use Rattle.std.proofs.lemmas.Bool.{false≢true}
 use Rattle.std.proofs.Common.{sym, ap, subst, ◌∙◌}
 use Rattle.isa.specs.declared.Bundle.{Bundle}
 use Rattle.settings.specs.declared.Settings.{Settings}
-use Rattle.answers.specs.declared.Verdict.{Verdict}
-use Rattle.answers.specs.declared.Verdict.TheVariants.{Fine as Passing, Refused}
 use Rattle.answers.specs.Answer.{Returned, done, refused}
 use Rattle.effects.specs.Effect.{slot_one, slot_two}
 use Rattle.core_state.specs.State.{State, start_of}
@@ -27,7 +25,7 @@ use Rattle.even_pace.proofs.Alike.{AlikeEffect, same_effect, quiet_effects}
 use Rattle.even_pace.proofs.DoneLaws.{slot_both, lookups_quiet, counts_alike, done_alike}
 use Rattle.even_pace.proofs.SlotLaws.{SlotCase, public_slot, private_slot, bundle_one, bundle_two}
 use Rattle.settings.specs.Setup.{Buffers, Setup}
-use Rattle.answers.specs.Test.{verdict as verdict_of}
+use Rattle.answers.specs.Test.{Verdict, verdict as verdict_of}
 use Rattle.fetch.specs.Fetch.{is_undecodable, bundle_at, following_at}
 
 -- Outcomes that agree.
@@ -51,17 +49,17 @@ unfolding bundle verdict_of
 bundle_outcome g x s b f = rw (f.inside, f.decodable)
 
 -- Of the tests of slot one none of its effect refuses where none refuses.
-slot_passed : (g : Settings) (x : Setup) (s : State) (e : Effect) → verdict_of (slot_tests g x s e) ≡ Passing → Passed g x s e
+slot_passed : (g : Settings) (x : Setup) (s : State) (e : Effect) → verdict_of (slot_tests g x s e) ≡ Ok tt → Passed g x s e
 unfolding slot_tests
 slot_passed g x s e p = (fine_both (effect_tests g x s e) (lookup_tests x.method x.code (lookups x e)) p).0
 
 abbrev is_fine : Verdict → Bool
-is_fine Passing = true
-is_fine (Refused n) = false
+is_fine (Ok tt) = true
+is_fine (Err n) = false
 
 abbrev number_of : Verdict → ℕ
-number_of Passing = 0
-number_of (Refused n) = n
+number_of (Ok tt) = 0
+number_of (Err n) = n
 
 -- The predicates of a well-formed state.
 pub record Grounded (s : State) : Type 0 where
@@ -75,8 +73,8 @@ module _ {m : Marking} (g : Settings) (x : Setup) (ordered : x.lo ≤ x.hi) {s�
     NoStop : State → Buffers → Verdict → Type 0
     NoStop s b v = has_private_access m i ≡ true → (n : ℕ) → (refused_or v s b (done_of g x i following s b)).answer ≡ refused n → ⊥
 
-    done_both : AlikeEffect m (slot_one (start_of x.table s₁) i) (slot_one (start_of x.table s₂) i) → verdict_of (slot_tests g x s₁ (slot_one (start_of x.table s₁) i)) ≡ Passing
-        → verdict_of (slot_tests g x s₂ (slot_one (start_of x.table s₂) i)) ≡ Passing
+    done_both : AlikeEffect m (slot_one (start_of x.table s₁) i) (slot_one (start_of x.table s₂) i) → verdict_of (slot_tests g x s₁ (slot_one (start_of x.table s₁) i)) ≡ Ok tt
+        → verdict_of (slot_tests g x s₂ (slot_one (start_of x.table s₂) i)) ≡ Ok tt
         → SameOutcome m x (done_of g x i following s₁ b₁) (done_of g x i following s₂ b₂)
     done_both h p q =
         record {
@@ -102,16 +100,16 @@ module _ {m : Marking} (g : Settings) (x : Setup) (ordered : x.lo ≤ x.hi) {s�
         out z y = SameOutcome m x (refused_or z s₁ b₁ (done_of g x i following s₁ b₁)) (refused_or y s₂ b₂ (done_of g x i following s₂ b₂))
 
         judged : AlikeEffect m (slot_one (start_of x.table s₁) i) (slot_one (start_of x.table s₂) i) → (z y : Verdict) → v₁ ≡ z → v₂ ≡ y → z ≡ y → out z y
-        judged h Passing Passing p q e = done_both h p q
-        judged h Passing (Refused n) p q e = absurd (false≢true (sym (ap is_fine e)))
-        judged h (Refused n) Passing p q e = absurd (false≢true (ap is_fine e))
-        judged h (Refused n) (Refused k) p q e = record { answer = ap refused (ap number_of e); counts = refl; contents = a }
+        judged h (Ok tt) (Ok tt) p q e = done_both h p q
+        judged h (Ok tt) (Err n) p q e = absurd (false≢true (sym (ap is_fine e)))
+        judged h (Err n) (Ok tt) p q e = absurd (false≢true (ap is_fine e))
+        judged h (Err n) (Err k) p q e = record { answer = ap refused (ap number_of e); counts = refl; contents = a }
 
-        passes : (s : State) (b : Buffers) (v : Verdict) (access : Bool) → has_private_access m i ≡ access → (access ≡ false → v ≡ Passing)
-            → (has_private_access m i ≡ true → (n : ℕ) → (refused_or v s b (done_of g x i following s b)).answer ≡ refused n → ⊥) → v ≡ Passing
+        passes : (s : State) (b : Buffers) (v : Verdict) (access : Bool) → has_private_access m i ≡ access → (access ≡ false → v ≡ Ok tt)
+            → (has_private_access m i ≡ true → (n : ℕ) → (refused_or v s b (done_of g x i following s b)).answer ≡ refused n → ⊥) → v ≡ Ok tt
         passes s b v false e f h = f refl
-        passes s b Passing true e f h = refl
-        passes s b (Refused n) true e f h = absurd (h e n refl)
+        passes s b (Ok tt) true e f h = refl
+        passes s b (Err n) true e f h = absurd (h e n refl)
 
         go : SlotCase m g x s₁ s₂ (has_private_access m i) (slot_one (start_of x.table s₁) i) (slot_one (start_of x.table s₂) i) → out v₁ v₂
         go (public_slot h) = judged (same_effect h) v₁ v₂ refl refl (slot_both x g a.state h)

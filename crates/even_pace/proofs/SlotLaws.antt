@@ -1,5 +1,5 @@
 -- The slots of a bundle that keeps the rules, in two states that agree.
-use Rattle.std.specs.Prelude.{Bool, cond, ◌&&◌, ◌≡◌, length}
+use Rattle.std.specs.Prelude.{Bool, cond, ◌&&◌, ◌≡◌, length, Ok, Err}
 use Rattle.std.proofs.Math.Bool.{true, false}
 use Rattle.std.proofs.lemmas.Bool.{false≢true}
 use Rattle.std.proofs.Math.Path.{refl}
@@ -12,7 +12,6 @@ use Rattle.isa.specs.declared.Bundle.{Bundle}
 use Rattle.isa.specs.declared.Bundle.TheVariants.{Undecodable, One, Two, Long}
 use Rattle.word.specs.BoolLaws.{or_left, or_right}
 use Rattle.settings.specs.declared.Settings.{Settings}
-use Rattle.answers.specs.declared.Verdict.TheVariants as verdict
 use Rattle.alu_effects.specs.declared.AluEffect.TheVariants as alu
 use Rattle.effects.specs.declared.Effect.{Effect}
 use Rattle.effects.specs.declared.Effect.TheVariants as effect
@@ -35,8 +34,8 @@ use Rattle.settings.specs.Setup.{Setup}
 -- Slot one in both runs: the same effect; or effects that do not show, which only a load or store can have refused.
 pub data SlotCase (m : Marking) (g : Settings) (x : Setup) (s₁ s₂ : State) (access : Bool) (e₁ e₂ : Effect) : Type 0 where
   public_slot : SameEffect m e₁ e₂ → SlotCase m g x s₁ s₂ access e₁ e₂
-  private_slot : QuietEffect m e₁ → QuietEffect m e₂ → (access ≡ false → verdict_of (effect_tests g x s₁ e₁) ≡ verdict.Fine)
-      → (access ≡ false → verdict_of (effect_tests g x s₂ e₂) ≡ verdict.Fine)
+  private_slot : QuietEffect m e₁ → QuietEffect m e₂ → (access ≡ false → verdict_of (effect_tests g x s₁ e₁) ≡ Ok tt)
+      → (access ≡ false → verdict_of (effect_tests g x s₂ e₂) ≡ Ok tt)
       → SlotCase m g x s₁ s₂ access e₁ e₂
 
 instruction_keeps : (m : Marking) (p : Bool) (o : Operation) → ((r : Rule) → operation_breaks m p o r ≡ false) → Keeps m p o
@@ -45,7 +44,7 @@ instruction_keeps m p o h = record { a = h rule.A; b = h rule.B; c = h rule.C; d
 
 -- Under a private guard only a load or store can be refused.
 quiet_fine : (m : Marking) (g : Settings) (x : Setup) (s : State) (o : Operation) → Keeps m true o → (asked m o).access ≡ false
-    → verdict_of (effect_tests g x s (effect_of (start_of x.table s) o)) ≡ verdict.Fine
+    → verdict_of (effect_tests g x s (effect_of (start_of x.table s) o)) ≡ Ok tt
 unfolding asked breaks_a effect_of verdict_of
 quiet_fine m g x s (Alu o) k h = refl
 quiet_fine m g x s (Multiply f z y) k h = refl
@@ -58,7 +57,7 @@ quiet_fine m g x s (Transfer d t) k h = absurd (false≢true (sym k.a ∙ transf
 quiet_fine m g x s (Trap n) k h = absurd (false≢true (sym k.a))
 quiet_fine m g x s (Xret d) k h = absurd (false≢true (sym k.a))
 
-nothing_fine : (g : Settings) (x : Setup) (s : State) → verdict_of (effect_tests g x s (effect.Alu alu.Nothing)) ≡ verdict.Fine
+nothing_fine : (g : Settings) (x : Setup) (s : State) → verdict_of (effect_tests g x s (effect.Alu alu.Nothing)) ≡ Ok tt
 unfolding verdict_of
 nothing_fine g x s = refl
 
@@ -87,7 +86,7 @@ module _ {m : Marking} (g : Settings) (x : Setup) {s₁ s₂ : State} (a : SameS
       quiet s true k = operation_quiet m x.table s o k
       quiet s false k = quiet_alu quiet_none
 
-      fine : (s : State) (t : Bool) → Keeps m true o → access ≡ false → verdict_of (effect_tests g x s (e s t)) ≡ verdict.Fine
+      fine : (s : State) (t : Bool) → Keeps m true o → access ≡ false → verdict_of (effect_tests g x s (e s t)) ≡ Ok tt
       fine s true k q = quiet_fine m g x s o k q
       fine s false k q = nothing_fine g x s
 

@@ -1,5 +1,5 @@
 -- A bundle with a load or store under a private guard, at a walked address of accepted code, is refused for its access alone.
-use Rattle.std.specs.Prelude.{ℕ, ◌%◌, ◌^◌, Bool, not, cond, ◌≡◌, refl, eqb, get_or}
+use Rattle.std.specs.Prelude.{ℕ, ◌%◌, ◌^◌, Bool, not, cond, ◌≡◌, refl, eqb, get_or, Ok, Err}
 use Rattle.std.proofs.Math.Bool.{true, false}
 use Rattle.std.proofs.lemmas.Bool.{false≢true}
 use Rattle.std.proofs.Common.{sym, ap, subst, ◌∙◌}
@@ -11,8 +11,7 @@ use Rattle.isa.specs.declared.Bundle.{Bundle}
 use Rattle.isa.specs.declared.Bundle.TheVariants.{Undecodable, One, Two, Long}
 use Rattle.word.specs.BoolLaws.{and_right}
 use Rattle.settings.specs.declared.Settings.{Settings}
-use Rattle.answers.specs.declared.Verdict.{Verdict}
-use Rattle.answers.specs.declared.Verdict.TheVariants.{Fine as Passing, Refused}
+use Rattle.answers.specs.declared.Refusal.TheVariants as refusal
 use Rattle.answers.specs.Answer.{Returned, accepted, done, ended, spent, refused}
 use Rattle.memory.specs.Access.{load_scale, store_scale, bad_access, main_readable, main_writable, access_open, access_tests}
 use Rattle.alu_effects.specs.declared.AluEffect.TheVariants as alu
@@ -33,32 +32,32 @@ use Rattle.single_path.specs.CheckLaws.{Fine}
 use Rattle.even_pace.specs.Terms.{of_access, private_access, has_private_access}
 use Rattle.even_pace.proofs.BundleLaws.{done_of, bundle_outcome}
 use Rattle.settings.specs.Setup.{Buffers, Setup}
-use Rattle.answers.specs.Test.{verdict as verdict_of}
+use Rattle.answers.specs.Test.{Verdict, verdict as verdict_of}
 use Rattle.fetch.specs.Fetch.{bundle_at, following_at}
 
 abbrev number_of : ℕ → Verdict → ℕ
-number_of n Passing = n
-number_of n (Refused k) = k
+number_of n (Ok tt) = n
+number_of n (Err k) = k
 
 abbrev is_refusal : Verdict → Bool
-is_refusal Passing = false
-is_refusal (Refused n) = true
+is_refusal (Ok tt) = false
+is_refusal (Err n) = true
 
 module _ (g : Settings) (x : Setup) (s : State) (n : ℕ) where
   -- The three tests of an access.
-  three : (u y z : Bool) → cond u (Refused 5) (cond y (Refused 7) (cond z (Refused 6) Passing)) ≡ Refused n → of_access n ≡ true
+  three : (u y z : Bool) → cond u (Err refusal.Misaligned) (cond y (Err refusal.Window) (cond z (Err refusal.AccessOutside) (Ok tt))) ≡ Err n → of_access n ≡ true
   three true y z e = subst (λ (k : ℕ). of_access k ≡ true) (ap (number_of n) e) refl
   three false true z e = subst (λ (k : ℕ). of_access k ≡ true) (ap (number_of n) e) refl
   three false false true e = subst (λ (k : ℕ). of_access k ≡ true) (ap (number_of n) e) refl
   three false false false e = absurd (false≢true (ap is_refusal e))
 
-  tests_number : (main : Bool) (k : AccessKind) (a u : ℕ) → verdict_of (access_tests main g s.specials.st s.specials.ss k a u) ≡ Refused n
+  tests_number : (main : Bool) (k : AccessKind) (a u : ℕ) → verdict_of (access_tests main g s.specials.st s.specials.ss k a u) ≡ Err n
       → of_access n ≡ true
   unfolding verdict_of
   tests_number main k a u = three (not (eqb (a % u) 0)) (bad_access g s.specials.st s.specials.ss k) (not (access_open main g s.specials.st s.specials.ss k a u))
 
   access_number : (m : Marking) (o : Operation) → (asked m o).access ≡ true
-      → verdict_of (slot_tests g x s (effect_of (start_of x.table s) o)) ≡ Refused n → of_access n ≡ true
+      → verdict_of (slot_tests g x s (effect_of (start_of x.table s) o)) ≡ Err n → of_access n ≡ true
   unfolding asked effect_of verdict_of
   access_number m (Alu o) h e = absurd (false≢true (sym (ap (λ (u : Asked). u.access) (alu_row_lem m o)) ∙ h))
   access_number m (Multiply f u y) h e = absurd (false≢true h)
@@ -75,16 +74,16 @@ module _ (g : Settings) (x : Setup) (s : State) (n : ℕ) where
   access_number m (Trap k) h e = absurd (false≢true h)
   access_number m (Xret d) h e = absurd (false≢true h)
 
-  slot_number : (m : Marking) (i : Instruction) → private_access m i ≡ true → verdict_of (slot_tests g x s (slot_one_effect (start_of x.table s) i)) ≡ Refused n
+  slot_number : (m : Marking) (i : Instruction) → private_access m i ≡ true → verdict_of (slot_tests g x s (slot_one_effect (start_of x.table s) i)) ≡ Err n
       → of_access n ≡ true
   unfolding slot_one_effect verdict_of slot_tests lookup_tests
   slot_number m i h = go (holds s.predicates i.guard)
     where
-      go : (t : Bool) → verdict_of (slot_tests g x s (cond t (effect_of (start_of x.table s) i.operation) (effect.Alu alu.Nothing))) ≡ Refused n → of_access n ≡ true
+      go : (t : Bool) → verdict_of (slot_tests g x s (cond t (effect_of (start_of x.table s) i.operation) (effect.Alu alu.Nothing))) ≡ Err n → of_access n ≡ true
       go true e = access_number m i.operation (and_right (private_guard m i.guard) _ h) e
       go false e = absurd (false≢true (ap is_refusal e))
 
-  bundle_number : (m : Marking) (i : Bundle) → has_private_access m i ≡ true → verdict_of (slot_tests g x s (slot_one (start_of x.table s) i)) ≡ Refused n
+  bundle_number : (m : Marking) (i : Bundle) → has_private_access m i ≡ true → verdict_of (slot_tests g x s (slot_one (start_of x.table s) i)) ≡ Err n
       → of_access n ≡ true
   unfolding has_private_access
   bundle_number m Undecodable h e = absurd (false≢true h)
@@ -118,5 +117,5 @@ refused_for_access {m} g x s b n f h e =
 
     go : (v : Verdict) → verdict_of (slot_tests g x s (slot_one (start_of x.table s) i)) ≡ v
         → (refused_or v s b (done_of g x i (following_at x.code s.fetch) s b)).answer ≡ refused n → of_access n ≡ true
-    go Passing p q = absurd (false≢true (ap is_refused q))
-    go (Refused k) p q = bundle_number g x s n m i h (p ∙ ap Refused (ap answer_number q))
+    go (Ok tt) p q = absurd (false≢true (ap is_refused q))
+    go (Err k) p q = bundle_number g x s n m i h (p ∙ ap Err (ap answer_number q))

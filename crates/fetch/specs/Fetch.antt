@@ -1,15 +1,14 @@
 -- The bundle at an address: whether it lies in the code (2) and decodes (3), and the address that follows it.
-use Rattle.std.specs.Prelude.{ℕ, ◌+◌, ◌*◌, Bool, true, false, not, ◌||◌, List, [], ◌∷◌, ltb, length}
-use Rattle.answers.specs.declared.Verdict.{Verdict}
-use Rattle.answers.specs.declared.Verdict.TheVariants as verdict
-use Rattle.answers.specs.Test.{Test, test, verdict}
+use Rattle.std.specs.Prelude.{ℕ, ◌+◌, ◌*◌, Bool, true, false, not, ◌||◌, List, [], ◌∷◌, ltb, length, Result, Ok, Err}
+use Rattle.answers.specs.declared.Refusal.{Refusal}
+use Rattle.answers.specs.declared.Refusal.TheVariants as refusal
+use Rattle.answers.specs.Test.{Verdict, Test, test, verdict}
 use Rattle.word.specs.Word.{add, is_multiple_of4}
 use Rattle.big_endian.specs.Bytes.{word_at}
 use Rattle.isa.specs.declared.Bundle.{Bundle}
 use Rattle.isa.specs.declared.Bundle.TheVariants.{Undecodable, One, Two, Long}
 use Rattle.decoder.specs.Decode.{bundle_words, decode}
 use Rattle.fetch.specs.declared.Fetched.{Fetched}
-use Rattle.fetch.specs.declared.Fetched.TheVariants as fetch
 
 -- The bundle at an address, and the address after it.
 abbrev pub bundle_at : List ℕ → ℕ → Bundle
@@ -30,12 +29,15 @@ is_undecodable (Two i j) = false
 is_undecodable (Long i) = false
 
 abbrev pub fetch_tests : List ℕ → ℕ → List Test
-fetch_tests code a = test 2 (outside_code code a) ∷ test 3 (is_undecodable (bundle_at code a)) ∷ []
+fetch_tests code a = test refusal.OutsideCode (outside_code code a) ∷ test refusal.Undecodable (is_undecodable (bundle_at code a)) ∷ []
 
 -- The bundle with the address that follows it, unless it is refused.
-abbrev pub fetched_unless : Verdict → Bundle → ℕ → Fetched
-fetched_unless verdict.Fine b following = fetch.Found b following
-fetched_unless (verdict.Refused n) b following = fetch.Refused n
+abbrev pub fetching : Bundle → ℕ → Fetched
+fetching b following = record { bundle = b; following = following }
 
-unfoldable pub fetched : List ℕ → ℕ → Fetched
+abbrev pub fetched_unless : Verdict → Bundle → ℕ → Result Fetched Refusal
+fetched_unless (Ok tt) b following = Ok (fetching b following)
+fetched_unless (Err r) b following = Err r
+
+unfoldable pub fetched : List ℕ → ℕ → Result Fetched Refusal
 fetched code a = fetched_unless (verdict (fetch_tests code a)) (bundle_at code a) (following_at code a)

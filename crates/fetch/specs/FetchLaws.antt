@@ -1,17 +1,18 @@
 -- What a fetch tells, by its answer.
-use Rattle.std.specs.Prelude.{ℕ, ◌≤◌, Bool, not, cond, List, length}
+use Rattle.std.specs.Prelude.{ℕ, ◌≤◌, Bool, not, cond, List, length, Ok, Err}
 use Rattle.std.proofs.Math.Bool.{true, false}
 use Rattle.std.proofs.Math.Path.{◌≡◌, refl, ap}
 use Rattle.std.proofs.Common.{subst, arith, ltb-false}
-use Rattle.answers.specs.declared.Verdict.{Verdict}
-use Rattle.answers.specs.declared.Verdict.TheVariants as verdict
-use Rattle.answers.specs.Test.{verdict}
+use Rattle.answers.specs.declared.Refusal.TheVariants as refusal
+use Rattle.answers.specs.declared.Refusal.{Refusal}
+use Rattle.answers.specs.Refusal.{number}
+use Rattle.answers.specs.Test.{Verdict, verdict}
 use Rattle.answers.specs.TestLaws.{fine_applies}
 use Rattle.word.specs.Word.{is_multiple_of4}
 use Rattle.word.specs.BoolLaws.{or_right}
 use Rattle.isa.specs.declared.Bundle.{Bundle}
-use Rattle.fetch.specs.declared.Fetched.TheVariants as fetch
-use Rattle.fetch.specs.Fetch.{bundle_at, following_at, outside_code, is_undecodable, fetch_tests, fetched_unless, fetched}
+use Rattle.fetch.specs.declared.Fetched.{Fetched}
+use Rattle.fetch.specs.Fetch.{bundle_at, following_at, outside_code, is_undecodable, fetch_tests, fetching, fetched_unless, fetched}
 
 -- A bundle that lies in the code ends there.
 pub inside_end : (code : List ℕ) (a : ℕ) → outside_code code a ≡ false → following_at code a ≤ length code
@@ -20,55 +21,56 @@ inside_end code a e = ltb-false _ _ (or_right (not (is_multiple_of4 a)) _ e)
 
 module _ (code : List ℕ) (a : ℕ) where
   -- By the two tests.
-  pub fetched_outside : outside_code code a ≡ true → fetched code a ≡ fetch.Refused 2
+  pub fetched_outside : outside_code code a ≡ true → fetched code a ≡ Err refusal.OutsideCode
   unfolding fetched verdict
   fetched_outside p = rw p
 
-  pub fetched_undecodable : outside_code code a ≡ false → is_undecodable (bundle_at code a) ≡ true → fetched code a ≡ fetch.Refused 3
+  pub fetched_undecodable : outside_code code a ≡ false → is_undecodable (bundle_at code a) ≡ true → fetched code a ≡ Err refusal.Undecodable
   unfolding fetched verdict
   fetched_undecodable p q = rw (p, q)
 
-  pub fetched_found : outside_code code a ≡ false → is_undecodable (bundle_at code a) ≡ false → fetched code a ≡ fetch.Found (bundle_at code a) (following_at code a)
+  pub fetched_found : outside_code code a ≡ false → is_undecodable (bundle_at code a) ≡ false → fetched code a ≡ Ok (fetching (bundle_at code a) (following_at code a))
   unfolding fetched verdict
   fetched_found p q = rw (p, q)
 
   -- What is refused is refused by the verdict on the tests.
-  pub refused_verdict : (n : ℕ) → fetched code a ≡ fetch.Refused n → verdict (fetch_tests code a) ≡ verdict.Refused n
+  pub refused_verdict : (r : Refusal) → fetched code a ≡ Err r → verdict (fetch_tests code a) ≡ Err r
   unfolding fetched
-  refused_verdict n = go (verdict (fetch_tests code a))
+  refused_verdict r = go (verdict (fetch_tests code a))
     where
-      go : (v : Verdict) → fetched_unless v (bundle_at code a) (following_at code a) ≡ fetch.Refused n → v ≡ verdict.Refused n
-      go verdict.Fine e = cc
-      go (verdict.Refused m) e = let k : m ≡ n = cc in ap verdict.Refused k
+      go : (v : Verdict) → fetched_unless v (bundle_at code a) (following_at code a) ≡ Err r → v ≡ Err r
+      go (Ok tt) e = cc
+      go (Err m) e = let k : m ≡ r = cc in ap Err k
 
   -- What is found passed both tests, and is the bundle there with the address that follows.
-  pub found_verdict : (b : Bundle) (following : ℕ) → fetched code a ≡ fetch.Found b following → verdict (fetch_tests code a) ≡ verdict.Fine
+  pub found_verdict : (f : Fetched) → fetched code a ≡ Ok f → verdict (fetch_tests code a) ≡ Ok tt
   unfolding fetched
-  found_verdict b following = go (verdict (fetch_tests code a))
+  found_verdict f = go (verdict (fetch_tests code a))
     where
-      go : (v : Verdict) → fetched_unless v (bundle_at code a) (following_at code a) ≡ fetch.Found b following → v ≡ verdict.Fine
-      go verdict.Fine e = refl
-      go (verdict.Refused m) e = cc
+      go : (v : Verdict) → fetched_unless v (bundle_at code a) (following_at code a) ≡ Ok f → v ≡ Ok tt
+      go (Ok tt) e = refl
+      go (Err m) e = cc
 
-  pub found_bundle : (b : Bundle) (following : ℕ) → fetched code a ≡ fetch.Found b following → (bundle_at code a ≡ b) × (following_at code a ≡ following)
+  pub found_bundle : (f : Fetched) → fetched code a ≡ Ok f → (bundle_at code a ≡ f.bundle) × (following_at code a ≡ f.following)
   unfolding fetched
-  found_bundle b following = go (verdict (fetch_tests code a))
+  found_bundle f = go (verdict (fetch_tests code a))
     where
-      go : (v : Verdict) → fetched_unless v (bundle_at code a) (following_at code a) ≡ fetch.Found b following → (bundle_at code a ≡ b) × (following_at code a ≡ following)
-      go verdict.Fine e = (cc, cc)
-      go (verdict.Refused m) e = (cc, cc)
+      go : (v : Verdict) → fetched_unless v (bundle_at code a) (following_at code a) ≡ Ok f → (bundle_at code a ≡ f.bundle) × (following_at code a ≡ f.following)
+      go (Ok tt) e =
+          let same : fetching (bundle_at code a) (following_at code a) ≡ f = cc in
+          (ap (λ (y : Fetched). y.bundle) same, ap (λ (y : Fetched). y.following) same)
+      go (Err m) e = (cc, cc)
 
   -- What is found ends in the code.
-  pub found_inside : (b : Bundle) (following : ℕ) → fetched code a ≡ fetch.Found b following → following ≤ length code
-  found_inside b following e =
-      subst (λ (n : ℕ). n ≤ length code) (found_bundle b following e).1 (inside_end code a (fine_applies 2 (fetch_tests code a) (found_verdict b following e)))
+  pub found_inside : (f : Fetched) → fetched code a ≡ Ok f → f.following ≤ length code
+  found_inside f e = subst (λ (n : ℕ). n ≤ length code) (found_bundle f e).1 (inside_end code a (fine_applies 2 (fetch_tests code a) (found_verdict f e)))
 
   -- It is refused with 2 or 3.
-  pub refused_small : (n : ℕ) → fetched code a ≡ fetch.Refused n → n ≤ 3
+  pub refused_small : (r : Refusal) → fetched code a ≡ Err r → number r ≤ 3
   unfolding fetched verdict
-  refused_small n = go (outside_code code a) (is_undecodable (bundle_at code a))
+  refused_small r = go (outside_code code a) (is_undecodable (bundle_at code a))
     where
-      go : (u v : Bool) → fetched_unless (cond u (verdict.Refused 2) (cond v (verdict.Refused 3) verdict.Fine)) (bundle_at code a) (following_at code a) ≡ fetch.Refused n → n ≤ 3
-      go true v e = let k : 2 ≡ n = cc in omega (arith, k)
-      go false true e = let k : 3 ≡ n = cc in omega (arith, k)
-      go false false e = let k : ◌≡◌ {A = ℕ} 0 1 = cc in absurd (omega arith)
+      go : (u v : Bool) → fetched_unless (cond u (Err refusal.OutsideCode) (cond v (Err refusal.Undecodable) (Ok tt))) (bundle_at code a) (following_at code a) ≡ Err r → number r ≤ 3
+      go true v e = let k : refusal.OutsideCode ≡ r = cc in subst (λ (y : Refusal). number y ≤ 3) k (omega arith)
+      go false true e = let k : refusal.Undecodable ≡ r = cc in subst (λ (y : Refusal). number y ≤ 3) k (omega arith)
+      go false false e = cc

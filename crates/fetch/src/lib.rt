@@ -5,16 +5,17 @@ ghost use Rattle.std.specs.Prelude.{◌≡◌, ◌<◌};
 ghost use Rattle.decoder.specs.Decode.{bundle_words};
 ghost use Rattle.fetch.specs.Fetch.{is_undecodable, fetched};
 
+use answers::Refusal;
 use big_endian::read_word;
 use decoder::{bundle_words, decode};
 use isa::Bundle;
 use word::arithmetic::add;
 
-// Refused with 2 or 3, or the bundle and the address that follows it.
+// A bundle and the address that follows it.
 #[derive(Clone, Copy)]
-pub enum Fetched {
-    Refused(u32),
-    Found { bundle: Bundle, following: usize },
+pub struct Fetched {
+    pub bundle: Bundle,
+    pub following: usize,
 }
 
 fn words_of(first: u32) -> usize
@@ -37,21 +38,21 @@ fn is_undecodable(b: Bundle) -> bool
     }
 }
 
-// The bundle at an address: whether it lies in the code and decodes, and the address that follows it.
-pub fn fetch(code: &[u8], address: u32) -> Fetched
+// The bundle at an address, where it lies in the code and decodes, and the address that follows it.
+pub fn fetch(code: &[u8], address: u32) -> Result<Fetched, Refusal>
     ensures { result ≡ fetched code.now address }
 {
     if address % 4 != 0 {
-        return Fetched::Refused(2);
+        return Err(Refusal::OutsideCode);
     }
     let first = read_word(code, address);
     let following = (address as usize) + 4 * words_of(first);
     if code.len() < following {
-        return Fetched::Refused(2);
+        return Err(Refusal::OutsideCode);
     }
     let bundle = decode(first, read_word(code, add(address, 4)));
     if is_undecodable(bundle) {
-        return Fetched::Refused(3);
+        return Err(Refusal::Undecodable);
     }
-    Fetched::Found { bundle, following }
+    Ok(Fetched { bundle, following })
 }

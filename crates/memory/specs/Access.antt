@@ -11,6 +11,7 @@ use Rattle.isa.specs.declared.StoreWidth.TheVariants as store
 use Rattle.stack_cache.specs.Stack.{bad_window, cache_number, put_cache_number}
 use Rattle.settings.specs.declared.Settings.{Settings}
 use Rattle.settings.specs.Setup.{Setup, Buffers, buffers, touches_stack}
+use Rattle.answers.specs.declared.Refusal.TheVariants as refusal
 use Rattle.answers.specs.Test.{Test, test}
 
 -- The bytes of an access are 2 ^ scale, and its immediate counts in them.
@@ -82,7 +83,7 @@ access_open main g st ss Main a n = main
 -- not open to it.
 abbrev pub access_tests : Bool → Settings → ℕ → ℕ → AccessKind → ℕ → ℕ → List Test
 access_tests main g st ss k a n =
-    test 5 (not (eqb (a % n) 0)) ∷ test 7 (bad_access g st ss k) ∷ test 6 (not (access_open main g st ss k a n)) ∷ []
+    test refusal.Misaligned (not (eqb (a % n) 0)) ∷ test refusal.Window (bad_access g st ss k) ∷ test refusal.AccessOutside (not (access_open main g st ss k a n)) ∷ []
 
 abbrev pub load_tests : Settings → Setup → ℕ → ℕ → AccessKind → LoadWidth → ℕ → List Test
 load_tests g x st ss k w a = access_tests (main_readable g x a (2 ^ load_scale w)) g st ss k a (2 ^ load_scale w)

@@ -5,7 +5,7 @@ ghost use Rattle.settings.specs.Setup.{setup_of};
 ghost use Rattle.memory.specs.Access.{is_stack, main_open, main_readable, main_writable, access_open, access_tests, load_tests, store_tests};
 
 use crate::width::{load_size, store_size};
-use answers::Verdict;
+use answers::{Refusal, Verdict};
 use isa::{AccessKind, LoadWidth, StoreWidth};
 use settings::Settings;
 
@@ -61,16 +61,16 @@ fn judge(main: bool, g: Settings, st: u32, ss: u32, kind: AccessKind, a: u32, n:
     ensures { result ≡ verdict (access_tests main g st ss kind a n) }
 {
     if a % n != 0 {
-        return Verdict::Refused(5);
+        return Err(Refusal::Misaligned);
     }
     let bad = stack_cache::window::bad_window(g.words, st, ss);
     if is_stack(kind) & bad {
-        return Verdict::Refused(7);
+        return Err(Refusal::Window);
     }
     if access_open(main, g, st, ss, kind, a, n) {
-        return Verdict::Fine;
+        return Ok(());
     }
-    Verdict::Refused(6)
+    Err(Refusal::AccessOutside)
 }
 
 pub fn judge_load(

@@ -1,6 +1,6 @@
 -- A box that was opened for C goes on: a step or a run from the record that was written does what it does from the opened state.
 use Prim.Native.Nat.{ℕ, zero, suc, ◌-◌, ◌<◌, ◌≤◌, ◌^◌}
-use Rattle.std.specs.Prelude.{Bool, not, cond, ◌≡◌, ltb, take, replicate}
+use Rattle.std.specs.Prelude.{Bool, not, cond, ◌≡◌, ltb, take, replicate, Ok, Err}
 use Rattle.std.proofs.Math.Bool.{true, false}
 use Rattle.std.proofs.lemmas.Bool.{false≢true}
 use mathlib.Core.List.{List, [], ◌∷◌, ◌++◌}
@@ -13,7 +13,6 @@ use Rattle.std.proofs.Math.Seq.{take-append_seam}
 use Rattle.stack_cache.specs.Stack.{is_cache_size}
 use Rattle.word.specs.Word.{is_multiple_of4}
 use Rattle.word.specs.BoolLaws.{and_right}
-use Rattle.answers.specs.declared.Verdict.TheVariants.{Fine, Refused}
 use Rattle.answers.specs.Answer.{accepted, refused}
 use Rattle.sections.specs.Words.{AreWords, over}
 use Rattle.sections.specs.Sections.{joined}
@@ -147,7 +146,7 @@ module _ (x : Setup) (w entry : ℕ) (main local out : List ℕ) where
     unfolding opened_record
     hands = rw (a, le-ltb (length out) (longest w) room) refl
 
-    pub not_opened : (n : ℕ) → r.answer ≡ Refused n → called_of n main local out ≡ called given
+    pub not_opened : (n : ℕ) → r.answer ≡ Err n → called_of n main local out ≡ called given
     unfolding answer_number
     not_opened n f = go (entry_ok (length x.code) entry) opens ∙ ap called hands
       where
@@ -155,7 +154,7 @@ module _ (x : Setup) (w entry : ℕ) (main local out : List ℕ) where
         go true h = let z : refused n ≡ accepted = sym (ap returned f) ∙ ap (λ (o : Open). o.answer) h in absurd (false≢true cc)
         go false h = let z : refused n ≡ refused 2 = sym (ap returned f) ∙ ap (λ (o : Open). o.answer) h in let same : n ≡ 2 = cc in ap (λ (k : ℕ). called_of k main local out) same
 
-    pub is_opened : (n : ℕ) (after : List ℕ) → r.answer ≡ Fine → written_of n after ≡ writing (box (state_of r.state) l no_counts) out → called_of 0 main local after ≡ called given
+    pub is_opened : (n : ℕ) (after : List ℕ) → r.answer ≡ Ok tt → written_of n after ≡ writing (box (state_of r.state) l no_counts) out → called_of 0 main local after ≡ called given
     unfolding answer_number writing
     is_opened n after f put = go (entry_ok (length x.code) entry) opens ∙ ap called hands
       where

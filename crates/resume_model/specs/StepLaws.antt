@@ -2,6 +2,7 @@
 use Rattle.std.specs.Prelude.{ℕ, zero, Bool, false, true, not, cond, ◌||◌, List, ◌≡◌, refl, eqb, ltb, length}
 use Rattle.std.proofs.lemmas.Bool.{false≢true}
 use Rattle.std.proofs.Common.{sym, ap, ◌∙◌}
+use Rattle.answers.specs.Refusal.{number}
 use Rattle.answers.specs.Answer.{Returned, accepted, done, ended, spent, refused}
 use Rattle.settings.specs.Setup.{Setup, Buffers, buffers, settings, lent}
 use Rattle.settings.specs.Settings.{admits}
@@ -36,7 +37,7 @@ after_done x o d one = go (readiness (lent x o.buffers) x o.state)
     go : (r : Readiness) → o ≡ answered (counted o.counts (ready_or r o.state o.buffers (outcome spent o.state no_counts o.buffers)))
     go ready.Ready = λ i. outcome ((d ∙ sym (ap (λ (n : ℕ). cond (eqb n 1) done spent) count)) i) o.state (sym (plus_none o.counts) i) o.buffers
     go ready.Ended = λ i. outcome ((d ∙ sym (ap (λ (n : ℕ). cond (eqb n 1) done ended) count)) i) o.state (sym (plus_none o.counts) i) o.buffers
-    go (ready.Refused k) = λ i. outcome ((d ∙ sym (ap (λ (n : ℕ). cond (eqb n 1) done (refused k)) count)) i) o.state (sym (plus_none o.counts) i) o.buffers
+    go (ready.Refused k) = λ i. outcome ((d ∙ sym (ap (λ (n : ℕ). cond (eqb n 1) done (refused (number k))) count)) i) o.state (sym (plus_none o.counts) i) o.buffers
 
 step_run : (x : Setup) (s : State) (b : Buffers) → step x s b ≡ answered (run x 1 s b)
 unfolding run as_step

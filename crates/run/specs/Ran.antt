@@ -1,6 +1,7 @@
 -- What a run gives, as the outcome of a run.
 use Rattle.std.specs.Prelude.{Bool, cond, ◌≡◌, refl, length}
 use Rattle.std.proofs.Common.{ap, ◌∙◌}
+use Rattle.answers.specs.Refusal.{number}
 use Rattle.answers.specs.Answer.{Returned, ended, spent, refused}
 use Rattle.settings.specs.Setup.{Setup, Buffers}
 use Rattle.core_state.specs.State.{State, ended as has_ended}
@@ -18,7 +19,7 @@ use Rattle.run.specs.declared.Ran.{Ran}
 abbrev pub returned : RunAnswer → Returned
 returned answer.Ended = ended
 returned answer.Spent = spent
-returned (answer.Refused n) = refused n
+returned (answer.Refused r) = refused (number r)
 
 -- The outcome of what a run gives back, with the buffers that it leaves.
 abbrev pub whole : Ran → Buffers → Outcome
@@ -28,7 +29,7 @@ whole r b = outcome (returned r.answer) (state_of r.state) r.counts b
 abbrev pub ends_with : Answer → Bool → Returned
 ends_with Done t = cond t ended spent
 ends_with Ended t = ended
-ends_with (Refused n) t = refused n
+ends_with (Refused r) t = refused (number r)
 
 -- So the end of what was advanced is the run's.
 pub ends_as : (x : Setup) (a : Answer) (t : Bool) (q : RunAnswer) (s s' : State) (c : Counts) (b : Buffers) → returned q ≡ ends_with a t

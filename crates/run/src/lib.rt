@@ -9,6 +9,7 @@ ghost use Rattle.state.specs.Whole.{state_of};
 ghost use Rattle.run_model.specs.Run.{run};
 ghost use Rattle.run.specs.Ran.{returned, ends_with, whole};
 
+use answers::Refusal;
 use bundle::advance::advance;
 use bundle_model::{Answer, Counts};
 use core_state::judged::has_ended;
@@ -16,12 +17,12 @@ use method_cache::words::tidy;
 use settings::Config;
 use state::State;
 
-// What a run answers; Refused holds document 01's number.
+// What a run answers: a way to end more than a Result has.
 #[derive(Clone, Copy)]
 pub enum RunAnswer {
     Ended,
     Spent,
-    Refused(u32),
+    Refused(Refusal),
 }
 
 // A run's answer, with the state handed back and the counts of the bundles done.
@@ -37,7 +38,7 @@ fn at_end(a: Answer, ended: bool) -> RunAnswer
     ensures { returned result ≡ ends_with a ended }
 {
     match a {
-        Answer::Refused(n) => RunAnswer::Refused(n),
+        Answer::Refused(refusal) => RunAnswer::Refused(refusal),
         Answer::Ended => RunAnswer::Ended,
         Answer::Done => {
             if ended {

@@ -3,6 +3,7 @@ use Prim.Native.Nat.{ℕ, zero, suc, ◌+◌}
 use Rattle.std.specs.Prelude.{false, List, [], ◌∷◌, ◌≡◌}
 use Rattle.std.proofs.Math.Path.{refl, sym, ap}
 use Rattle.std.proofs.Common.{◌∙◌, arith}
+use Rattle.answers.specs.Refusal.{number}
 use Rattle.answers.specs.Answer.{Returned, accepted, done, ended, spent, refused}
 use Rattle.core_state.specs.State.{State}
 use Rattle.bundle_model.specs.declared.Counts.{Counts}
@@ -44,7 +45,7 @@ step_spent x s b e = go (readiness (lent x b) x s) refl
         attempt_cases (lent x b) x s b (λ o. o.answer ≡ spent → (i k : ℕ) → i ≡ k) (λ n j q i k. cc) (λ j q i k. cc)
         (ap (λ (o : Outcome). o.answer) (sym (step_readiness x s b Ready p)) ∙ e)
     go Ended p = λ i k. let q : ended ≡ spent = ap (λ (o : Outcome). o.answer) (sym (step_readiness x s b Ended p)) ∙ e in cc
-    go (Refused n) p = λ i k. let q : refused n ≡ spent = ap (λ (o : Outcome). o.answer) (sym (step_readiness x s b (Refused n) p)) ∙ e in cc
+    go (Refused r) p = λ i k. let q : refused (number r) ≡ spent = ap (λ (o : Outcome). o.answer) (sym (step_readiness x s b (Refused r) p)) ∙ e in cc
 
 module _ (x : Setup) (s : State) (b : Buffers) (before : Counts) where
   -- The rest of a run after a step, and the list of tried bundles from it on, by what the step gives.

@@ -1,14 +1,16 @@
 -- The numbers that steps and runs are refused with: never 10; and where 1 lets the settings pass and 11 the state, those behind them.
 use Prim.Native.Nat.{ℕ, zero, suc}
-use Rattle.std.specs.Prelude.{Bool, not, ◌&&◌, ◌||◌, List, [], ◌∷◌, ◌++◌, ◌≡◌, eqb}
+use Rattle.std.specs.Prelude.{Bool, not, ◌&&◌, ◌||◌, List, [], ◌∷◌, ◌++◌, ◌≡◌, eqb, Ok, Err}
 use Rattle.std.proofs.Math.Bool.{true, false, cond}
 use Rattle.std.proofs.lemmas.Bool.{false≢true}
 use Rattle.std.proofs.Math.Path.{refl, ap, subst}
 use Rattle.std.proofs.Common.{◌∙◌}
+use Rattle.answers.specs.declared.Refusal.{Refusal}
+use Rattle.answers.specs.Refusal.{number}
 use Rattle.word.specs.BoolLaws.{and_left, and_right}
+use Rattle.answers.specs.declared.Refusal.TheVariants as refusal
 use Rattle.answers.specs.Answer.{Returned, accepted, done, ended, spent, refused}
 use Rattle.answers.specs.Test.{Test, test, verdict}
-use Rattle.answers.specs.declared.Verdict.TheVariants as verdict
 use Rattle.method_cache.specs.declared.Method.{Method}
 use Rattle.settings.specs.declared.Settings.{Settings}
 use Rattle.settings.specs.Settings.{admits}
@@ -38,22 +40,22 @@ among (m ∷ ms) n = eqb n m || among ms n
 
 abbrev numbered : List ℕ → List Test → Bool
 numbered ns [] = true
-numbered ns (t ∷ ts) = among ns t.number && numbered ns ts
+numbered ns (t ∷ ts) = among ns (number t.refusal) && numbered ns ts
 
 numbered_append : (ns : List ℕ) (ts us : List Test) → numbered ns ts ≡ true → numbered ns us ≡ true → numbered ns (ts ++ us) ≡ true
 numbered_append ns [] us p q = q
 numbered_append ns (t ∷ ts) us p q =
-    rw (and_left (among ns t.number) (numbered ns ts) p, numbered_append ns ts us (and_right (among ns t.number) (numbered ns ts) p) q) refl
+    rw (and_left (among ns (number t.refusal)) (numbered ns ts) p, numbered_append ns ts us (and_right (among ns (number t.refusal)) (numbered ns ts) p) q) refl
 
-numbered_refused : (ns : List ℕ) (ts : List Test) (n : ℕ) → numbered ns ts ≡ true → verdict ts ≡ verdict.Refused n → among ns n ≡ true
+numbered_refused : (ns : List ℕ) (ts : List Test) (r : Refusal) → numbered ns ts ≡ true → verdict ts ≡ Err r → among ns (number r) ≡ true
 unfolding verdict
-numbered_refused ns [] n p e = cc
-numbered_refused ns (t ∷ ts) n p e =
-    go t.applies e (and_left (among ns t.number) (numbered ns ts) p) (numbered_refused ns ts n (and_right (among ns t.number) (numbered ns ts) p))
+numbered_refused ns [] r p e = cc
+numbered_refused ns (t ∷ ts) r p e =
+    go t.applies e (and_left (among ns (number t.refusal)) (numbered ns ts) p) (numbered_refused ns ts r (and_right (among ns (number t.refusal)) (numbered ns ts) p))
   where
-    go : (a : Bool) → cond a (verdict.Refused t.number) (verdict ts) ≡ verdict.Refused n → among ns t.number ≡ true
-        → (verdict ts ≡ verdict.Refused n → among ns n ≡ true) → among ns n ≡ true
-    go true f q h = let same : t.number ≡ n = cc in subst (λ (m : ℕ). among ns m ≡ true) same q
+    go : (a : Bool) → cond a (Err t.refusal) (verdict ts) ≡ Err r → among ns (number t.refusal) ≡ true
+        → (verdict ts ≡ Err r → among ns (number r) ≡ true) → among ns (number r) ≡ true
+    go true f q h = let same : t.refusal ≡ r = cc in subst (λ (m : Refusal). among ns (number m) ≡ true) same q
     go false f q h = h f
 
 -- The numbers behind 1 and 11, in the order in which they are first judged.
@@ -85,24 +87,27 @@ entry_numbered : (x : Setup) (s : State) → numbered bundle_numbers (entry_test
 unfolding entry_tests
 entry_numbered x s = go (due x s)
   where
-    go : (t : Bool) → numbered bundle_numbers (cond t (test 17 (eqb (handler_due x s) 0) ∷ lookup_tests x.method x.code (entry_lookups x s)) []) ≡ true
+    go : (t : Bool) → numbered bundle_numbers (cond t (test refusal.NoHandler (eqb (handler_due x s) 0) ∷ lookup_tests x.method x.code (entry_lookups x s)) []) ≡ true
     go true = lookup_numbered x.method x.code (entry_lookups x s)
     go false = refl
 
 -- Numbers with which steps and runs refuse: those behind 1 and 11, and those with which something that lasts lets them be refused before.
 module _ (x : Setup) (ns : List ℕ) (wider : (n : ℕ) → among bundle_numbers n ≡ true → among ns n ≡ true)
     (Holds : State → Buffers → Type 0) (lasts : (s : State) (b : Buffers) → Holds s b → Holds (step x s b).state (step x s b).buffers)
-    (before : (s : State) (b : Buffers) (n : ℕ) → Holds s b → readiness (lent x b) x s ≡ ready.Refused n → among ns n ≡ true) where
+    (before : (s : State) (b : Buffers) (r : Refusal) → Holds s b → readiness (lent x b) x s ≡ ready.Refused r → among ns (number r) ≡ true) where
+  told : {m n : ℕ} → m ≡ n → among ns m ≡ true → among ns n ≡ true
+  told e p = subst (λ (k : ℕ). among ns k ≡ true) e p
+
   step_among : (s : State) (b : Buffers) (n : ℕ) → Holds s b → (step x s b).answer ≡ refused n → among ns n ≡ true
   unfolding step
   step_among s b n h e = go (readiness (lent x b) x s) refl e
     where
       go : (r : Readiness) → readiness (lent x b) x s ≡ r → (ready_or r s b (attempt (lent x b) x s b)).answer ≡ refused n → among ns n ≡ true
       go ready.Ready f p = attempt_cases (lent x b) x s b (λ o. o.answer ≡ refused n → among ns n ≡ true)
-          (λ m j q. let same : m ≡ n = cc in wider n (numbered_refused bundle_numbers (entry_tests x s ++ bundle_tests (lent x b) x (taken x s) (effect_at x (taken x s))) n
-          (numbered_append bundle_numbers (entry_tests x s) _ (entry_numbered x s) (bundle_numbered (lent x b) x (taken x s) (effect_at x (taken x s)))) (j ∙ ap verdict.Refused same))) (λ j q. cc) p
+          (λ r j q. let same : number r ≡ n = cc in told same (wider (number r) (numbered_refused bundle_numbers (entry_tests x s ++ bundle_tests (lent x b) x (taken x s) (effect_at x (taken x s))) r
+          (numbered_append bundle_numbers (entry_tests x s) _ (entry_numbered x s) (bundle_numbered (lent x b) x (taken x s) (effect_at x (taken x s)))) j))) (λ j q. cc) p
       go ready.Ended f p = cc
-      go (ready.Refused m) f p = let same : m ≡ n = cc in before s b n h (f ∙ ap ready.Refused same)
+      go (ready.Refused r) f p = let same : number r ≡ n = cc in told same (before s b r h f)
 
   run_among : (k : ℕ) (s : State) (b : Buffers) (n : ℕ) → Holds s b → (run x k s b).answer ≡ refused n → among ns n ≡ true
   unfolding run
@@ -111,7 +116,7 @@ module _ (x : Setup) (ns : List ℕ) (wider : (n : ℕ) → among bundle_numbers
       go : (r : Readiness) → readiness (lent x b) x s ≡ r → (ready_or r s b (outcome spent s no_counts b)).answer ≡ refused n → among ns n ≡ true
       go ready.Ready f p = cc
       go ready.Ended f p = cc
-      go (ready.Refused m) f p = let same : m ≡ n = cc in before s b n h (f ∙ ap ready.Refused same)
+      go (ready.Refused r) f p = let same : number r ≡ n = cc in told same (before s b r h f)
   run_among (suc k) s b n h e = go (step x s b).answer refl e (run_among k (step x s b).state (step x s b).buffers n (lasts s b h))
     where
       go : (t : Returned) → (step x s b).answer ≡ t
@@ -125,24 +130,24 @@ module _ (x : Setup) (ns : List ℕ) (wider : (n : ℕ) → among bundle_numbers
 
 module _ (x : Setup) where
   -- What is judged before a bundle has one of three numbers, and where 1 and 11 let pass it is 15.
-  before_number : (g : Settings) (s : State) (n : ℕ) → readiness g x s ≡ ready.Refused n → among (1 ∷ 11 ∷ bundle_numbers) n ≡ true
+  before_number : (g : Settings) (s : State) (r : Refusal) → readiness g x s ≡ ready.Refused r → among (1 ∷ 11 ∷ bundle_numbers) (number r) ≡ true
   unfolding readiness
-  before_number g s n = go (admits g) (well_formed x s) (replay_ok x.list x.table) (has_ended s g.code)
+  before_number g s r = go (admits g) (well_formed x s) (replay_ok x.list x.table) (has_ended s g.code)
     where
-      go : (u y w z : Bool) → cond (not u) (ready.Refused 1) (cond (not y) (ready.Refused 11) (cond (not w) (ready.Refused 15) (cond z ready.Ended ready.Ready))) ≡ ready.Refused n
-          → among (1 ∷ 11 ∷ bundle_numbers) n ≡ true
-      go false y w z e = let same : 1 ≡ n = cc in subst (λ (m : ℕ). among (1 ∷ 11 ∷ bundle_numbers) m ≡ true) same refl
-      go true false w z e = let same : 11 ≡ n = cc in subst (λ (m : ℕ). among (1 ∷ 11 ∷ bundle_numbers) m ≡ true) same refl
-      go true true false z e = let same : 15 ≡ n = cc in subst (λ (m : ℕ). among (1 ∷ 11 ∷ bundle_numbers) m ≡ true) same refl
+      go : (u y w z : Bool) → cond (not u) (ready.Refused refusal.Limits) (cond (not y) (ready.Refused refusal.IllFormed) (cond (not w) (ready.Refused refusal.Replay) (cond z ready.Ended ready.Ready))) ≡ ready.Refused r
+          → among (1 ∷ 11 ∷ bundle_numbers) (number r) ≡ true
+      go false y w z e = let same : refusal.Limits ≡ r = cc in subst (λ (m : Refusal). among (1 ∷ 11 ∷ bundle_numbers) (number m) ≡ true) same refl
+      go true false w z e = let same : refusal.IllFormed ≡ r = cc in subst (λ (m : Refusal). among (1 ∷ 11 ∷ bundle_numbers) (number m) ≡ true) same refl
+      go true true false z e = let same : refusal.Replay ≡ r = cc in subst (λ (m : Refusal). among (1 ∷ 11 ∷ bundle_numbers) (number m) ≡ true) same refl
       go true true true true e = cc
       go true true true false e = cc
 
-  ready_number : (g : Settings) (s : State) (n : ℕ) → admits g ≡ true → well_formed x s ≡ true → readiness g x s ≡ ready.Refused n → among bundle_numbers n ≡ true
+  ready_number : (g : Settings) (s : State) (r : Refusal) → admits g ≡ true → well_formed x s ≡ true → readiness g x s ≡ ready.Refused r → among bundle_numbers (number r) ≡ true
   unfolding readiness
-  ready_number g s n a w e = go (replay_ok x.list x.table) (has_ended s g.code) (rw (a, w) at e)
+  ready_number g s r a w e = go (replay_ok x.list x.table) (has_ended s g.code) (rw (a, w) at e)
     where
-      go : (w z : Bool) → cond (not w) (ready.Refused 15) (cond z ready.Ended ready.Ready) ≡ ready.Refused n → among bundle_numbers n ≡ true
-      go false z f = let same : 15 ≡ n = cc in subst (λ (m : ℕ). among bundle_numbers m ≡ true) same refl
+      go : (w z : Bool) → cond (not w) (ready.Refused refusal.Replay) (cond z ready.Ended ready.Ready) ≡ ready.Refused r → among bundle_numbers (number r) ≡ true
+      go false z f = let same : refusal.Replay ≡ r = cc in subst (λ (m : Refusal). among bundle_numbers (number m) ≡ true) same refl
       go true true f = cc
       go true false f = cc
 
@@ -172,19 +177,23 @@ module _ (x : Setup) where
   run_never_ten k s b e = false≢true (run_among x (1 ∷ 11 ∷ bundle_numbers) more (λ t d. Unit {0}) (λ t d h. tt) (λ t d m h. before_number (lent x d) t m) k s b 10 tt e)
 
   -- A state that 11 describes is refused by every step and run, with 1 or 11, and all stays as found.
-  unready : (s : State) (g : Settings) → well_formed x s ≡ false → readiness g x s ≡ ready.Refused (cond (admits g) 11 1)
+  unready : (s : State) (g : Settings) → well_formed x s ≡ false → readiness g x s ≡ ready.Refused (cond (admits g) refusal.IllFormed refusal.Limits)
   unfolding readiness
   unready s g w = rw w (go (admits g))
     where
-      go : (t : Bool) → cond (not t) (ready.Refused 1) (ready.Refused 11) ≡ ready.Refused (cond t 11 1)
+      go : (t : Bool) → cond (not t) (ready.Refused refusal.Limits) (ready.Refused refusal.IllFormed) ≡ ready.Refused (cond t refusal.IllFormed refusal.Limits)
       go true = refl
       go false = refl
 
+  unready_number : (t : Bool) → number (cond t refusal.IllFormed refusal.Limits) ≡ cond t 11 1
+  unready_number true = refl
+  unready_number false = refl
+
   pub step_refuses : (s : State) (b : Buffers) → well_formed x s ≡ false → step x s b ≡ outcome (refused (cond (admits (lent x b)) 11 1)) s no_counts b
   unfolding step
-  step_refuses s b w = rw (unready s (lent x b) w)
+  step_refuses s b w = rw (unready s (lent x b) w, unready_number (admits (lent x b)))
 
   pub run_refuses : (k : ℕ) (s : State) (b : Buffers) → well_formed x s ≡ false → run x k s b ≡ outcome (refused (cond (admits (lent x b)) 11 1)) s no_counts b
   unfolding run step
-  run_refuses zero s b w = rw (unready s (lent x b) w)
-  run_refuses (suc k) s b w = rw (unready s (lent x b) w)
+  run_refuses zero s b w = rw (unready s (lent x b) w, unready_number (admits (lent x b)))
+  run_refuses (suc k) s b w = rw (unready s (lent x b) w, unready_number (admits (lent x b)))

@@ -1,12 +1,13 @@
 -- What admitted settings tell.
-use Rattle.std.specs.Prelude.{ℕ, ◌≤◌, ◌%◌, Bool, true, false, cond, ◌&&◌, ◌≡◌, refl, eqb}
+use Rattle.std.specs.Prelude.{ℕ, ◌≤◌, ◌%◌, Bool, true, false, cond, ◌&&◌, ◌≡◌, refl, eqb, Ok, Err, is_ok}
 use Rattle.std.proofs.Common.{sym, ap}
 use borrow.Author.Tests.{leb-true}
 use Rattle.std.proofs.Math.Dec.{leb}
-use Rattle.stack_cache.specs.Stack.{is_cache_size, make_cache}
+use Rattle.stack_cache.specs.Stack.{is_cache_size, cache_of, make_cache}
 use Rattle.method_cache.specs.MethodCache.{capacity_ok}
 use Rattle.stack_cache.specs.declared.StackCache.{StackCache}
-use Rattle.stack_cache.specs.declared.Made.TheVariants as made
+use Rattle.answers.specs.declared.Refusal.{Refusal}
+use Rattle.answers.specs.declared.Refusal.TheVariants as refusal
 use Rattle.word.specs.BoolLaws.{and_left, and_right}
 use Rattle.settings.specs.declared.Settings.{Settings}
 use Rattle.word.specs.Word.{is_multiple_of4}
@@ -65,26 +66,34 @@ module _ (g : Settings) (ok : admits g ≡ true) where
   area_inside = leb-true g.hi g.main (and_right (leb g.lo g.hi) (leb g.hi g.main) ordered)
 
 -- what making a cache tells of its size
-pub size_refused : (w : ℕ) {n : ℕ} → make_cache w ≡ made.Refused n → is_cache_size w ≡ false
+pub size_refused : (w : ℕ) {r : Refusal} → make_cache w ≡ Err r → is_cache_size w ≡ false
 unfolding make_cache
-size_refused w {n} = go (is_cache_size w)
+size_refused w {r} = go (is_cache_size w)
   where
-    go : (t : Bool) → cond t (made.Cache (record { words = w })) (made.Refused 1) ≡ made.Refused n → t ≡ false
+    go : (t : Bool) → cond t (Ok (cache_of w)) (Err refusal.Limits) ≡ Err r → t ≡ false
     go true e = cc
     go false e = refl
 
-pub size_words : (w : ℕ) {k : StackCache} → make_cache w ≡ made.Cache k → k.words ≡ w
+pub size_words : (w : ℕ) {k : StackCache} → make_cache w ≡ Ok k → k.words ≡ w
 unfolding make_cache
 size_words w {k} = go (is_cache_size w)
   where
-    go : (t : Bool) → cond t (made.Cache (record { words = w })) (made.Refused 1) ≡ made.Cache k → k.words ≡ w
-    go true e = let h : record { words = w } ≡ k = cc in ap (λ (c : StackCache). c.words) (sym h)
+    go : (t : Bool) → cond t (Ok (cache_of w)) (Err refusal.Limits) ≡ Ok k → k.words ≡ w
+    go true e = let h : cache_of w ≡ k = cc in ap (λ (c : StackCache). c.words) (sym h)
     go false e = cc
 
-pub size_made : (w : ℕ) {k : StackCache} → make_cache w ≡ made.Cache k → is_cache_size w ≡ true
+pub size_made : (w : ℕ) {k : StackCache} → make_cache w ≡ Ok k → is_cache_size w ≡ true
 unfolding make_cache
 size_made w {k} = go (is_cache_size w)
   where
-    go : (t : Bool) → cond t (made.Cache (record { words = w })) (made.Refused 1) ≡ made.Cache k → t ≡ true
+    go : (t : Bool) → cond t (Ok (cache_of w)) (Err refusal.Limits) ≡ Ok k → t ≡ true
     go true e = refl
     go false e = cc
+
+pub size_told : (w : ℕ) → is_ok (make_cache w) ≡ is_cache_size w
+unfolding make_cache
+size_told w = go (is_cache_size w)
+  where
+    go : (t : Bool) → is_ok (cond t (Ok (cache_of w)) (Err refusal.Limits)) ≡ t
+    go true = refl
+    go false = refl

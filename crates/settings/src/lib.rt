@@ -7,7 +7,7 @@ ghost use Rattle.settings.specs.Settings.{code_length_ok, area_ok, admits};
 ghost use Rattle.settings.specs.Setup.{setup, settings};
 
 use method_cache::Method;
-use stack_cache::{Made, StackCache};
+use stack_cache::StackCache;
 
 // The numbers that a run is given beside what is lent: where the stack area begins and ends, and the method cache.
 #[derive(Clone, Copy)]
@@ -45,10 +45,7 @@ fn area_ok(main: usize, lo: u32, hi: u32) -> bool
 fn is_cache_size(words: usize) -> bool
     ensures { result ≡ is_cache_size words }
 {
-    match StackCache::new(words) {
-        Made::Refused(_) => false,
-        Made::Cache(_) => true,
-    }
+    StackCache::new(words).is_ok()
 }
 
 impl Config {

@@ -1,8 +1,6 @@
 -- The check: the bundles from 0 to the code's end, one after the other, against the marking rules.
-use Rattle.std.specs.Prelude.{ℕ, zero, suc, ◌+◌, ◌/◌, ◌<◌, Bool, true, not, cond, ◌&&◌, List, ◌≡◌, leb, eqb, length}
-use Rattle.answers.specs.declared.Verdict.{Verdict}
-use Rattle.answers.specs.declared.Verdict.TheVariants as verdict
-use Rattle.answers.specs.Test.{verdict}
+use Rattle.std.specs.Prelude.{ℕ, zero, suc, ◌+◌, ◌/◌, ◌<◌, Bool, true, not, cond, ◌&&◌, List, ◌≡◌, leb, eqb, length, Ok, Err}
+use Rattle.answers.specs.Test.{Verdict, verdict}
 use Rattle.settings.specs.Setup.{Setup, settings}
 use Rattle.settings.specs.Settings.{admits}
 use Rattle.fetch.specs.Fetch.{bundle_at, following_at, fetch_tests}
@@ -35,8 +33,8 @@ letter_broken m code (enum.Broken a r) = breaks m (bundle_at code a) r
 
 -- A bundle that cannot be read is refused at its address.
 abbrev pub refused_at : Verdict → ℕ → CheckAnswer → CheckAnswer
-refused_at verdict.Fine a other = other
-refused_at (verdict.Refused n) a other = refused n a
+refused_at (Ok tt) a other = other
+refused_at (Err n) a other = refused n a
 
 -- The bundles from address a on, `most` at most: the first that fails gives 2, 3 or 9, in that order.
 unfoldable pub walk_from : Marking → List ℕ → ℕ → ℕ → CheckAnswer

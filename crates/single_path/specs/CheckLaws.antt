@@ -3,7 +3,7 @@
 use Prim.Native.Nat.{ℕ, zero, suc, ◌+◌, ◌*◌, ◌/◌, ◌<◌}
 use Rattle.std.proofs.Math.Bool.{Bool, true, false, cond}
 use Rattle.std.proofs.lemmas.Bool.{false≢true, lt-leb}
-use Rattle.std.specs.Prelude.{List, ◌⊎◌, ◌↔◌, ◌≡◌, leb, length}
+use Rattle.std.specs.Prelude.{List, ◌⊎◌, ◌↔◌, ◌≡◌, leb, length, Ok, Err}
 use Rattle.std.proofs.Math.Logic.{inl}
 use Rattle.std.proofs.Common.{inr, sym, ap, subst, ◌∙◌, arith, leb-false}
 use Rattle.std.proofs.Math.Path.{refl}
@@ -11,7 +11,7 @@ use Rattle.std.proofs.Math.Decide.{dec_lt}
 use Rattle.marking.specs.declared.Marking.{Marking}
 use Rattle.marking_rules.specs.Rules.{keeps}
 use Rattle.single_path.specs.Check.{Walked, first, later, CheckAnswer, accepted, refused, refused_at, walk_from, passes, checked}
-use Rattle.answers.specs.declared.Verdict.TheVariants as verdict
+use Rattle.answers.specs.declared.Refusal.TheVariants as refusal
 use Rattle.answers.specs.Test.{verdict}
 use Rattle.single_path.specs.WalkLaws.{following_above, walked_inside, walked_gap}
 use Rattle.fetch.specs.Fetch.{is_undecodable, outside_code, bundle_at, following_at}
@@ -51,7 +51,7 @@ module _ (m : Marking) (code : List ℕ) where
       go (leb (length code) a) (outside_code code a) (is_undecodable (bundle_at code a)) (keeps m (bundle_at code a)) refl refl refl refl (walk_first most (following_at code a))
     where
       answer : Bool → Bool → Bool → Bool → CheckAnswer
-      answer t u v x = cond t accepted (refused_at (cond u (verdict.Refused 2) (cond v (verdict.Refused 3) verdict.Fine)) a (cond x (walk_from m code most (following_at code a)) (refused 9 a)))
+      answer t u v x = cond t accepted (refused_at (cond u (Err refusal.OutsideCode) (cond v (Err refusal.Undecodable) (Ok tt))) a (cond x (walk_from m code most (following_at code a)) (refused 9 a)))
 
       go : (t u v x : Bool) → leb (length code) a ≡ t → outside_code code a ≡ u → is_undecodable (bundle_at code a) ≡ v → keeps m (bundle_at code a) ≡ x
           → ((following_at code a < length code → Walked code (following_at code a)) → ((b : ℕ) → Walked code b → b < following_at code a → Fine m code b)
@@ -81,7 +81,7 @@ module _ (m : Marking) (code : List ℕ) where
   walk_here (suc most) a p h e = go (outside_code code a) (is_undecodable (bundle_at code a)) (keeps m (bundle_at code a)) refl refl refl (rw (lt-leb _ _ p) at e)
     where
       go : (u v x : Bool) → outside_code code a ≡ u → is_undecodable (bundle_at code a) ≡ v → keeps m (bundle_at code a) ≡ x
-          → refused_at (cond u (verdict.Refused 2) (cond v (verdict.Refused 3) verdict.Fine)) a (cond x (walk_from m code most (following_at code a)) (refused 9 a)) ≡ accepted
+          → refused_at (cond u (Err refusal.OutsideCode) (cond v (Err refusal.Undecodable) (Ok tt))) a (cond x (walk_from m code most (following_at code a)) (refused 9 a)) ≡ accepted
           → Fine m code a × ((n : ℕ) × (length code < following_at code a + 4 * n) × (walk_from m code n (following_at code a) ≡ accepted))
       go true v x j k l f = absurd (false≢true (ap is_accepted f))
       go false true x j k l f = absurd (false≢true (ap is_accepted f))

@@ -1,14 +1,14 @@
 -- The stack cache (section 3.3 of the handbook as document 01 condenses it). W is the number of the cache's words, st and ss
 -- are the byte addresses between which the window lies, and an amount n is in words.
-use Rattle.std.specs.Prelude.{ℕ, zero, suc, ◌+◌, ◌-◌, ◌*◌, ◌/◌, ◌%◌, ◌^◌, min, max, Bool, true, false, not, cond, ◌&&◌, ◌||◌, List, [], ◌∷◌, eqb, ltb, leb, length, get_or, set}
+use Rattle.std.specs.Prelude.{ℕ, zero, suc, ◌+◌, ◌-◌, ◌*◌, ◌/◌, ◌%◌, ◌^◌, min, max, Bool, true, false, not, cond, ◌&&◌, ◌||◌, List, [], ◌∷◌, eqb, ltb, leb, length, get_or, set, Result, Ok, Err}
 use Rattle.word.specs.Word.{add, sub}
 use Rattle.big_endian.specs.Bytes.{word_at, put_word}
 use Rattle.stack_cache.specs.declared.StackControl.{StackControl}
 use Rattle.stack_cache.specs.declared.StackControl.TheVariants.{Sres, Sens, Sfree, Sspill}
+use Rattle.answers.specs.declared.Refusal.{Refusal}
+use Rattle.answers.specs.declared.Refusal.TheVariants as refusal
 use Rattle.stack_cache.specs.declared.Plan.{Plan}
-use Rattle.stack_cache.specs.declared.Plan.TheVariants.{Refused, Moves}
-use Rattle.stack_cache.specs.declared.Made.{Made}
-use Rattle.stack_cache.specs.declared.Made.TheVariants as made
+use Rattle.stack_cache.specs.declared.StackCache.{StackCache}
 
 -- A cache has 4 to 512 words, a power of two: the divisors of 512 are the powers of two up to it.
 abbrev pub least : ℕ
@@ -20,9 +20,12 @@ greatest = 512
 unfoldable pub is_cache_size : ℕ → Bool
 is_cache_size w = (leb least w && leb w greatest) && eqb (greatest % w) 0
 
+abbrev pub cache_of : ℕ → StackCache
+cache_of w = record { words = w }
+
 -- A cache of w words, or refusal 1.
-unfoldable pub make_cache : ℕ → Made
-make_cache w = cond (is_cache_size w) (made.Cache (record { words = w })) (made.Refused 1)
+unfoldable pub make_cache : ℕ → Result StackCache Refusal
+make_cache w = cond (is_cache_size w) (Ok (cache_of w)) (Err refusal.Limits)
 
 -- The cache place of the word at an address: the number of the word, modulo W.
 unfoldable pub cache_word : List ℕ → ℕ → ℕ
@@ -125,13 +128,16 @@ every allowed (a ∷ rest) = allowed a && every allowed rest
 unfoldable pub moved_outside : StackControl → ℕ → ℕ → ℕ → ℕ → ℕ → ℕ → Bool
 moved_outside c w lo hi st ss n = not (every (spill_open lo hi) (spills c w st ss n) && every (fill_open lo hi) (fills c st ss n))
 
+abbrev pub moves : ℕ → ℕ → ℕ → ℕ → Plan
+moves st ss j k = record { st = st; ss = ss; spilled = j; filled = k }
+
 -- A stack instruction judged as a whole, before any word moves: refused with 7 or 8, or where st and ss will be and how many
 -- words move.
-unfoldable pub planned : StackControl → ℕ → ℕ → ℕ → ℕ → ℕ → ℕ → Plan
+unfoldable pub planned : StackControl → ℕ → ℕ → ℕ → ℕ → ℕ → ℕ → Result Plan Refusal
 planned c w lo hi st ss n =
-    cond (bad_window w st ss || bad_amount c w st n) (Refused 7)
-    (cond (moved_outside c w lo hi st ss n) (Refused 8)
-    (Moves (top_after c st n) (spill_after c w st ss n) (length (spills c w st ss n)) (length (fills c st ss n))))
+    cond (bad_window w st ss || bad_amount c w st n) (Err refusal.Window)
+    (cond (moved_outside c w lo hi st ss n) (Err refusal.MoveOutside)
+    (Ok (moves (top_after c st n) (spill_after c w st ss n) (length (spills c w st ss n)) (length (fills c st ss n)))))
 
 -- The stack area's bytes after the words of a list of addresses were spilled, one after the other; lo is the area's address.
 unfoldable pub spilled : List ℕ → ℕ → List ℕ → List ℕ → List ℕ

@@ -4,6 +4,8 @@
 ghost use Rattle.std.specs.Prelude.{◌≡◌};
 ghost use Rattle.stack_cache.specs.Stack.{make_cache};
 
+use answers::Refusal;
+
 pub mod access;
 pub mod moves;
 pub mod window;
@@ -23,23 +25,13 @@ pub struct StackCache {
     pub words: u32,
 }
 
-// A cache, or document 01's number of the refusal.
+// What a stack instruction comes to before anything moves: st and ss afterwards, and the words spilled and filled.
 #[derive(Clone, Copy)]
-pub enum Made {
-    Refused(u32),
-    Cache(StackCache),
-}
-
-// A stack instruction before anything moves: refused with a number, or st, ss and the words spilled and filled.
-#[derive(Clone, Copy)]
-pub enum Plan {
-    Refused(u32),
-    Moves {
-        st: u32,
-        ss: u32,
-        spilled: u32,
-        filled: u32,
-    },
+pub struct Plan {
+    pub st: u32,
+    pub ss: u32,
+    pub spilled: u32,
+    pub filled: u32,
 }
 
 impl StackCache {
@@ -48,21 +40,21 @@ impl StackCache {
     pub const GREATEST: u32 = 512;
 
     // A cache of W words: W is a power of two within the limits, that is, a divisor of the greatest.
-    pub fn new(words: usize) -> Made
+    pub fn new(words: usize) -> Result<StackCache, Refusal>
         ensures { result ≡ make_cache words }
     {
         let least = StackCache::LEAST as usize;
         let greatest = StackCache::GREATEST as usize;
         if words < least {
-            return Made::Refused(1);
+            return Err(Refusal::Limits);
         }
         if greatest < words {
-            return Made::Refused(1);
+            return Err(Refusal::Limits);
         }
         if greatest % words != 0 {
-            return Made::Refused(1);
+            return Err(Refusal::Limits);
         }
-        Made::Cache(StackCache {
+        Ok(StackCache {
             words: words as u32,
         })
     }

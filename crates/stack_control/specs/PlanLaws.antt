@@ -1,12 +1,13 @@
 -- What a stack instruction moves, in closed form: how many words, where they lie, and the window afterwards.
-use Rattle.std.specs.Prelude.{ℕ, ◌+◌, ◌-◌, ◌*◌, ◌/◌, ◌%◌, ◌^◌, ◌<◌, ◌≤◌, min, max, ◌≡◌, refl, Bool, true, false, not, cond, ◌&&◌, ◌||◌, eqb, ltb, length}
+use Rattle.std.specs.Prelude.{ℕ, ◌+◌, ◌-◌, ◌*◌, ◌/◌, ◌%◌, ◌^◌, ◌<◌, ◌≤◌, min, max, ◌≡◌, refl, Bool, true, false, not, cond, ◌&&◌, ◌||◌, eqb, ltb, length, Ok, Err}
 use Rattle.std.proofs.Common.{sym, ap, ◌∙◌, arith, le_of_lt}
 use Rattle.std.proofs.Math.Nat.{min-le_right, max-eq_left, max-eq_right}
 use borrow.Author.Tests.{eqb-true, ltb-true, ltb-false, not-false, eq-eqb, le-ltb, lt-leb}
 use Rattle.stack_cache.specs.declared.StackControl.{StackControl}
 use Rattle.stack_cache.specs.declared.StackControl.TheVariants.{Sres, Sens, Sfree, Sspill}
-use Rattle.stack_cache.specs.declared.Plan.TheVariants.{Refused, Moves}
-use Rattle.stack_cache.specs.Stack.{below, above, top_after, spills, fills, spill_after, bad_window, bad_amount, in_area, every, moved_outside, planned}
+use Rattle.answers.specs.declared.Refusal.TheVariants as refusal
+use Rattle.stack_cache.specs.declared.Plan.{Plan}
+use Rattle.stack_cache.specs.Stack.{moves, below, above, top_after, spills, fills, spill_after, bad_window, bad_amount, in_area, every, moved_outside, planned}
 use Rattle.stack_cache.specs.Count.{Accepted, Window, spill_count, fill_count, ss_after, inside}
 use Rattle.stack_cache.specs.StackLaws.{length_below, spill_while_below, fill_while_above}
 use Rattle.word.specs.BoolLaws.{or_left, or_right, and_left, and_right}
@@ -145,14 +146,14 @@ spill_after_closed Sspill w st ss n e p q = ap (λ (k : ℕ). ss - 4 * k) (lengt
 
 module _ (c : StackControl) (w lo hi st ss n : ℕ) (e : Accepted c w st ss n) (p : ss < 2 ^ 32) (q : hi < 2 ^ 32) where
   pub planned_moves : inside lo hi (ss - 4 * spill_count c w st ss n) (spill_count c w st ss n) ≡ true → inside lo hi ss (fill_count c st ss n) ≡ true
-      → planned c w lo hi st ss n ≡ Moves (top_after c st n) (ss_after c w st ss n) (spill_count c w st ss n) (fill_count c st ss n)
+      → planned c w lo hi st ss n ≡ Ok (moves (top_after c st n) (ss_after c w st ss n) (spill_count c w st ss n) (fill_count c st ss n))
   unfolding planned moved_outside
   planned_moves f g =
       let r = inside_end lo hi ss (fill_count c st ss n) g p q in
       rw (e, spills_inside c w lo hi st ss n e p, f, fills_inside c w lo hi st ss n e p q, g, spill_after_closed c w st ss n e p r, length_spills c w st ss n e p, length_fills c w st ss n e r)
 
   pub planned_outside : inside lo hi (ss - 4 * spill_count c w st ss n) (spill_count c w st ss n) && inside lo hi ss (fill_count c st ss n) ≡ false
-      → planned c w lo hi st ss n ≡ Refused 8
+      → planned c w lo hi st ss n ≡ Err refusal.MoveOutside
   unfolding planned moved_outside
   planned_outside f = rw (e, spills_inside c w lo hi st ss n e p, fills_inside c w lo hi st ss n e p q, f)
 
@@ -168,7 +169,7 @@ pub record Planned (c : StackControl) (w lo hi st ss n st' ss' j k : ℕ) : Type
   pub words_below : spills c w st ss n ≡ below j ss
   pub words_above : fills c st ss n ≡ above k ss
 
-pub planned_told : (c : StackControl) (w lo hi st ss n st' ss' j k : ℕ) → planned c w lo hi st ss n ≡ Moves st' ss' j k → Planned c w lo hi st ss n st' ss' j k
+pub planned_told : (c : StackControl) (w lo hi st ss n st' ss' j k : ℕ) → planned c w lo hi st ss n ≡ Ok (moves st' ss' j k) → Planned c w lo hi st ss n st' ss' j k
 unfolding planned moved_outside
 planned_told c w lo hi st ss n st' ss' j k = go (bad_window w st ss || bad_amount c w st n) (x && y) refl refl
   where
@@ -179,7 +180,7 @@ planned_told c w lo hi st ss n st' ss' j k = go (bad_window w st ss || bad_amoun
     y = every (in_area lo hi) (fills c st ss n)
 
     go : (t u : Bool) → bad_window w st ss || bad_amount c w st n ≡ t → x && y ≡ u
-        → cond t (Refused 7) (cond (not u) (Refused 8) (Moves (top_after c st n) (spill_after c w st ss n) (length (spills c w st ss n)) (length (fills c st ss n)))) ≡ Moves st' ss' j k
+        → cond t (Err refusal.Window) (cond (not u) (Err refusal.MoveOutside) (Ok (moves (top_after c st n) (spill_after c w st ss n) (length (spills c w st ss n)) (length (fills c st ss n))))) ≡ Ok (moves st' ss' j k)
         → Planned c w lo hi st ss n st' ss' j k
     go true u e f h =
         let z : ◌≡◌ {A = ℕ} 0 1 = cc in
@@ -188,14 +189,15 @@ planned_told c w lo hi st ss n st' ss' j k = go (bad_window w st ss || bad_amoun
         let z : ◌≡◌ {A = ℕ} 0 1 = cc in
         absurd (omega arith)
     go false true e f h =
-        let m : length (spills c w st ss n) ≡ j = cc in
-        let l : length (fills c st ss n) ≡ k = cc in
+        let p : moves (top_after c st n) (spill_after c w st ss n) (length (spills c w st ss n)) (length (fills c st ss n)) ≡ moves st' ss' j k = cc in
+        let m = ap (λ (q : Plan). q.spilled) p in
+        let l = ap (λ (q : Plan). q.filled) p in
         record {
           accepted = e;
           spills_open = and_left x y f;
           fills_open = and_right x y f;
-          top = cc;
-          spill = cc;
+          top = ap (λ (q : Plan). q.st) (sym p);
+          spill = ap (λ (q : Plan). q.ss) (sym p);
           spilled = sym m;
           filled = sym l;
           words_below = spills_below c w st ss n ∙ ap (λ (i : ℕ). below i ss) m;
@@ -228,7 +230,7 @@ window_after Sspill w st ss n e =
     let m = min-le_right n ((ss - st) / 4) in
     omega arith
 
-pub moves_window : (c : StackControl) (w lo hi st ss n st' ss' j k : ℕ) → planned c w lo hi st ss n ≡ Moves st' ss' j k → ss < 2 ^ 32 → hi < 2 ^ 32
+pub moves_window : (c : StackControl) (w lo hi st ss n st' ss' j k : ℕ) → planned c w lo hi st ss n ≡ Ok (moves st' ss' j k) → ss < 2 ^ 32 → hi < 2 ^ 32
     → bad_window w st' ss' ≡ false
 moves_window c w lo hi st ss n st' ss' j k e p q =
     let t = planned_told c w lo hi st ss n st' ss' j k e in

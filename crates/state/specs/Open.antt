@@ -1,9 +1,9 @@
 -- The opening: the one way to a fresh state (request (v) of document 02). 1 is judged before 2. The lent cache words become zero too; a
 -- refused opening leaves them as found, and hands back a state that no run takes.
-use Rattle.std.specs.Prelude.{ℕ, Bool, not, cond, ◌&&◌, List, ltb, length, replicate}
+use Rattle.answers.specs.Refusal.{number}
+use Rattle.answers.specs.Test.{Verdict}
+use Rattle.std.specs.Prelude.{ℕ, Bool, not, cond, ◌&&◌, List, ltb, length, replicate, Ok, Err}
 use Rattle.word.specs.Word.{is_multiple_of4}
-use Rattle.answers.specs.declared.Verdict.{Verdict}
-use Rattle.answers.specs.declared.Verdict.TheVariants.{Fine, Refused}
 use Rattle.answers.specs.Answer.{Returned, accepted, refused}
 use Rattle.settings.specs.Settings.{admits}
 use Rattle.settings.specs.Setup.{Setup, Buffers, lent}
@@ -21,8 +21,8 @@ abbrev pub open_of : Returned → State → List ℕ → Open
 open_of a s c = record { answer = a; state = s; cache = c }
 
 abbrev pub returned : Verdict → Returned
-returned Fine = accepted
-returned (Refused n) = refused n
+returned (Ok tt) = accepted
+returned (Err r) = refused (number r)
 
 abbrev pub open_with : Opened → List ℕ → Open
 open_with o c = open_of (returned o.answer) (state_of o.state) c

@@ -8,7 +8,7 @@ ghost use Rattle.state.specs.Open.{open_with, opening};
 
 use crate::{Opened, State};
 use alu_effects::Specials;
-use answers::Verdict;
+use answers::{Refusal, Verdict};
 use core_state::{WaitingLoad, WaitingTransfer};
 use products::Products;
 use replay::Replay;
@@ -77,19 +77,19 @@ impl State {
         let inside = (entry % 4 == 0) & ((entry as usize) < code.len());
         if !admitted {
             return Opened {
-                answer: Verdict::Refused(1),
+                answer: Err(Refusal::Limits),
                 state: State::blank(),
             };
         }
         if !inside {
             return Opened {
-                answer: Verdict::Refused(2),
+                answer: Err(Refusal::OutsideCode),
                 state: State::blank(),
             };
         }
         cache.fill(0);
         Opened {
-            answer: Verdict::Fine,
+            answer: Ok(()),
             state: State::fresh(code.len() as u32, config.hi, entry),
         }
     }

@@ -1,6 +1,7 @@
 -- The counts of a bundle: 4 cycles, 512 words moved each way, one miss and 4,096 words fetched, at most.
-use Rattle.std.specs.Prelude.{ℕ, zero, suc, ◌-◌, ◌*◌, ◌/◌, ◌≤◌, min, Bool, true, false, cond, List, [], ◌∷◌, ◌≡◌, refl, ltb, length}
+use Rattle.std.specs.Prelude.{ℕ, zero, suc, ◌-◌, ◌*◌, ◌/◌, ◌≤◌, min, Bool, true, false, cond, List, [], ◌∷◌, ◌≡◌, refl, ltb, length, Ok, Err, Result}
 use Rattle.std.proofs.Common.{sym, ap, subst, ◌∙◌, arith, le_trans, ltb-false}
+use Rattle.answers.specs.declared.Refusal.{Refusal}
 use Rattle.word.specs.Word.{add, sub}
 use Rattle.stack_cache.specs.declared.StackControl.{StackControl}
 use Rattle.stack_cache.specs.declared.StackControl.TheVariants.{Sres, Sens, Sfree, Sspill}
@@ -20,12 +21,10 @@ use Rattle.effects.specs.declared.Effect.TheVariants as effect
 use Rattle.core_state.specs.State.{State, with_held}
 use Rattle.method_cache.specs.Words.{held_in}
 use Rattle.bundle_model.specs.declared.Carried.{Carried}
-use Rattle.bundle_model.specs.declared.Carried.TheVariants as carried
-use Rattle.bundle_model.specs.Execute.{carried_as, carried_out, one_cycle, Tallied}
+use Rattle.bundle_model.specs.Execute.{carried_as, carried_out, one_cycle, Tallied, carrying}
 use Rattle.bundle_model.proofs.ExecuteLaws.{done_fine, counted_one}
 use Rattle.alu_effects.specs.declared.AluEffect.TheVariants.{Nothing}
 use Rattle.bundle_model.proofs.HandedLaws.{told_done}
-use Rattle.answers.specs.declared.Verdict.TheVariants as verdict
 use Rattle.answers.specs.Test.{verdict as verdict_of}
 use Rattle.answers.specs.TestLaws.{fine_both}
 use Rattle.bundle_model.specs.Lookup.{lookups, lookup_tests}
@@ -146,18 +145,18 @@ attempt_few g x s b h m = attempt_cases g x s b (λ o. Few 1 o.counts) (λ n j. 
         }
 
 -- So are those of a slot one that no test refuses.
-slot_few : (g : Settings) (x : Setup) (s : State) (e : Effect) → admits g ≡ true → g.method ≡ x.method → verdict_of (slot_tests g x s e) ≡ verdict.Fine → Few 1 (counts_of g x s e)
+slot_few : (g : Settings) (x : Setup) (s : State) (e : Effect) → admits g ≡ true → g.method ≡ x.method → verdict_of (slot_tests g x s e) ≡ Ok tt → Few 1 (counts_of g x s e)
 unfolding slot_tests
 slot_few g x s e h m f =
     let both = fine_both (effect_tests g x s e) (lookup_tests x.method x.code (lookups x e)) f in
     effect_few g x s (words_small g h) e (sym (ap capacity_ok m) ∙ capacity_ok_lem g h) both.0 both.1
 
 -- What is counted so far and what slot one adds leave room for the one cycle of its bundle.
-pub one_more_fits : (g : Settings) (x : Setup) (t : State) (one : Effect) (b b' : Buffers) {r : Carried} (l st ss : ℕ) (w v c m : List ℕ) → admits g ≡ true → g.method ≡ x.method
-    → r ≡ carried.Done l st ss → carried_as r b' ≡ carried_out g x (with_held t (held_in w)) one b → Tallied r g x (with_held t (held_in w)) one w v c m → Few 4294967294 (counts_in c)
+pub one_more_fits : (g : Settings) (x : Setup) (t : State) (one : Effect) (b b' : Buffers) {r : Result Carried Refusal} (l st ss : ℕ) (w v c m : List ℕ) → admits g ≡ true → g.method ≡ x.method
+    → r ≡ Ok (carrying l st ss) → carried_as r b' ≡ carried_out g x (with_held t (held_in w)) one b → Tallied r g x (with_held t (held_in w)) one w v c m → Few 4294967294 (counts_in c)
     → Fit (plus (counts_in m) one_cycle)
 one_more_fits g x t one b b' l st ss w v c m h e p q k f =
     let s = with_held t (held_in w) in
-    let fine = done_fine g x t (held_in w) one Nothing 0 b b' l st ss (ap (λ (y : Carried). carried_as y b') (sym p) ∙ q) in
+    let fine = done_fine g x t (held_in w) one Nothing 0 b b' l st ss (ap (λ (y : Result Carried Refusal). carried_as y b') (sym p) ∙ q) in
     subst Fit (sym (counted_one g x s one (counts_in c) (counts_in m) (told_done l st ss p k).1))
     (few_fit 4294967295 _ (omega arith) (few_plus 4294967294 1 (counts_in c) (counts_of g x s one) f (slot_few g x s one h e fine)))

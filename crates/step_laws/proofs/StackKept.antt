@@ -1,6 +1,6 @@
 -- What a bundle keeps of the buffers: their lengths, and the bytes outside the stack area where it moves stack words; and the window
 -- that a stack instruction leaves.
-use Rattle.std.specs.Prelude.{ℕ, ◌+◌, ◌-◌, ◌^◌, ◌<◌, ◌≤◌, Bool, true, false, List, ◌++◌, ◌≡◌, ◌⊎◌, length, get_or, take, drop}
+use Rattle.std.specs.Prelude.{ℕ, ◌+◌, ◌-◌, ◌^◌, ◌<◌, ◌≤◌, Bool, true, false, List, ◌++◌, ◌≡◌, ◌⊎◌, length, get_or, take, drop, Ok, Err}
 use Rattle.std.proofs.Math.Path.{refl, subst}
 use Rattle.std.proofs.Common.{sym, ap, ◌∙◌, inl, inr, arith, le_trans, length-take, length-drop, length-take-le, get_or-take, get_or-drop, take_at, drop_at, ext_get_or}
 use Rattle.std.proofs.lemmas.Bool.{not-false}
@@ -10,8 +10,7 @@ use Rattle.isa.specs.declared.AccessKind.{AccessKind}
 use Rattle.isa.specs.declared.AccessKind.TheVariants as kind
 use Rattle.isa.specs.declared.LoadWidth.{LoadWidth}
 use Rattle.stack_cache.specs.declared.StackControl.{StackControl}
-use Rattle.stack_cache.specs.declared.Plan.TheVariants.{Moves}
-use Rattle.stack_cache.specs.Stack.{spills, fills, spilled, top_after, spill_after, bad_window, in_area, spill_open, fill_open, every, moved_outside, planned}
+use Rattle.stack_cache.specs.Stack.{spills, fills, spilled, top_after, spill_after, bad_window, in_area, spill_open, fill_open, every, moved_outside, moves, planned}
 use Rattle.stack_cache.specs.Count.{Accepted}
 use Rattle.stack_control.specs.PlanLaws.{spills_window, moves_window}
 use Rattle.stack_cache.specs.StackLaws.{length_put_cache_number, length_spilled, length_filled}
@@ -22,7 +21,6 @@ use Rattle.core_state.specs.State.{State}
 use Rattle.alu_effects.specs.declared.AluEffect.{AluEffect}
 use Rattle.effects.specs.declared.Effect.{Effect}
 use Rattle.effects.specs.declared.Effect.TheVariants as effect
-use Rattle.answers.specs.declared.Verdict.TheVariants as verdict
 use Rattle.answers.specs.Answer.{done}
 use Rattle.settings.specs.SettingsLaws.{area_ordered}
 use Rattle.settings.specs.SetupLaws.{stack_byte_not, untouched}
@@ -164,15 +162,15 @@ module _ (g : Settings) (x : Setup) (s : State) (c : StackControl) (n : ℕ) (b 
 
 -- No test refuses an effect.
 abbrev pub Passed : Settings → Setup → State → Effect → Type 0
-Passed g x s e = verdict_of (effect_tests g x s e) ≡ verdict.Fine
+Passed g x s e = verdict_of (effect_tests g x s e) ≡ Ok tt
 
 -- An access that no test refuses is open.
-pub passed_open : (main : Bool) (g : Settings) (st ss : ℕ) (k : AccessKind) (a n : ℕ) → verdict_of (access_tests main g st ss k a n) ≡ verdict.Fine
+pub passed_open : (main : Bool) (g : Settings) (st ss : ℕ) (k : AccessKind) (a n : ℕ) → verdict_of (access_tests main g st ss k a n) ≡ Ok tt
     → access_open main g st ss k a n ≡ true
 passed_open main g st ss k a n p = not-false _ (fine_applies 6 (access_tests main g st ss k a n) p)
 
 -- A bundle judged fine.
-module _ (g : Settings) (x : Setup) (s : State) (fine : judged g x s ≡ verdict.Fine) where
+module _ (g : Settings) (x : Setup) (s : State) (fine : judged g x s ≡ Ok tt) where
   -- It lies in the code.
   pub fine_inside : outside_code x.code s.fetch ≡ false
   fine_inside = fine_applies 2 (bundle_tests g x s (effect_at x s)) fine
@@ -181,7 +179,7 @@ module _ (g : Settings) (x : Setup) (s : State) (fine : judged g x s ≡ verdict
   pub fine_decodable : is_undecodable (bundle_at x.code s.fetch) ≡ false
   fine_decodable = fine_applies 3 (bundle_tests g x s (effect_at x s)) fine
 
-  fine_slot : verdict_of (slot_tests g x s (effect_at x s)) ≡ verdict.Fine
+  fine_slot : verdict_of (slot_tests g x s (effect_at x s)) ≡ Ok tt
   fine_slot = (fine_both (fetch_tests x.code s.fetch) (slot_tests g x s (effect_at x s)) fine).1
 
   -- No test refuses slot one's effect.
@@ -212,7 +210,7 @@ module _ (g : Settings) (x : Setup) (s : State) (c : StackControl) (n : ℕ) (m 
 
   -- Its plan is to move.
   pub stack_planned : planned c g.words x.lo x.hi s.specials.st s.specials.ss n
-      ≡ Moves (top_after c s.specials.st n) (spill_after c g.words s.specials.st s.specials.ss n) (length (spills c g.words s.specials.st s.specials.ss n)) (length (fills c s.specials.st s.specials.ss n))
+      ≡ Ok (moves (top_after c s.specials.st n) (spill_after c g.words s.specials.st s.specials.ss n) (length (spills c g.words s.specials.st s.specials.ss n)) (length (fills c s.specials.st s.specials.ss n)))
   unfolding planned
   stack_planned = rw (stack_accepted, moves_inside)
 

@@ -4,6 +4,8 @@ use Rattle.std.proofs.Math.Bool.{true, false}
 use Rattle.std.proofs.lemmas.Bool.{false≢true}
 use Rattle.std.proofs.Math.Path.{refl}
 use Rattle.std.proofs.Common.{sym, ap, ◌∙◌}
+use Rattle.answers.specs.Refusal.{number}
+use Rattle.answers.specs.declared.Refusal.TheVariants as refusal
 use Rattle.core_state.specs.State.{State, ended as has_ended}
 use Rattle.bundle_model.specs.declared.Readiness.TheVariants as ready
 use Rattle.answers.specs.Answer.{Returned, done, ended, refused}
@@ -22,13 +24,13 @@ module _ (x : Setup) (s : State) (b : Buffers) where
   step_cases P same fine = go (admits (lent x b)) (well_formed x s) (replay_ok x.list x.table) (has_ended s (length x.code)) refl refl refl refl
     where
       go : (u y w z : Bool) → admits (lent x b) ≡ u → well_formed x s ≡ y → replay_ok x.list x.table ≡ w → has_ended s (length x.code) ≡ z
-          → P (ready_or (cond (not u) (ready.Refused 1) (cond (not y) (ready.Refused 11) (cond (not w) (ready.Refused 15) (cond z ready.Ended ready.Ready)))) s b (attempt (lent x b) x s b))
+          → P (ready_or (cond (not u) (ready.Refused refusal.Limits) (cond (not y) (ready.Refused refusal.IllFormed) (cond (not w) (ready.Refused refusal.Replay) (cond z ready.Ended ready.Ready)))) s b (attempt (lent x b) x s b))
       go false y w z p q v r = same (refused 1) refl
       go true false w z p q v r = same (refused 11) refl
       go true true false z p q v r = same (refused 15) refl
       go true true true true p q v r = same ended refl
       go true true true false p q v r =
-          attempt_cases (lent x b) x s b P (λ n j. same (refused n) refl) (fine (record { admitted = p; well_formed = q; replay = v; not_ended = r }))
+          attempt_cases (lent x b) x s b P (λ r j. same (refused (number r)) refl) (fine (record { admitted = p; well_formed = q; replay = v; not_ended = r }))
 
   -- A step that answers anything but Done changes nothing.
   pub step_unchanged : (a : Returned) → is_done a ≡ false → (step x s b).answer ≡ a → step x s b ≡ outcome a s no_counts b

@@ -1,5 +1,5 @@
 -- A bundle of any code keeps a state well formed: the register of a load is one of 32 by its field alone.
-use Rattle.std.specs.Prelude.{ℕ, Bool, cond, ◌≡◌, Option, None, Some}
+use Rattle.std.specs.Prelude.{ℕ, Bool, cond, ◌≡◌, Option, None, Some, Ok, Err}
 use Rattle.std.proofs.Math.Bool.{true, false}
 use Rattle.std.proofs.Math.Path.{refl}
 use Rattle.std.proofs.Common.{sym, subst, arith}
@@ -25,7 +25,6 @@ use Rattle.effects.specs.declared.Effect.TheVariants as effect
 use Rattle.effects.specs.Effect.{Start, effect_of, stack_effect, slot_one_effect, slot_one}
 use Rattle.alu_effects.specs.AluEffects.{holds}
 use Rattle.core_state.specs.State.{State, start_of, with_done, entered, one_place_on, load_ok, parts_ok}
-use Rattle.answers.specs.declared.Verdict.TheVariants as verdict
 use Rattle.answers.specs.Test.{verdict as verdict_of}
 use Rattle.bundle_model.specs.Interrupt.{due, handler_due, entry_tests, taken}
 use Rattle.bundle_model.specs.InterruptLaws.{due_taken, none_taken}
@@ -92,7 +91,7 @@ bundle_well_formed g x s b ok h =
     (held_kept x s (effect_at x s) ok (fine_lookups g x s j) (well_held x s h)))
 
 -- So does a bundle as it is tried: the record taken, the bundle, and one bundle more of the replay.
-pub taken_well_formed : (x : Setup) (s : State) → capacity_ok x.method ≡ true → verdict_of (entry_tests x s) ≡ verdict.Fine → well_formed x s ≡ true → well_formed x (taken x s) ≡ true
+pub taken_well_formed : (x : Setup) (s : State) → capacity_ok x.method ≡ true → verdict_of (entry_tests x s) ≡ Ok tt → well_formed x s ≡ true → well_formed x (taken x s) ≡ true
 unfolding entered
 taken_well_formed x s ok f h = go (due x s) refl
   where

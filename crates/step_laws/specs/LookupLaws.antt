@@ -1,7 +1,7 @@
 -- What a lookup that 13 lets pass keeps and counts.
-use Rattle.std.specs.Prelude.{ℕ, ◌≤◌, Bool, true, false, cond, List, [], ◌∷◌, ◌≡◌, eqb}
+use Rattle.std.specs.Prelude.{ℕ, ◌≤◌, Bool, true, false, cond, List, [], ◌∷◌, ◌≡◌, eqb, Ok, Err}
 use Rattle.std.proofs.Common.{arith}
-use Rattle.answers.specs.declared.Verdict.TheVariants as verdict
+use Rattle.answers.specs.declared.Refusal.TheVariants as refusal
 use Rattle.answers.specs.Test.{test, verdict as verdict_of}
 use Rattle.answers.specs.TestLaws.{fine_applies, fine_both}
 use Rattle.method_cache.specs.MethodCache.{capacity_ok, bad_block, held_after, misses, words_fetched, held_ok}
@@ -16,7 +16,7 @@ use Rattle.bundle_model.specs.LookupLaws.{lookups_cases}
 
 -- 13 describes nothing that is looked up, and nothing that an effect looks up.
 abbrev pub FineLookups : Setup → List ℕ → Type 0
-FineLookups x l = verdict_of (lookup_tests x.method x.code l) ≡ verdict.Fine
+FineLookups x l = verdict_of (lookup_tests x.method x.code l) ≡ Ok tt
 
 abbrev pub Found : Setup → Effect → Type 0
 Found x e = FineLookups x (lookups x e)
@@ -65,13 +65,13 @@ module _ (x : Setup) (s : State) (e : Effect) (ok : capacity_ok x.method ≡ tru
   fetched_small = one_block x s.further.held (lookups x e) one ok found
 
 -- And of what is looked up for a record that is let pass.
-pub entry_found : (x : Setup) (s : State) → verdict_of (entry_tests x s) ≡ verdict.Fine → FineLookups x (entry_lookups x s)
+pub entry_found : (x : Setup) (s : State) → verdict_of (entry_tests x s) ≡ Ok tt → FineLookups x (entry_lookups x s)
 unfolding entry_tests entry_lookups lookup_tests
 entry_found x s = go (due x s)
   where
-    go : (t : Bool) → verdict_of (cond t (test 17 (eqb (handler_due x s) 0) ∷ lookup_tests x.method x.code (cond t (looked_up x (handler_due x s) (handler_due x s)) [])) []) ≡ verdict.Fine
+    go : (t : Bool) → verdict_of (cond t (test refusal.NoHandler (eqb (handler_due x s) 0) ∷ lookup_tests x.method x.code (cond t (looked_up x (handler_due x s) (handler_due x s)) [])) []) ≡ Ok tt
         → FineLookups x (cond t (looked_up x (handler_due x s) (handler_due x s)) [])
-    go true f = (fine_both (test 17 (eqb (handler_due x s) 0) ∷ []) (lookup_tests x.method x.code (looked_up x (handler_due x s) (handler_due x s))) f).1
+    go true f = (fine_both (test refusal.NoHandler (eqb (handler_due x s) 0) ∷ []) (lookup_tests x.method x.code (looked_up x (handler_due x s) (handler_due x s))) f).1
     go false f = f
 
 module _ (x : Setup) (s : State) (ok : capacity_ok x.method ≡ true) (found : FineLookups x (entry_lookups x s)) where

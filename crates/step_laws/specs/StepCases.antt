@@ -1,13 +1,13 @@
 -- A bundle, a bundle as it is tried, and a step by their cases: without Done nothing changes.
-use Rattle.std.specs.Prelude.{ℕ, Bool, ◌++◌, ◌≡◌, length}
+use Rattle.std.specs.Prelude.{ℕ, Bool, ◌++◌, ◌≡◌, length, Ok, Err}
 use Rattle.std.proofs.Math.Bool.{true, false}
 use Rattle.std.proofs.Math.Path.{refl}
 use Rattle.std.proofs.Common.{ap, ◌∙◌}
+use Rattle.answers.specs.declared.Refusal.{Refusal}
+use Rattle.answers.specs.Refusal.{number}
 use Rattle.settings.specs.declared.Settings.{Settings}
 use Rattle.core_state.specs.State.{State, start_of, with_done, ended as has_ended}
 use Rattle.effects.specs.declared.Effect.{Effect}
-use Rattle.answers.specs.declared.Verdict.{Verdict}
-use Rattle.answers.specs.declared.Verdict.TheVariants as verdict
 use Rattle.answers.specs.Answer.{Returned, accepted, done, ended, spent, refused}
 use Rattle.settings.specs.Settings.{admits}
 use Rattle.effects.specs.Effect.{slot_one, slot_two}
@@ -17,7 +17,7 @@ use Rattle.answers.specs.TestLaws.{and_then, verdict_append}
 use Rattle.bundle_model.specs.Interrupt.{entry_tests, entry_counts, taken}
 use Rattle.bundle_model.specs.Bundle.{buffers_after, state_done, counts_of, Outcome, outcome, refused_or, bundle, finished, attempt, well_formed, readiness, step}
 use Rattle.settings.specs.Setup.{Buffers, lent, Setup}
-use Rattle.answers.specs.Test.{verdict as verdict_of}
+use Rattle.answers.specs.Test.{Verdict, verdict as verdict_of}
 use Rattle.bundle_model.specs.Counts.{no_counts, plus}
 use Rattle.fetch.specs.Fetch.{bundle_at, following_at}
 
@@ -36,32 +36,32 @@ done_outcome g x s b = outcome done (state_after g x s b) (counts_of g x s (effe
 
 module _ (g : Settings) (x : Setup) (s : State) (b : Buffers) where
   -- A bundle whose verdict is a refusal changes nothing and counts nothing.
-  pub bundle_refused : (n : ℕ) → judged g x s ≡ verdict.Refused n → bundle g x s b ≡ outcome (refused n) s no_counts b
+  pub bundle_refused : (r : Refusal) → judged g x s ≡ Err r → bundle g x s b ≡ outcome (refused (number r)) s no_counts b
   unfolding bundle
-  bundle_refused n e = rw e
+  bundle_refused r e = rw e
 
   -- A bundle judged fine is done.
-  pub bundle_done : judged g x s ≡ verdict.Fine → bundle g x s b ≡ done_outcome g x s b
+  pub bundle_done : judged g x s ≡ Ok tt → bundle g x s b ≡ done_outcome g x s b
   unfolding bundle
   bundle_done e = rw e
 
   -- What holds of the outcome of a bundle refused and of one done holds of a bundle.
-  pub bundle_cases : (P : Outcome → Type 0) → ((n : ℕ) → judged g x s ≡ verdict.Refused n → P (outcome (refused n) s no_counts b))
-      → (judged g x s ≡ verdict.Fine → P (done_outcome g x s b)) → P (bundle g x s b)
+  pub bundle_cases : (P : Outcome → Type 0) → ((r : Refusal) → judged g x s ≡ Err r → P (outcome (refused (number r)) s no_counts b))
+      → (judged g x s ≡ Ok tt → P (done_outcome g x s b)) → P (bundle g x s b)
   unfolding bundle
   bundle_cases P ref fine = go (judged g x s) refl
     where
       go : (v : Verdict) → judged g x s ≡ v → P (refused_or v s b (done_outcome g x s b))
-      go verdict.Fine e = fine e
-      go (verdict.Refused n) e = ref n e
+      go (Ok tt) e = fine e
+      go (Err r) e = ref r e
 
   -- A bundle that answers Refused changes nothing.
   pub bundle_unchanged : (n : ℕ) → (bundle g x s b).answer ≡ refused n → bundle g x s b ≡ outcome (refused n) s no_counts b
   bundle_unchanged n = bundle_cases (λ o. o.answer ≡ refused n → o ≡ outcome (refused n) s no_counts b) (λ m j e. ap (λ (a : Returned). outcome a s no_counts b) e) (λ j e. cc)
 
   -- A bundle that answers Done was judged fine.
-  pub bundle_fine : (bundle g x s b).answer ≡ done → judged g x s ≡ verdict.Fine
-  bundle_fine = bundle_cases (λ o. o.answer ≡ done → judged g x s ≡ verdict.Fine) (λ m j e. cc) (λ j e. j)
+  pub bundle_fine : (bundle g x s b).answer ≡ done → judged g x s ≡ Ok tt
+  bundle_fine = bundle_cases (λ o. o.answer ≡ done → judged g x s ≡ Ok tt) (λ m j e. cc) (λ j e. j)
 
   -- What a bundle that answers Done leaves, where slot one's effect is known.
   pub bundle_done_as : (e : Effect) → effect_at x s ≡ e → (bundle g x s b).answer ≡ done
@@ -72,8 +72,8 @@ module _ (g : Settings) (x : Setup) (s : State) (b : Buffers) where
 
 -- A bundle as it is tried: a record that is due is let pass, and then the bundle from the state with the record taken.
 pub record Passes (g : Settings) (x : Setup) (s : State) : Type 0 where
-  pub entry : verdict_of (entry_tests x s) ≡ verdict.Fine
-  pub slots : judged g x (taken x s) ≡ verdict.Fine
+  pub entry : verdict_of (entry_tests x s) ≡ Ok tt
+  pub slots : judged g x (taken x s) ≡ Ok tt
 
 -- Its outcome where it is done.
 abbrev pub attempt_done : Settings → Setup → State → Buffers → Outcome
@@ -83,7 +83,7 @@ attempt_done g x s b =
 module _ (g : Settings) (x : Setup) (s : State) (b : Buffers) where
   -- What holds of an outcome that changes nothing and of the one done holds of a bundle as it is tried.
   pub attempt_cases : (P : Outcome → Type 0)
-      → ((n : ℕ) → verdict_of (entry_tests x s ++ bundle_tests g x (taken x s) (effect_at x (taken x s))) ≡ verdict.Refused n → P (outcome (refused n) s no_counts b))
+      → ((r : Refusal) → verdict_of (entry_tests x s ++ bundle_tests g x (taken x s) (effect_at x (taken x s))) ≡ Err r → P (outcome (refused (number r)) s no_counts b))
       → (Passes g x s → P (attempt_done g x s b)) → P (attempt g x s b)
   unfolding attempt
   attempt_cases P ref fine = go (verdict_of (entry_tests x s)) refl
@@ -95,9 +95,9 @@ module _ (g : Settings) (x : Setup) (s : State) (b : Buffers) where
       all = verdict_append (entry_tests x s) (bundle_tests g x (taken x s) (effect_at x (taken x s)))
 
       go : (v : Verdict) → verdict_of (entry_tests x s) ≡ v → P (refused_or v s b (finished s b (entry_counts x s) (bundle g x (taken x s) b)))
-      go verdict.Fine e =
-          bundle_cases g x (taken x s) b (λ o. P (finished s b (entry_counts x s) o)) (λ n j. ref n (all ∙ ap inner e ∙ j)) (λ j. fine (record { entry = e; slots = j }))
-      go (verdict.Refused n) e = ref n (all ∙ ap inner e)
+      go (Ok tt) e =
+          bundle_cases g x (taken x s) b (λ o. P (finished s b (entry_counts x s) o)) (λ r j. ref r (all ∙ ap inner e ∙ j)) (λ j. fine (record { entry = e; slots = j }))
+      go (Err r) e = ref r (all ∙ ap inner e)
 
 -- Whether an answer is done.
 abbrev pub is_done : Returned → Bool

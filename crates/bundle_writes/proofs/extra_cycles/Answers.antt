@@ -1,5 +1,4 @@
 use mathlib.Core.Path.{refl}
-use borrow.Author.Rules.{rules}
 use Rattle.bundle_writes.proofs.extra_cycles.Goals as goal
 
 pub returns-then-delayed : goal.returns-then-delayed

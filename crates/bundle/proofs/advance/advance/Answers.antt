@@ -2,6 +2,7 @@ use mathlib.Core.Path.{refl, sym, ap, ◌∙◌}
 use Rattle.method_cache.specs.Words.{held_in}
 use Rattle.settings.specs.declared.Settings.{Settings}
 use Rattle.settings.specs.Setup.{buffers, lent, replaying, setup, setup_of}
+use Rattle.answers.specs.Refusal.{number}
 use Rattle.answers.specs.Answer.{ended, refused}
 use Rattle.core_state.specs.State.{with_held}
 use Rattle.core_state.specs.Core.{joined}
@@ -30,7 +31,7 @@ returns-in-Refused c =
     let s = with_held (joined a.registers.now a.predicates.now a.core) (held_in a.held.now) in
     let q = ap (λ (y : Settings). readiness y (replaying a.list.now a.table.now (setup_of a.code.now y)) s) (sym c.settings-g.ensures) ∙ sym c.readiness.ensures ∙ c.in-Refused.is in
     let ready = sym (ap (λ (r : Readiness). ready_or r s b (goes_on x a.budget s b)) q) in
-    record { given = ap (λ (n : Counts). outcome (refused c.in-Refused.n) s n b) c.no_counts.ensures ∙ ready; canonical = λ k. k; held = λ f. f }
+    record { given = ap (λ (n : Counts). outcome (refused (number c.in-Refused.refusal)) s n b) c.no_counts.ensures ∙ ready; canonical = λ k. k; held = λ f. f }
 
 pub returns-in-Ended : goal.returns-in-Ended
 returns-in-Ended c =

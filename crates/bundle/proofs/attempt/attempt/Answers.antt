@@ -15,7 +15,7 @@ pub returns-then-due : goal.returns-then-due
 returns-then-due c =
     let a = c.args in
     let x = replaying a.list.now a.table.now (setup_of a.code.now a.g) in
-    let en = enters_going _ _ _ c.in-Going.is (c.enter.ensures a.registers.now a.predicates.now) in
+    let en = enters_going _ _ _ c.in-Ok.is (c.enter.ensures a.registers.now a.predicates.now) in
     let r = c.bundle-r in
     record {
       given = handed_undone a.g x a.registers.now a.predicates.now a.core a.held.now a.counts.now _ _ _ _ _ _ en _ _ _ _ r.result _ (r.ensures.given a.list.now) (not_done r.result.answer (opened c.in_default.in_default-own.keys2)) _ _ (ap held_in (en.kept c.if-due.true)) refl;
@@ -27,7 +27,7 @@ pub returns-in_default : goal.returns-in_default
 returns-in_default c =
     let a = c.args in
     let x = replaying a.list.now a.table.now (setup_of a.code.now a.g) in
-    let en = enters_going _ _ _ c.in-Going.is (c.enter.ensures a.registers.now a.predicates.now) in
+    let en = enters_going _ _ _ c.in-Ok.is (c.enter.ensures a.registers.now a.predicates.now) in
     let r = c.bundle-r in
     let no = not_done r.result.answer (opened c.in_default.in_default-own.keys2) in
     record {
@@ -40,7 +40,7 @@ pub add_looked-requires : goal.add_looked-requires
 add_looked-requires c =
     let a = c.args in
     let x = replaying a.list.now a.table.now (setup_of a.code.now a.g) in
-    let en = enters_going _ _ _ c.in-Going.is (c.enter.ensures a.registers.now a.predicates.now) in
+    let en = enters_going _ _ _ c.in-Ok.is (c.enter.ensures a.registers.now a.predicates.now) in
     let r = c.bundle-r in
     let p = c.requires in
     entry_fits a.g x a.registers.now a.predicates.now a.core a.held.now a.counts.now _ _ _ _ _ _ en _ _ _ _ r.result _ (r.ensures.given a.list.now) p.0 refl p.3 c.if-due-2.true
@@ -49,7 +49,7 @@ pub returns-then-due-2 : goal.returns-then-due-2
 returns-then-due-2 c =
     let a = c.args in
     let x = replaying a.list.now a.table.now (setup_of a.code.now a.g) in
-    let en = enters_going _ _ _ c.in-Going.is (c.enter.ensures a.registers.now a.predicates.now) in
+    let en = enters_going _ _ _ c.in-Ok.is (c.enter.ensures a.registers.now a.predicates.now) in
     let r = c.bundle-r in
     let n = c.count.ensures in
     record {
@@ -58,11 +58,11 @@ returns-then-due-2 c =
       held = λ f. r.ensures.held (en.fixed f);
     }
 
-pub returns-in-Refused : goal.returns-in-Refused
-returns-in-Refused c =
+pub returns-in-Err : goal.returns-in-Err
+returns-in-Err c =
     let a = c.args in
     let x = replaying a.list.now a.table.now (setup_of a.code.now a.g) in
-    let en = enters_refused x a.registers.now a.predicates.now a.core a.held.now _ _ _ _ c.in-Refused.is (c.enter.ensures a.registers.now a.predicates.now) in
+    let en = enters_refused x a.registers.now a.predicates.now a.core a.held.now _ _ _ _ c.in-Err.is (c.enter.ensures a.registers.now a.predicates.now) in
     record {
       given = rw en.1 (handed_entry a.g x a.registers.now a.predicates.now a.core a.held.now a.counts.now _ _ _ en.0 c.refused.ensures);
       canonical = subst Canonical (sym (ap (λ (y : Bundled). y.core) c.refused.ensures));
@@ -73,11 +73,11 @@ pub returns-else-due-2 : goal.returns-else-due-2
 returns-else-due-2 c =
     let a = c.args in
     let x = replaying a.list.now a.table.now (setup_of a.code.now a.g) in
-    let en = enters_going _ _ _ c.in-Going.is (c.enter.ensures a.registers.now a.predicates.now) in
+    let en = enters_going _ _ _ c.in-Ok.is (c.enter.ensures a.registers.now a.predicates.now) in
     let r = c.bundle-r in
-    let n = c.count-in-Going.ensures in
+    let n = c.count-in-Ok.ensures in
     record {
-      given = handed_plain a.g x a.registers.now a.predicates.now a.core a.held.now a.counts.now _ _ _ _ _ _ en _ _ _ _ r.result _ (r.ensures.given a.list.now) _ _ c.if-due-2.false c.in-Done.is (n.state _ _) c.done-in-Going.ensures;
-      canonical = λ k. subst Canonical (sym (ap (λ (y : Bundled). y.core) c.done-in-Going.ensures)) (canonical_kept _ _ n.transfer n.load n.products (r.ensures.canonical (en.canonical k)));
+      given = handed_plain a.g x a.registers.now a.predicates.now a.core a.held.now a.counts.now _ _ _ _ _ _ en _ _ _ _ r.result _ (r.ensures.given a.list.now) _ _ c.if-due-2.false c.in-Done.is (n.state _ _) c.done-in-Ok.ensures;
+      canonical = λ k. subst Canonical (sym (ap (λ (y : Bundled). y.core) c.done-in-Ok.ensures)) (canonical_kept _ _ n.transfer n.load n.products (r.ensures.canonical (en.canonical k)));
       held = λ f. r.ensures.held (en.fixed f);
     }

@@ -1,10 +1,9 @@
+use Rattle.std.specs.Prelude.{Ok, Err}
 use mathlib.Core.Bool.{Bool, cond}
 use mathlib.Core.Path.{sym, ap, ◌∙◌}
 use borrow.Author.Rules.{rules}
 use borrow.Author.Tests.{eq-eqb, ne_eqb}
-use Rattle.answers.specs.declared.Verdict.{Verdict}
-use Rattle.answers.specs.declared.Verdict.TheVariants.{Fine, Refused}
-use Rattle.answers.specs.Test.{verdict}
+use Rattle.answers.specs.Test.{Verdict, verdict}
 use Rattle.bundle_model.specs.Lookup.{bases_of}
 use Rattle.bundle.proofs.attempt.judge_entry.Goals as goal
 

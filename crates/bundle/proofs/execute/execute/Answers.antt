@@ -14,31 +14,31 @@ add-requires c =
     let a = c.args in
     let h = c.requires in
     let e = c.carry_out.ensures [] [] in
-    one_more_fits a.g (setup_of a.code.now a.g) (joined [] [] a.core) a.one _ _ _ _ _ a.held.now _ a.counts.now _ h.0 refl c.in-Done.is e.0 e.1 h.2
+    one_more_fits a.g (setup_of a.code.now a.g) (joined [] [] a.core) a.one _ _ _ _ _ a.held.now _ a.counts.now _ h.0 refl c.in-Ok.is e.0 e.1 h.2
 
-pub returns-in-Refused : goal.returns-in-Refused
-returns-in-Refused c =
+pub returns-in-Err : goal.returns-in-Err
+returns-in-Err c =
     let a = c.args in
     let e = c.carry_out.ensures a.registers.now a.predicates.now in
     record {
-      given = handed_refused a.g (setup_of a.code.now a.g) a.registers.now a.predicates.now a.core a.held.now a.one a.two a.following _ _ _ a.counts.now _ _ _ c.in-Refused.is e.0 e.1 c.refused.ensures;
+      given = handed_refused a.g (setup_of a.code.now a.g) a.registers.now a.predicates.now a.core a.held.now a.one a.two a.following _ _ _ a.counts.now _ _ _ c.in-Err.is e.0 e.1 c.refused.ensures;
       canonical = subst Canonical (sym (ap (λ (y : Bundled). y.core) c.refused.ensures));
       held = e.1.fixed;
     }
 
-pub shape_of-main-in-Done : goal.shape_of-main-in-Done
-shape_of-main-in-Done c = search (rules, c.carry_out.auto)
+pub shape_of-main-in-Ok : goal.shape_of-main-in-Ok
+shape_of-main-in-Ok c = search (rules, c.carry_out.auto)
 
-pub shape_of-local-in-Done : goal.shape_of-local-in-Done
-shape_of-local-in-Done c = search (rules, c.carry_out.auto)
+pub shape_of-local-in-Ok : goal.shape_of-local-in-Ok
+shape_of-local-in-Ok c = search (rules, c.carry_out.auto)
 
-pub returns-in-Done : goal.returns-in-Done
-returns-in-Done c =
+pub returns-in-Ok : goal.returns-in-Ok
+returns-in-Ok c =
     let a = c.args in
     let e = c.carry_out.ensures a.registers.now a.predicates.now in
     let w = c.write-next.ensures in
     record {
-      given = handed_done a.g (setup_of a.code.now a.g) a.registers.now a.predicates.now a.core a.held.now a.one a.two a.following _ _ _ a.counts.now _ _ _ _ _ _ _ _ c.add.new.counts c.in-Done.is e.0 e.1 w.state c.add.ensures c.done.ensures;
+      given = handed_done a.g (setup_of a.code.now a.g) a.registers.now a.predicates.now a.core a.held.now a.one a.two a.following _ _ _ a.counts.now _ _ _ _ _ _ _ _ c.add.new.counts c.in-Ok.is e.0 e.1 w.state c.add.ensures c.done.ensures;
       canonical = λ k. subst Canonical (sym (ap (λ (y : Bundled). y.core) c.done.ensures)) (written_canonical a.one _ a.core _ w.transfer w.load w.products k);
       held = e.1.fixed;
     }

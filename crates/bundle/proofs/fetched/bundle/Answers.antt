@@ -15,24 +15,24 @@ use Rattle.bundle.proofs.fetched.bundle.Goals as goal
 pub overflow_cast-following : goal.overflow_cast-following
 overflow_cast-following c =
     let a = c in
-    omega (arith, found_inside a.args.code.now a.args.core.fetch _ _ (sym c.fetch.ensures ∙ c.in-Found.is), code_small a.args.g a.requires.0, a.requires.2)
+    omega (arith, found_inside a.args.code.now a.args.core.fetch _ (sym c.fetch.ensures ∙ c.in-Ok.is), code_small a.args.g a.requires.0, a.requires.2)
 
-pub returns-in-Refused : goal.returns-in-Refused
-returns-in-Refused c =
+pub returns-in-Err : goal.returns-in-Err
+returns-in-Err c =
     let a = c.args in
     record {
-      given = λ list. handed_unread a.g (replaying list a.table.now (setup_of a.code.now a.g)) a.registers.now a.predicates.now a.core a.held.now a.counts.now _ _ _ (sym c.fetch.ensures ∙ c.in-Refused.is) c.refused.ensures;
+      given = λ list. handed_unread a.g (replaying list a.table.now (setup_of a.code.now a.g)) a.registers.now a.predicates.now a.core a.held.now a.counts.now _ _ _ (sym c.fetch.ensures ∙ c.in-Err.is) c.refused.ensures;
       canonical = subst Canonical (sym (ap (λ (y : Bundled). y.core) c.refused.ensures));
       held = λ f. f;
     }
 
-pub returns-in-Found : goal.returns-in-Found
-returns-in-Found c =
+pub returns-in-Ok : goal.returns-in-Ok
+returns-in-Ok c =
     let a = c.args in
     let e = c.execute.ensures in
     let x = setup_of a.code.now a.g in
     record {
-      given = λ list. handed_read a.g (replaying list a.table.now x) a.registers.now a.predicates.now a.core a.held.now a.counts.now _ _ _ _ _ _ (sym c.fetch.ensures ∙ c.in-Found.is) c.slot_one-one.ensures c.slot_two-two.ensures
+      given = λ list. handed_read a.g (replaying list a.table.now x) a.registers.now a.predicates.now a.core a.held.now a.counts.now _ _ _ _ _ (sym c.fetch.ensures ∙ c.in-Ok.is) c.slot_one-one.ensures c.slot_two-two.ensures
           (e.given ∙ ap (counted (counts_in a.counts.now)) (executed_replay list a.table.now a.g x _ _ _ _ _));
       canonical = e.canonical;
       held = e.held;

@@ -1,7 +1,9 @@
+use Rattle.std.specs.Prelude.{Result}
 use mathlib.Core.Path.{◌≡◌, refl}
 use mathlib.Core.List.{List, [], ◌∷◌}
 use Prim.Native.Nat.{ℕ}
 use borrow.Author.Rules.{rules}
+use Rattle.answers.specs.declared.Refusal.{Refusal}
 use Rattle.method_cache.specs.Words.{held_in}
 use Rattle.settings.specs.Setup.{setup_of, Setup, Buffers, buffers}
 use Rattle.core_state.specs.State.{with_held, State}
@@ -36,7 +38,7 @@ plain g x s b (Stack c n m) h = absurd (miss others 5 tt h)
 plain g x s b (Transfer d t) h = absurd (miss others 6 tt h)
 plain g x s b (Trap n handler) h = absurd (miss others 7 tt h)
 
-plain-tallied : (g : Settings) (x : Setup) (t : State) (w c : List ℕ) (r : Carried) (e : Effect) → OneOf others (tag_of the_type e) → Tallied r g x (with_held t (held_in w)) e w w c c
+plain-tallied : (g : Settings) (x : Setup) (t : State) (w c : List ℕ) (r : Result Carried Refusal) (e : Effect) → OneOf others (tag_of the_type e) → Tallied r g x (with_held t (held_in w)) e w w c c
 plain-tallied g x t w c r (Alu a) h = tallied_none g x t w (Alu a) refl r c refl refl refl
 plain-tallied g x t w c r (Special d v) h = tallied_none g x t w (Special d v) refl r c refl refl refl
 plain-tallied g x t w c r (Product l k) h = tallied_none g x t w (Product l k) refl r c refl refl refl

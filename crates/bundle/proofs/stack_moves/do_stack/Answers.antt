@@ -1,5 +1,6 @@
 use mathlib.Core.Path.{refl, sym, ap, ◌∙◌}
 use mathlib.Core.Bool.{false≢true, not}
+use Rattle.std.proofs.lemmas.Result.{err_from_is_err_and}
 use Prim.Native.Nat.{ℕ}
 use borrow.Author.Rules.{rules}
 use Rattle.settings.specs.Setup.{setup_of}
@@ -22,33 +23,35 @@ returns-then-not-aligned c =
     let s = with_held (joined rs ps a.core) hs in
     (rw (slot_plain a.g (setup_of code a.g) s (effect.Stack a.control a.words a.aligned) refl, stack_tests_lem a.g (setup_of code a.g) s a.control a.words a.aligned, c.if-not-aligned.true) refl, sym (plus_none (counts_in a.counts.now)))
 
-pub returns-in_default : goal.returns-in_default
-returns-in_default c = λ code rs hs l ps. absurd (false≢true (sym (size_refused _ (sym c.new.ensures ∙ c.in_default.is)) ∙ size_ok c.args.g c.requires.0))
+pub returns-in_err-stack : goal.returns-in_err-stack
+returns-in_err-stack c = λ code rs hs l ps. absurd (false≢true (sym (size_refused _ (sym c.new.ensures ∙ c.in_err-stack.was)) ∙ size_ok c.args.g c.requires.0))
 
 pub move_words-requires : goal.move_words-requires
 move_words-requires c =
     let a = c.args in
     let h = c.requires in
-    let w = size_words _ (sym c.new.ensures ∙ c.in-Cache.is) in
-    let p = ap (λ (n : ℕ). planned a.control n a.g.lo a.g.hi a.core.specials.st a.core.specials.ss a.words) (sym w) ∙ sym c.plan.ensures ∙ c.in-Moves.is in
+    let w = size_words _ (sym c.new.ensures ∙ c.in_ok-stack.was) in
+    let p = ap (λ (n : ℕ). planned a.control n a.g.lo a.g.hi a.core.specials.st a.core.specials.ss a.words) (sym w) ∙ sym c.plan.ensures ∙ c.in_ok-st.was in
     let t = planned_told _ _ _ _ _ _ _ _ _ _ _ p in
     (area_ordered a.g h.0, rw (← h.1) (area_inside a.g h.0), λ r. one_way _ _ _ _ _ _ _ t.spilled t.filled r)
 
-pub returns-in-Refused : goal.returns-in-Refused
+pub returns-in_err-st : goal.returns-in_err-st
 unfolding carried_out
-returns-in-Refused c =
+returns-in_err-st c =
     let a = c.args in
-    let w = size_words _ (sym c.new.ensures ∙ c.in-Cache.is) in
-    let p = ap (λ (n : ℕ). planned a.control n a.g.lo a.g.hi a.core.specials.st a.core.specials.ss a.words) (sym w) ∙ sym c.plan.ensures ∙ c.in-Refused.is in
-    λ code rs hs l ps.
+    let w = size_words _ (sym c.new.ensures ∙ c.in_ok-stack.was) in
+    let p = ap (λ (n : ℕ). planned a.control n a.g.lo a.g.hi a.core.specials.st a.core.specials.ss a.words) (sym w) ∙ sym c.plan.ensures ∙ c.in_err-st.was in
+    let e = err_from_is_err_and c.from_residual-in_err-st.result c.from_residual-in_err-st.ensures.1 in
+    rw (e.1, e.2)
+    (λ code rs hs l ps.
     let s = with_held (joined rs ps a.core) hs in
-    (rw (slot_plain a.g (setup_of code a.g) s (effect.Stack a.control a.words a.aligned) refl, stack_tests_lem a.g (setup_of code a.g) s a.control a.words a.aligned, c.if-not-aligned.false, p) refl, sym (plus_none (counts_in a.counts.now)))
+    (rw (slot_plain a.g (setup_of code a.g) s (effect.Stack a.control a.words a.aligned) refl, stack_tests_lem a.g (setup_of code a.g) s a.control a.words a.aligned, c.if-not-aligned.false, p) refl, sym (plus_none (counts_in a.counts.now))))
 
-pub returns-in-Moves : goal.returns-in-Moves
-returns-in-Moves c =
+pub returns : goal.returns
+returns c =
     let a = c.args in
-    let w = size_words _ (sym c.new.ensures ∙ c.in-Cache.is) in
-    let p = ap (λ (n : ℕ). planned a.control n a.g.lo a.g.hi a.core.specials.st a.core.specials.ss a.words) (sym w) ∙ sym c.plan.ensures ∙ c.in-Moves.is in
+    let w = size_words _ (sym c.new.ensures ∙ c.in_ok-stack.was) in
+    let p = ap (λ (n : ℕ). planned a.control n a.g.lo a.g.hi a.core.specials.st a.core.specials.ss a.words) (sym w) ∙ sym c.plan.ensures ∙ c.in_ok-st.was in
     λ code rs hs l ps.
     let s = with_held (joined rs ps a.core) hs in (
       stack_carried a.g (setup_of code a.g) s a.control a.words a.aligned _ l _ _ _ _ _ _ _ (ap not c.if-not-aligned.false) p c.move_words.ensures,

@@ -1,13 +1,12 @@
 use Prim.Native.Nat.{◌<◌, ◌^◌}
-use mathlib.Core.List.{◌∷◌}
-use mathlib.Core.Path.{sym, ◌∙◌}
-use mathlib.Core.Bool.{not}
-use Rattle.answers.specs.Test.{test, verdict}
-use Rattle.bundle_model.specs.Lookup.{bases_of, lookup_tests}
-use Rattle.core_state.specs.State.{none_waits, with_held}
-use Rattle.core_state.specs.Core.{waiting_transfer, joined}
+use mathlib.Core.Path.{refl, sym, ◌∙◌}
+use Rattle.std.proofs.lemmas.Result.{err_from_is_err_and}
+use Rattle.std.specs.Prelude.{Result, Ok}
+use Rattle.answers.specs.declared.Refusal.{Refusal}
+use Rattle.core_state.specs.State.{with_held}
+use Rattle.core_state.specs.Core.{joined}
+use Rattle.bundle_model.specs.declared.Carried.{Carried}
 use Rattle.bundle_model.specs.Counts.{few_words, counts_in}
-use Rattle.bundle_writes.specs.Lookup.{judged_done}
 use Rattle.bundle_model.specs.TallyLaws.{tallied_refused}
 use Rattle.bundle_model.proofs.ExecuteLaws.{extra_few}
 use native.Mathlib.Omega.{arith}
@@ -19,14 +18,15 @@ use Rattle.effects.specs.declared.Effect.TheVariants as effect
 use Rattle.bundle_writes.specs.Transfers.{transfer_carried, transfer_tallied}
 use Rattle.bundle.proofs.transfers.do_transfer.Goals as goal
 
-pub returns-in-Refused : goal.returns-in-Refused
-returns-in-Refused c =
+pub returns-in_err-judge_transfer : goal.returns-in_err-judge_transfer
+returns-in_err-judge_transfer c =
     let a = c.args in
-    let n = c.in-Refused.n in
-    λ rs ps b. (
-      transfer_carried a.g (setup_of a.code.now a.g) (with_held (joined rs ps a.core) (held_in a.held.now)) a.delayed a.transfer b _ (sym c.in-Refused.is ∙ c.judge_transfer-judged.ensures),
-      tallied_refused n a.g (setup_of a.code.now a.g) (joined rs ps a.core) a.held.now a.counts.now (effect.Transfer a.delayed a.transfer),
-    )
+    let p = err_from_is_err_and c.from_residual.result c.from_residual.ensures.1 in
+    rw (p.1, p.2)
+    (λ rs ps b. (
+      transfer_carried a.g (setup_of a.code.now a.g) (with_held (joined rs ps a.core) (held_in a.held.now)) a.delayed a.transfer b _ (sym c.in_err-judge_transfer.was ∙ c.judge_transfer.ensures),
+      tallied_refused _ a.g (setup_of a.code.now a.g) (joined rs ps a.core) a.held.now a.counts.now (effect.Transfer a.delayed a.transfer),
+    ))
 
 pub add-requires : goal.add-requires
 add-requires c =
@@ -40,9 +40,9 @@ pub returns : goal.returns
 returns c =
     let a = c.args in
     let p = c.requires.0 in
-    λ rs ps b.
-    let s = with_held (joined rs ps a.core) (held_in a.held.now) in
-    let v = verdict (test 4 (not (none_waits (waiting_transfer a.core.transfer))) ∷ lookup_tests a.g.method a.code.now (bases_of (setup_of a.code.now a.g) a.transfer)) in (
-      transfer_carried a.g (setup_of a.code.now a.g) s a.delayed a.transfer b _ (c.nothing.ensures ∙ judged_done v _ _ _ (sym c.in_default.is ∙ c.judge_transfer-judged.ensures)),
-      transfer_tallied a.g a.code.now (joined rs ps a.core) a.delayed a.transfer a.held.now _ a.counts.now _ _ _ _ c.nothing.ensures (capacity_ok_lem a.g p) c.look_up_transfer-looked.ensures c.extra_cycles.ensures c.add.ensures,
-    )
+    rw c.nothing.ensures
+    (λ rs ps b.
+    let s = with_held (joined rs ps a.core) (held_in a.held.now) in (
+      transfer_carried a.g (setup_of a.code.now a.g) s a.delayed a.transfer b (Ok tt) (sym c.in_ok-judge_transfer.was ∙ c.judge_transfer.ensures),
+      transfer_tallied a.g a.code.now (joined rs ps a.core) a.delayed a.transfer a.held.now _ a.counts.now _ _ _ _ refl (capacity_ok_lem a.g p) c.look_up_transfer-looked.ensures c.extra_cycles.ensures c.add.ensures,
+    ))

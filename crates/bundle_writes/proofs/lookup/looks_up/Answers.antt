@@ -1,6 +1,5 @@
 use mathlib.Core.Path.{refl}
 use Rattle.bundle_model.specs.Lookup.{bases_of}
-use borrow.Author.Rules.{rules}
 use Rattle.bundle_writes.proofs.lookup.looks_up.Goals as goal
 
 pub returns-in-Br : goal.returns-in-Br

@@ -2,7 +2,9 @@ use Prim.Native.Nat.{ℕ, ◌≤◌, ◌%◌}
 use mathlib.Core.Path.{◌≡◌, sym}
 use borrow.Author.Tests.{eq-eqb, ne_eqb, le-leb, lt-leb}
 use Rattle.stack_cache.specs.Stack.{least, greatest, is_cache_size, make_cache}
-use Rattle.stack_cache.specs.declared.Made.TheVariants as made
+use Rattle.std.specs.Prelude.{Err}
+use Rattle.answers.specs.declared.Refusal.TheVariants as refusal
+use borrow.Author.Rules.{rules}
 use Rattle.stack_cache.proofs.StackCache.new.Goals as goal
 
 pub returns-then-words-least : goal.returns-then-words-least
@@ -13,7 +15,7 @@ pub returns-then-greatest-words : goal.returns-then-greatest-words
 unfolding make_cache is_cache_size
 returns-then-greatest-words c = rw (le-leb _ _ c.if-words-least.false, lt-leb _ _ c.if-greatest-words.true)
 
-no_size : (w : ℕ) → least ≤ w → w ≤ greatest → (greatest % w ≡ 0 → ⊥) → make_cache w ≡ made.Refused 1
+no_size : (w : ℕ) → least ≤ w → w ≤ greatest → (greatest % w ≡ 0 → ⊥) → make_cache w ≡ Err refusal.Limits
 unfolding make_cache is_cache_size
 no_size w a b n = rw (le-leb _ _ a, le-leb _ _ b, ne_eqb _ _ n)
 
