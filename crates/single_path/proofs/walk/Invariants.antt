@@ -1,4 +1,4 @@
-use Prim.Native.Nat.{◌≤◌, ◌/◌, ◌+◌}
+use Prim.Native.Nat.{◌≤◌, ◌/◌, ◌+◌, ◌-◌}
 use mathlib.Core.Path.{◌≡◌, refl, sym, ◌∙◌}
 use native.Mathlib.Omega.{arith}
 use borrow.Author.Tests.{ne_eqb}
@@ -10,9 +10,6 @@ use Rattle.single_path.specs.LoopLaws.{walk_none, walk_end, walk_refused, walk_b
 use Rattle.single_path.specs.FoundLaws.{found_keeps, found_breaks, breaks_keeps}
 use Rattle.single_path.proofs.walk.Given as goal
 
-abbrev pub invariant-loop-left : goal.invariant-loop-left
-invariant-loop-left l =
-    (l.left ≤ length l.code / 4 + 1) × (l.address ≤ length l.code) × (walk_from l.marking l.code l.left l.address ≡ walk_from l.marking l.code (length l.code / 4 + 1) 0)
-
-abbrev pub decreases-loop-left : goal.decreases-loop-left
-decreases-loop-left l = l.left
+abbrev pub invariant-loop : goal.invariant-loop
+invariant-loop l =
+    (l.address ≤ length l.code) × (walk_from l.marking l.code (length l.code / 4 + 1 - l.counter) l.address ≡ walk_from l.marking l.code (length l.code / 4 + 1) 0)
