@@ -1,5 +1,5 @@
 // The ALU formats: what either slot can hold, and the long immediate.
-#![tactic(auto, using(isa::specs::TableLaws::row_unused, isa::specs::TableLaws::row_used, isa::specs::TableLaws::row_applied), unfolding(isa::specs::Format::reading))]
+#![tactic(auto, using(isa::specs::TableLaws::rows, isa::specs::TableLaws::row_applied), unfolding(isa::specs::Format::reading))]
 
 ghost use Rattle.std.specs.Prelude.{◌≡◌, Some};
 ghost use Rattle.isa.specs.Format.{reading, row};
