@@ -48,7 +48,7 @@ pub fn say(page: &mut Page, form: &[u8], numbers: &[u64])
 {
     let mut k = 0;
     for b in form {
-        put_shown(&mut *page, *b, nth(numbers, k));
+        put_shown(page, *b, nth(numbers, k));
         k = next_number(*b, k);
     }
 }
@@ -59,5 +59,5 @@ pub fn say_kept(page: &mut Page, form: &[u8], kept: &Kept, first: usize)
 {
     let from = least(first, ALL);
     let numbers = &kept[..];
-    say(&mut *page, form, &numbers[from..]);
+    say(page, form, &numbers[from..]);
 }
