@@ -1,5 +1,5 @@
 // What an operation changed: a line for each word that differs from its copy.
-#![tactic(auto, using(text::specs::PageLaws::texts), unfolding(crate::specs::Changes::change_line, crate::specs::Changes::cache_change, crate::specs::Changes::changes_text))]
+#![tactic(auto, using(text::specs::PageLaws::texts), unfolding(crate::specs::Changes::change_line, crate::specs::Changes::change_at, crate::specs::Changes::cache_change, crate::specs::Changes::changes_text))]
 
 ghost use Rattle.std.specs.Prelude.{◌≡◌, ◌*◌, ◌≤◌, length};
 ghost use Rattle.text.specs.Field.{same_bytes};
@@ -70,6 +70,7 @@ fn put_words(page: &mut Page, label: &[u8], after: &[u8], before: &[u8])
 }
 
 // The changed words of the first n bytes of a memory.
+#[tactic(auto, unfolding(crate::specs::Changes::memory_changes))]
 fn put_memory(page: &mut Page, label: &[u8], memory: &Memory, n: usize)
     ensures { Puts page.old page.new (memory_changes label.now memory.now n) }
 {

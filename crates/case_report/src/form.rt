@@ -54,6 +54,7 @@ pub fn say(page: &mut Page, form: &[u8], numbers: &[u64])
 }
 
 // A form with kept numbers, from an index on.
+#[tactic(auto, using(crate::specs::FormLaws::from_on))]
 pub fn say_kept(page: &mut Page, form: &[u8], kept: &Kept, first: usize)
     ensures { Puts page.old page.new (filled form.now (drop first kept.now)) }
 {
