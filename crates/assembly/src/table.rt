@@ -73,6 +73,7 @@ fn start_of(form: u32) -> usize
     start
 }
 
+#[tactic(auto, using(crate::specs::TableLaws::all_rows), unfolding(crate::specs::Forms::name_of, crate::specs::Forms::mnemonics, crate::specs::Forms::forms, text::specs::Table::table))]
 pub fn put_name(page: &mut Page, m: Mnemonic)
     ensures { Puts page.old page.new (name_of m) }
 {

@@ -1,4 +1,4 @@
-// Text: the fields of a line, the numbers that are read from them, tables of texts, and texts and digits put into a buffer.
+// Text: the fields of a line, the numbers that are read from them, tables of texts, and texts and digits put on a page.
 #![tactic(auto)]
 
 mod digits;
