@@ -88,8 +88,8 @@ fn put_found(
     ensures { page result out.new ≡ with_text (page used out.old) (found_text first second (fetched code.now address)) }
 {
     match fetch(code, address) {
-        Fetched::Refused(n) => put_refused(&mut *out, used, n),
-        Fetched::Found { bundle, .. } => {
+        Err(refusal) => put_refused(&mut *out, used, refusal.number()),
+        Ok(Fetched { bundle, .. }) => {
             let a = put_fixed(&mut *out, used, first, second, write(bundle));
             let b = put_byte(&mut *out, a, b' ');
             put_bundle(&mut *out, b, bundle)

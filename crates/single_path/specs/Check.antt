@@ -34,7 +34,7 @@ letter_broken m code (enum.Broken a r) = breaks m (bundle_at code a) r
 
 -- A bundle that cannot be read is refused at its address.
 abbrev pub refused_at : Verdict → ℕ → CheckAnswer → CheckAnswer
-refused_at (Ok tt) a other = other
+refused_at (Ok u) a other = other
 refused_at (Err r) a other = refused (number r) a
 
 -- The bundles from address a on, `most` at most: the first that fails gives 2, 3 or 9, in that order.
