@@ -6,6 +6,7 @@ ghost use Rattle.alu.specs.Alu.{arithmetic, multiply, compare, combine};
 
 use isa::{AluFunction, CompareFunction, MultiplyFunction, PredicateFunction};
 
+#[tactic(auto, unfolding(crate::specs::Alu::arithmetic))]
 pub fn arithmetic(function: AluFunction, a: u32, b: u32) -> u32
     ensures { result ≡ arithmetic function a b }
 {
@@ -24,6 +25,7 @@ pub fn arithmetic(function: AluFunction, a: u32, b: u32) -> u32
     }
 }
 
+#[tactic(auto, unfolding(crate::specs::Alu::multiply))]
 pub fn multiply(function: MultiplyFunction, a: u32, b: u32) -> u64
     ensures { result ≡ multiply function a b }
 {
@@ -33,6 +35,7 @@ pub fn multiply(function: MultiplyFunction, a: u32, b: u32) -> u64
     }
 }
 
+#[tactic(auto, unfolding(crate::specs::Alu::compare))]
 pub fn compare(function: CompareFunction, a: u32, b: u32) -> bool
     ensures { result ≡ compare function a b }
 {
@@ -47,6 +50,7 @@ pub fn compare(function: CompareFunction, a: u32, b: u32) -> bool
     }
 }
 
+#[tactic(auto, unfolding(crate::specs::Alu::combine))]
 pub fn combine(function: PredicateFunction, a: bool, b: bool) -> bool
     ensures { result ≡ combine function a b }
 {

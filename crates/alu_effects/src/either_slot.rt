@@ -36,60 +36,9 @@ fn op2_value(registers: &[u32], o: Op2) -> u32
     }
 }
 
-// What an ALU operation of slot one does.
+// What an ALU operation of either slot does. It is made part of both callers, so that no operation goes through memory.
+#[inline(always)]
 pub fn alu_effect<'a>(registers: &'a [u32], predicates: &'a [bool], o: AluOperation) -> AluEffect
-    ensures { result ≡ alu_effect registers.now predicates.now o }
-{
-    match o {
-        AluOperation::Arithmetic {
-            function,
-            rd,
-            rs1,
-            op2,
-        } => {
-            let value = alu::arithmetic(
-                function,
-                register(registers, rs1),
-                op2_value(registers, op2),
-            );
-            AluEffect::Register { rd, value }
-        }
-        AluOperation::Compare {
-            function,
-            pd,
-            rs1,
-            op2,
-        } => {
-            let value = alu::compare(
-                function,
-                register(registers, rs1),
-                op2_value(registers, op2),
-            );
-            AluEffect::Predicate { pd, value }
-        }
-        AluOperation::Predicate {
-            function,
-            pd,
-            ps1,
-            ps2,
-        } => {
-            let value = alu::combine(function, operand(predicates, ps1), operand(predicates, ps2));
-            AluEffect::Predicate { pd, value }
-        }
-        AluOperation::BitCopy { rd, rs1, bit, ps } => {
-            let value = word::bits::copy_bit(
-                register(registers, rs1),
-                bit,
-                operand(predicates, ps),
-            );
-            AluEffect::Register { rd, value }
-        }
-    }
-}
-
-// What an ALU operation of slot two does: the same, in a function that slot two alone calls, so that each can be made part of its
-// caller and no operation goes through memory.
-fn second_effect<'a>(registers: &'a [u32], predicates: &'a [bool], o: AluOperation) -> AluEffect
     ensures { result ≡ alu_effect registers.now predicates.now o }
 {
     match o {
@@ -150,7 +99,7 @@ pub fn slot_two_effect<'a>(
     let guard = i.guard;
     let operation = i.operation;
     if operand(predicates, guard) {
-        return second_effect(registers, predicates, operation);
+        return alu_effect(registers, predicates, operation);
     }
     AluEffect::Nothing
 }

@@ -1,6 +1,5 @@
 -- The text of a bundle, read: an optional guard, a mnemonic and its operands; and a second instruction behind `;`.
-use Rattle.std.specs.Prelude.{ℕ, cond, List}
-use Rattle.std.proofs.Math.Option.{Option, none, some}
+use Rattle.std.specs.Prelude.{ℕ, cond, List, Option, None, Some}
 use Rattle.text.specs.Field.{field_from, same_bytes}
 use Rattle.case_words.specs.Names.{bytes}
 use Rattle.case_file.specs.Arguments.{is_empty, bytes_of, is_end}
@@ -25,8 +24,8 @@ go_on (OperandRead.Mistake r) rest = InstructionRead.Mistake r
 
 -- What the operands make. A form that the table does not have belongs to a name that no instruction has.
 abbrev pub instruction_of : PredicateOperand → Option Operation → ℕ → InstructionRead
-instruction_of g none next = InstructionRead.Mistake Reason.NoSuchInstruction
-instruction_of g (some o) next = InstructionRead.Found (record { guard = g; operation = o }) next
+instruction_of g None next = InstructionRead.Mistake Reason.NoSuchInstruction
+instruction_of g (Some o) next = InstructionRead.Found (record { guard = g; operation = o }) next
 
 -- The operands of a mnemonic from a position on.
 unfoldable pub operands_at : List ℕ → ℕ → PredicateOperand → Mnemonic → InstructionRead

@@ -1,6 +1,5 @@
 -- The two directions of the table agree: what an instruction is shown as makes it again.
-use Rattle.std.specs.Prelude.{suc, ◌+◌, ◌-◌, ◌*◌, ◌/◌, ◌%◌, ◌^◌, ◌<◌, ◌≡◌, refl, ℤ, pos, negsuc}
-use Rattle.std.proofs.Math.Option.{Option, some}
+use Rattle.std.specs.Prelude.{suc, ◌+◌, ◌-◌, ◌*◌, ◌/◌, ◌%◌, ◌^◌, ◌<◌, ◌≡◌, refl, ℤ, pos, negsuc, Option, Some}
 use Rattle.std.proofs.Common.{arith, lt-ltb, le-ltb}
 use Rattle.word.specs.Word.{signed}
 use Rattle.fields.specs.Fields.{kind_code, load_code, store_code}
@@ -68,7 +67,7 @@ HasText (Xret d) = Unit {0}
 abbrev pub again : Shown → Option Operation
 again s = made s.mnemonic s.a s.b s.c s.d
 
-pub made_shown : (o : Operation) → HasText o → again (shown o) ≡ some o
+pub made_shown : (o : Operation) → HasText o → again (shown o) ≡ Some o
 unfolding shown made forms
 made_shown (Alu (Arithmetic f rd rs1 (op2.Immediate n))) h = alu_row_lem f _
 made_shown (Alu (Arithmetic f rd rs1 (op2.Register r))) h = alu_row_lem f _

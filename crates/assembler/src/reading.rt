@@ -3,7 +3,6 @@ ghost use Rattle.std.specs.Prelude.{◌≡◌};
 ghost use Rattle.case_file.specs.Arguments.{is_end};
 ghost use Rattle.assembly.specs.Forms.{letter as letter_of, made};
 ghost use Rattle.assembly.specs.Operands.{operand_at};
-ghost use Rattle.making.specs.Readings.{made_of};
 ghost use Rattle.assembler.specs.Reading.{go_on, instruction_of, operands_at, named_at, instruction_at, second_read, after_first, bundle_read, words_of};
 
 use crate::{InstructionRead, WordsRead};
@@ -12,8 +11,8 @@ use assembly::table::{letter, mnemonic_of};
 use assembly::{Mnemonic, Operand, OperandRead};
 use case_file::Reason;
 use encoder::bundles::{write_pair, write_single};
-use isa::{Instruction, PredicateOperand};
-use making::{Made, make, predicate_of};
+use isa::{Instruction, Operation, PredicateOperand};
+use making::{make, predicate_of};
 use text::fields::{next_field, same};
 
 // An operand of a form.
@@ -23,12 +22,12 @@ fn nth_at(line: &[u8], at: usize, form: u32, nth: u32) -> OperandRead
     operand_at(line, at, letter(form, nth))
 }
 
-fn instruction_of(guard: PredicateOperand, made: Made, next: usize) -> InstructionRead
-    ensures { result ≡ instruction_of guard (made_of made) next }
+fn instruction_of(guard: PredicateOperand, made: Option<Operation>, next: usize) -> InstructionRead
+    ensures { result ≡ instruction_of guard made next }
 {
     match made {
-        Made::Nothing => InstructionRead::Mistake(Reason::NoSuchInstruction),
-        Made::Found(operation) => InstructionRead::Found {
+        None => InstructionRead::Mistake(Reason::NoSuchInstruction),
+        Some(operation) => InstructionRead::Found {
             instruction: Instruction { guard, operation },
             next,
         },

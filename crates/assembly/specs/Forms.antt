@@ -1,8 +1,7 @@
 -- The one table by which the text of an instruction is read and written: a form for each way to write operands.
-use Rattle.std.specs.Prelude.{ℕ, zero, suc, ◌+◌, ◌-◌, ◌*◌, ◌/◌, ◌%◌, cond, List, [], ◌∷◌, ◌++◌, ltb, length, get_or}
+use Rattle.std.specs.Prelude.{ℕ, zero, suc, ◌+◌, ◌-◌, ◌*◌, ◌/◌, ◌%◌, cond, List, [], ◌∷◌, ◌++◌, ltb, length, get_or, Option, None, Some}
 use Prim.Native.Char.{code}
 use Prim.Native.String as Text
-use Rattle.std.proofs.Math.Option.{Option, none, some}
 use Rattle.word.specs.Word.{signed}
 use Rattle.text.specs.Table.{table, row_text, row_of}
 use Rattle.case_words.specs.Names.{bytes}
@@ -44,62 +43,62 @@ unfoldable pub forms : List Form
 forms =
     -- ALUi
     form ("addi" ∷ "subi" ∷ "xori" ∷ "sli" ∷ "sri" ∷ "srai" ∷ "ori" ∷ "andi" ∷ []) "rrn "
-    (λ func rd rs1 imm d. row alu_table func λ f. some (Alu (Arithmetic f rd.number rs1.number (op2.Immediate imm.number)))) ∷
+    (λ func rd rs1 imm d. row alu_table func λ f. Some (Alu (Arithmetic f rd.number rs1.number (op2.Immediate imm.number)))) ∷
     -- ALUr
     form ("add" ∷ "sub" ∷ "xor" ∷ "sl" ∷ "sr" ∷ "sra" ∷ "or" ∷ "and" ∷ "" ∷ "" ∷ "" ∷ "nor" ∷ "shadd" ∷ "shadd2" ∷ []) "rrr "
-    (λ func rd rs1 rs2 d. row alu_table func λ f. some (Alu (Arithmetic f rd.number rs1.number (op2.Register rs2.number)))) ∷
+    (λ func rd rs1 rs2 d. row alu_table func λ f. Some (Alu (Arithmetic f rd.number rs1.number (op2.Register rs2.number)))) ∷
     -- ALUl
     form ("addl" ∷ "subl" ∷ "xorl" ∷ "sll" ∷ "srl" ∷ "sral" ∷ "orl" ∷ "andl" ∷ "" ∷ "" ∷ "" ∷ "norl" ∷ "shaddl" ∷ "shadd2l" ∷ []) "rrw "
-    (λ func rd rs1 word d. row alu_table func λ f. some (Alu (Arithmetic f rd.number rs1.number (op2.Long word.number)))) ∷
+    (λ func rd rs1 word d. row alu_table func λ f. Some (Alu (Arithmetic f rd.number rs1.number (op2.Long word.number)))) ∷
     -- ALUm
     form ("mul" ∷ "mulu" ∷ []) "rr  "
-    (λ func rs1 rs2 c d. row multiply_table func λ f. some (Multiply f rs1.number rs2.number)) ∷
+    (λ func rs1 rs2 c d. row multiply_table func λ f. Some (Multiply f rs1.number rs2.number)) ∷
     -- ALUc
     form ("cmpeq" ∷ "cmpneq" ∷ "cmplt" ∷ "cmple" ∷ "cmpult" ∷ "cmpule" ∷ "btest" ∷ []) "prr "
-    (λ func pd rs1 rs2 d. row compare_table func λ f. some (Alu (Compare f pd.number rs1.number (op2.Register rs2.number)))) ∷
+    (λ func pd rs1 rs2 d. row compare_table func λ f. Some (Alu (Compare f pd.number rs1.number (op2.Register rs2.number)))) ∷
     -- ALUci
     form ("cmpeqi" ∷ "cmpneqi" ∷ "cmplti" ∷ "cmplei" ∷ "cmpulti" ∷ "cmpulei" ∷ "btesti" ∷ []) "prn "
-    (λ func pd rs1 imm d. row compare_table func λ f. some (Alu (Compare f pd.number rs1.number (op2.Immediate imm.number)))) ∷
+    (λ func pd rs1 imm d. row compare_table func λ f. Some (Alu (Compare f pd.number rs1.number (op2.Immediate imm.number)))) ∷
     -- ALUp
     form ("" ∷ "" ∷ "" ∷ "" ∷ "" ∷ "" ∷ "por" ∷ "pand" ∷ "" ∷ "" ∷ "pxor" ∷ []) "pqq "
-    (λ func pd ps1 ps2 d. row predicate_table func λ f. some (Alu (Predicate f pd.number (predicate ps1) (predicate ps2)))) ∷
+    (λ func pd ps1 ps2 d. row predicate_table func λ f. Some (Alu (Predicate f pd.number (predicate ps1) (predicate ps2)))) ∷
     -- ALUb
     form ("bcopy" ∷ []) "rrnq"
-    (λ func rd rs1 imm ps. some (Alu (BitCopy rd.number rs1.number imm.number (predicate ps)))) ∷
+    (λ func rd rs1 imm ps. Some (Alu (BitCopy rd.number rs1.number imm.number (predicate ps)))) ∷
     -- SPCt
     form ("mts" ∷ []) "sr  "
-    (λ func sd rs1 c d. row special_table sd.number λ s. some (Mts s rs1.number)) ∷
+    (λ func sd rs1 c d. row special_table sd.number λ s. Some (Mts s rs1.number)) ∷
     -- SPCf
     form ("mfs" ∷ []) "rs  "
-    (λ func rd ss c d. row special_table ss.number λ s. some (Mfs rd.number s)) ∷
+    (λ func rd ss c d. row special_table ss.number λ s. Some (Mfs rd.number s)) ∷
     -- LDT
     form ("lws" ∷ "lwl" ∷ "lwc" ∷ "lwm" ∷ "lhs" ∷ "lhl" ∷ "lhc" ∷ "lhm" ∷ "lbs" ∷ "lbl" ∷ "lbc" ∷ "lbm"
     ∷ "lhus" ∷ "lhul" ∷ "lhuc" ∷ "lhum" ∷ "lbus" ∷ "lbul" ∷ "lbuc" ∷ "lbum" ∷ []) "rrn "
-    (λ func rd ra imm d. row load_table (func / 4) λ w. row kind_table (func % 4) λ k. some (Load k w rd.number ra.number imm.number)) ∷
+    (λ func rd ra imm d. row load_table (func / 4) λ w. row kind_table (func % 4) λ k. Some (Load k w rd.number ra.number imm.number)) ∷
     -- STT
     form ("sws" ∷ "swl" ∷ "swc" ∷ "swm" ∷ "shs" ∷ "shl" ∷ "shc" ∷ "shm" ∷ "sbs" ∷ "sbl" ∷ "sbc" ∷ "sbm" ∷ []) "rnr "
-    (λ func ra imm rs d. row store_table (func / 4) λ w. row kind_table (func % 4) λ k. some (Store k w ra.number rs.number imm.number)) ∷
+    (λ func ra imm rs d. row store_table (func / 4) λ w. row kind_table (func % 4) λ k. Some (Store k w ra.number rs.number imm.number)) ∷
     -- STCi
-    form ("sres" ∷ []) "n   " (λ func imm b c d. some (StackControl (Sres imm.number))) ∷
-    form ("sens" ∷ []) "n   " (λ func imm b c d. some (StackControl (Sens (amount.Words imm.number)))) ∷
-    form ("sfree" ∷ []) "n   " (λ func imm b c d. some (StackControl (Sfree imm.number))) ∷
-    form ("sspill" ∷ []) "n   " (λ func imm b c d. some (StackControl (Sspill (amount.Words imm.number)))) ∷
+    form ("sres" ∷ []) "n   " (λ func imm b c d. Some (StackControl (Sres imm.number))) ∷
+    form ("sens" ∷ []) "n   " (λ func imm b c d. Some (StackControl (Sens (amount.Words imm.number)))) ∷
+    form ("sfree" ∷ []) "n   " (λ func imm b c d. Some (StackControl (Sfree imm.number))) ∷
+    form ("sspill" ∷ []) "n   " (λ func imm b c d. Some (StackControl (Sspill (amount.Words imm.number)))) ∷
     -- STCr
-    form ("sensr" ∷ []) "r   " (λ func rs b c d. some (StackControl (Sens (amount.Register rs.number)))) ∷
-    form ("sspillr" ∷ []) "r   " (λ func rs b c d. some (StackControl (Sspill (amount.Register rs.number)))) ∷
+    form ("sensr" ∷ []) "r   " (λ func rs b c d. Some (StackControl (Sens (amount.Register rs.number)))) ∷
+    form ("sspillr" ∷ []) "r   " (λ func rs b c d. Some (StackControl (Sspill (amount.Register rs.number)))) ∷
     -- CFLi
-    form ("callnd" ∷ "call" ∷ []) "n   " (λ delayed imm b c d. some (Transfer (is_set delayed) (Call imm.number))) ∷
-    form ("brnd" ∷ "br" ∷ []) "i   " (λ delayed imm b c d. some (Transfer (is_set delayed) (Br (signed 32 imm.number)))) ∷
-    form ("brcfnd" ∷ "brcf" ∷ []) "n   " (λ delayed imm b c d. some (Transfer (is_set delayed) (Brcf imm.number))) ∷
-    form ("trap" ∷ []) "n   " (λ func imm b c d. some (Trap imm.number)) ∷
+    form ("callnd" ∷ "call" ∷ []) "n   " (λ delayed imm b c d. Some (Transfer (is_set delayed) (Call imm.number))) ∷
+    form ("brnd" ∷ "br" ∷ []) "i   " (λ delayed imm b c d. Some (Transfer (is_set delayed) (Br (signed 32 imm.number)))) ∷
+    form ("brcfnd" ∷ "brcf" ∷ []) "n   " (λ delayed imm b c d. Some (Transfer (is_set delayed) (Brcf imm.number))) ∷
+    form ("trap" ∷ []) "n   " (λ func imm b c d. Some (Trap imm.number)) ∷
     -- CFLri
-    form ("retnd" ∷ "ret" ∷ []) "    " (λ delayed a b c d. some (Transfer (is_set delayed) Ret)) ∷
-    form ("xretnd" ∷ "xret" ∷ []) "    " (λ delayed a b c d. some (Xret (is_set delayed))) ∷
+    form ("retnd" ∷ "ret" ∷ []) "    " (λ delayed a b c d. Some (Transfer (is_set delayed) Ret)) ∷
+    form ("xretnd" ∷ "xret" ∷ []) "    " (λ delayed a b c d. Some (Xret (is_set delayed))) ∷
     -- CFLrs
-    form ("callrnd" ∷ "callr" ∷ []) "r   " (λ delayed rs b c d. some (Transfer (is_set delayed) (CallRegister rs.number))) ∷
-    form ("brrnd" ∷ "brr" ∷ []) "r   " (λ delayed rs b c d. some (Transfer (is_set delayed) (BrRegister rs.number))) ∷
+    form ("callrnd" ∷ "callr" ∷ []) "r   " (λ delayed rs b c d. Some (Transfer (is_set delayed) (CallRegister rs.number))) ∷
+    form ("brrnd" ∷ "brr" ∷ []) "r   " (λ delayed rs b c d. Some (Transfer (is_set delayed) (BrRegister rs.number))) ∷
     -- CFLrt
-    form ("brcfrnd" ∷ "brcfr" ∷ []) "rr  " (λ delayed rs1 rs2 c d. some (Transfer (is_set delayed) (BrcfRegister rs1.number rs2.number))) ∷
+    form ("brcfrnd" ∷ "brcfr" ∷ []) "rr  " (λ delayed rs1 rs2 c d. Some (Transfer (is_set delayed) (BrcfRegister rs1.number rs2.number))) ∷
     []
 
 -- All mnemonics as rows, one after the other, by which a mnemonic is found, and how many each form has.
@@ -135,8 +134,8 @@ letter k operand = get_or (letters forms) (4 * k + operand) (code " ")
 
 -- What the form k makes.
 abbrev pub makes_in : Option Form → Maker
-makes_in none func a b c d = none
-makes_in (some f) func a b c d = f.makes func a b c d
+makes_in None func a b c d = None
+makes_in (Some f) func a b c d = f.makes func a b c d
 
 unfoldable pub made : Mnemonic → Operand → Operand → Operand → Operand → Option Operation
 made m a b c d = makes_in (at forms m.form) m.function a b c d

@@ -1,11 +1,12 @@
 // The one table of mnemonics and operands (specs/Forms.antt), as bytes.
 ghost use Rattle.std.specs.Prelude.{◌≡◌};
-ghost use Rattle.text.specs.Page.{page, with_text};
+ghost use Rattle.text.specs.Page.{Puts};
 ghost use Rattle.assembly.specs.Forms.{forms, sizes, mnemonic_from, start_of, letter as letter_of};
 ghost use Rattle.assembly.specs.Forms.{mnemonic_of, name_of};
 
 use crate::Mnemonic;
-use text::table::{put_row, row_of};
+use text::page::Page;
+use text::table::row_of;
 
 // The mnemonics of all forms, one after the other. A number that no function has is an empty row.
 const MNEMONICS: [u8; 558] = *b"addi\nsubi\nxori\nsli\nsri\nsrai\nori\nandi\n\
@@ -72,11 +73,11 @@ fn start_of(form: u32) -> usize
     start
 }
 
-pub fn put_name(out: &mut [u8], used: usize, m: Mnemonic) -> usize
-    ensures { page result out.new ≡ with_text (page used out.old) (name_of m) }
+pub fn put_name(page: &mut Page, m: Mnemonic)
+    ensures { Puts page.old page.new (name_of m) }
 {
     let row = start_of(m.form) + (m.function as usize);
-    put_row(&mut *out, used, &MNEMONICS, row)
+    page.put_row(&MNEMONICS, row);
 }
 
 // The letter of a form's operand: a space where there is none.

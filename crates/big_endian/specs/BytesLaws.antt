@@ -1,9 +1,32 @@
 -- Laws of the numbers in a list of bytes, for every width k.
-use Rattle.std.specs.Prelude.{ℕ, zero, suc, ◌+◌, ◌*◌, ◌/◌, ◌%◌, ◌^◌, ◌<◌, ◌≤◌, ◌≡◌, refl, List, [], ◌∷◌, ◌⊎◌, length, get_or, set}
-use Rattle.std.proofs.Common.{sym, ◌∙◌, inl, inr, arith, add-zero, zero-add, pow-suc, length-set, get_or-set_same, get_or-set_other}
+use Rattle.std.specs.Prelude.{ℕ, zero, suc, ◌+◌, ◌-◌, ◌*◌, ◌/◌, ◌%◌, ◌^◌, ◌<◌, ◌≤◌, ◌≡◌, refl, List, [], ◌∷◌, ◌⊎◌, length, get_or, set}
+use Rattle.std.proofs.Common.{sym, ap, ◌∙◌, inl, inr, arith, add-one, sub-one, add-zero, zero-add, pow-suc, length-set, get_or-set_same, get_or-set_other}
+use Rattle.std.proofs.lemmas.List.{set_comm}
 use Rattle.std.proofs.Math.Nat.{one-le-pow, div-div-eq-div-mul}
 use Rattle.std.proofs.Math.Arith.{mod-mul}
 use Rattle.big_endian.specs.Bytes.{number_at, put_number}
+
+-- One byte more read, and the last one put first: the turns of the loops over a number's bytes.
+pub number_next : (k : ℕ) (l : List ℕ) (a v b : ℕ) → v ≡ number_at k l a → b ≡ get_or l (a + k) 0 → v * 256 + b ≡ number_at (k + 1) l a
+unfolding number_at
+number_next k l a v b p q = rw (add-one, p, q)
+
+put_set : (k : ℕ) (l : List ℕ) (a j n v : ℕ) → a + k ≤ j → put_number k (set l j v) a n ≡ set (put_number k l a n) j v
+unfolding put_number
+put_set zero l a j n v p = refl
+put_set (suc k) l a j n v p =
+    ap (λ (m : List ℕ). set m (a + k) (n % 256)) (put_set k l a j (n / 256) v (omega arith))
+    ∙ set_comm (put_number k l a (n / 256)) j (a + k) v (n % 256) (λ e. omega arith)
+
+pub put_last : (k : ℕ) (l : List ℕ) (a n : ℕ) → 0 < k → put_number (k - 1) (set l (a + (k - 1)) (n % 256)) a (n / 256) ≡ put_number k l a n
+unfolding put_number
+put_last zero l a n p = absurd (omega arith)
+put_last (suc k) l a n p = rw sub-one (put_set k l a (a + k) (n / 256) (n % 256) (omega arith))
+
+pub put_none : (k : ℕ) (l : List ℕ) (a n : ℕ) → k ≤ 0 → put_number k l a n ≡ l
+unfolding put_number
+put_none zero l a n p = refl
+put_none (suc k) l a n p = absurd (omega arith)
 
 -- The widths of the loads and stores, byte by byte.
 pub number_1 : (l : List ℕ) (a : ℕ) → number_at 1 l a ≡ get_or l a 0
@@ -94,3 +117,14 @@ pub number_bound : (k : ℕ) (l : List ℕ) (a : ℕ) → ((i : ℕ) → get_or 
 unfolding number_at
 number_bound zero l a h = omega arith
 number_bound (suc k) l a h = rw pow-suc (omega (arith, number_bound k l a h, h (a + k)))
+
+-- Of fewer than four bytes, so that a byte behind it makes a word.
+pub number_small : (k : ℕ) (l : List ℕ) (a : ℕ) → k < 4 → ((i : ℕ) → get_or l i 0 < 256) → number_at k l a < 16777216
+number_small k l a p h = omega (arith, number_bound k l a h, go k p)
+  where
+    go : (k : ℕ) → k < 4 → 256 ^ k ≤ 16777216
+    go zero p = omega arith
+    go (suc zero) p = omega arith
+    go (suc (suc zero)) p = omega arith
+    go (suc (suc (suc zero))) p = omega arith
+    go (suc (suc (suc (suc k)))) p = absurd (omega arith)

@@ -3,9 +3,10 @@ use Rattle.std.specs.Prelude.{ℕ, suc, ◌+◌, ◌*◌, ◌-◌, ◌≤◌, �
 use Prim.Native.Char.{code}
 use Rattle.std.proofs.Math.Path.{refl, ap}
 use Rattle.std.proofs.Common.{sym, ◌∙◌, add-one, arith, length-drop, drop_of_length-le, drop-cons, take_all, leb-true, leb-false}
-use mathlib.Core.List.{List, [], ◌∷◌}
-use Rattle.text.specs.Page.{Page, with_byte, with_text}
-use Rattle.text.specs.PageLaws.{text_append, text_then, text_none, text_byte}
+use mathlib.Core.List.{List, [], ◌∷◌, ◌++◌}
+use Rattle.text.specs.declared.page.Page.{Page as Lent}
+use Rattle.text.specs.Page.{Page, with_byte, with_text, Puts}
+use Rattle.text.specs.PageLaws.{text_append, text_then, text_none, text_byte, puts_none, puts_then}
 use Rattle.text.specs.Field.{same_bytes}
 use Rattle.text.specs.Number.{decimal_text, byte_text}
 use Rattle.case_report.specs.Changes.{texts, byte_texts, word, change_line, change_at}
@@ -26,6 +27,23 @@ bytes_step p s i h = rw (drop-cons s i 0 h, add-one i) (sym (text_append p (byte
 pub bytes_end : (p : Page) (s : List ℕ) (i : ℕ) → length s ≤ i → p ≡ with_text p (byte_texts (drop i s))
 unfolding byte_texts
 bytes_end p s i h = rw (drop_of_length-le s {i = i} h) (sym (text_none p))
+
+-- The same as texts, and on a lent page.
+pub bytes_more : (s : List ℕ) (i : ℕ) → i < length s → byte_texts (drop i s) ≡ byte_text (get_or s i 0) ++ byte_texts (drop (i + 1) s)
+unfolding byte_texts
+bytes_more s i h = rw (drop-cons s i 0 h, add-one i)
+
+pub bytes_over : (s : List ℕ) (i : ℕ) → length s ≤ i → byte_texts (drop i s) ≡ []
+unfolding byte_texts
+bytes_over s i h = rw (drop_of_length-le s {i = i} h)
+
+pub puts_no_texts : (p : Lent) (f : ℕ → List ℕ) → Puts p p (texts 0 f)
+unfolding texts
+puts_no_texts p f = puts_none p
+
+pub puts_texts : (p q r : Lent) (f : ℕ → List ℕ) (k : ℕ) → Puts p q (texts k f) → Puts q r (f k) → Puts p r (texts (k + 1) f)
+unfolding texts
+puts_texts p q r f k g h = rw add-one (puts_then p q r (texts k f) (f k) g h)
 
 -- The part of a memory that word k is.
 pub word_part : (n k e : ℕ) (l : List ℕ) → length l ≡ n → 4 * k ≤ n → e ≡ 4 * k + min 4 (n - 4 * k) → take (e - 4 * k) (drop (4 * k) l) ≡ word l k
@@ -79,6 +97,12 @@ same_four a b n h g = rw (four a n h, four b n g)
 -- What is left of a memory, where that is less than a word.
 pub last_word : (l : List ℕ) (n k : ℕ) → length l ≡ n → n - 4 * k < 4 → take (n - 4 * k) (drop (4 * k) l) ≡ word l k
 last_word l n k e h = take_all (n - 4 * k) (drop (4 * k) l) (simp length-drop (omega arith)) ∙ sym (take_all 4 (drop (4 * k) l) (simp length-drop (omega arith)))
+
+-- The text of a word that changed.
+pub changed_text : (label after before : List ℕ) (k e : ℕ) → same_bytes (word after k) (word before k) ≡ false → 4 * k ≤ length after
+    → e ≡ 4 * k + min 4 (length after - 4 * k) → change_at label after before k ≡ change_line label (4 * k) (take (e - 4 * k) (drop (4 * k) after))
+unfolding change_at
+changed_text label after before k e n h g = rw n (ap (λ (w : List ℕ). change_line label (4 * k) w) (sym (word_part (length after) k e after refl h g)))
 
 module _ (p : Page) (label after before : List ℕ) (k : ℕ) (r : Bool) (told : r ≡ same_bytes (word after k) (word before k)) where
   pub unchanged : r ≡ true → p ≡ with_text p (change_at label after before k)

@@ -1,36 +1,34 @@
 // What an operation changed: a line for each word that differs from its copy.
+#![tactic(auto, using(text::specs::PageLaws::texts), unfolding(crate::specs::Changes::change_line, crate::specs::Changes::cache_change, crate::specs::Changes::changes_text))]
+
 ghost use Rattle.std.specs.Prelude.{◌≡◌, ◌*◌, ◌≤◌, length};
 ghost use Rattle.text.specs.Field.{same_bytes};
-ghost use Rattle.text.specs.Page.{page, with_text};
+ghost use Rattle.text.specs.Page.{Puts};
 ghost use Rattle.case_report.specs.Changes.{byte_texts, change_line, word, change_at, word_changes, memory_changes, cache_line, cache_change, cache_changes, changes_text};
 
 use crate::form::say;
 use case_kept::buffers::{CACHE_COPY, COPY, Cache, Memory, least};
 use case_kept::extent::Extents;
 use text::fields::same;
-use text::page::{put, put_byte, put_decimal, put_two_digits};
+use text::page::Page;
 
-pub(crate) fn put_bytes(out: &mut [u8], used: usize, s: &[u8]) -> usize
-    ensures { page result out.new ≡ with_text (page used out.old) (byte_texts s.now) }
+pub(crate) fn put_bytes(page: &mut Page, s: &[u8])
+    ensures { Puts page.old page.new (byte_texts s.now) }
 {
-    let mut at = used;
-    let mut i = 0;
-    while i < s.len() {
-        at = put_two_digits(&mut *out, at, s[i]);
-        i += 1;
+    for b in s {
+        page.put_two_digits(*b);
     }
-    at
 }
 
 // The line of a changed word: the name of the memory, the word's address, and the bytes that it has now.
-fn put_change(out: &mut [u8], used: usize, label: &[u8], address: usize, word: &[u8]) -> usize
-    ensures { page result out.new ≡ with_text (page used out.old) (change_line label.now address word.now) }
+fn put_change(page: &mut Page, label: &[u8], address: usize, word: &[u8])
+    ensures { Puts page.old page.new (change_line label.now address word.now) }
 {
-    let a = put(&mut *out, used, label);
-    let b = put_decimal(&mut *out, a, address as u64);
-    let c = put_byte(&mut *out, b, b' ');
-    let d = put_bytes(&mut *out, c, word);
-    put_byte(&mut *out, d, b'\n')
+    page.put(label);
+    page.put_decimal(address as u64);
+    page.put_byte(b' ');
+    put_bytes(&mut *page, word);
+    page.put_byte(b'\n');
 }
 
 // Whether word k is as it was. Nearly all words are compared here, so that only the last one, which may be shorter than 4 bytes, is
@@ -49,96 +47,68 @@ fn is_same_word(after: &[u8], before: &[u8], k: usize) -> bool
 }
 
 // Word k of a memory, if it changed.
-fn put_if_changed(
-    out: &mut [u8],
-    used: usize,
-    label: &[u8],
-    after: &[u8],
-    before: &[u8],
-    k: usize,
-) -> usize
+fn put_if_changed(page: &mut Page, label: &[u8], after: &[u8], before: &[u8], k: usize)
     requires { (4 * k ≤ length after.now) × (length before.now ≡ length after.now) }
-    ensures { page result out.new ≡ with_text (page used out.old) (change_at label.now after.now before.now k) }
+    ensures { Puts page.old page.new (change_at label.now after.now before.now k) }
 {
     if is_same_word(after, before, k) {
-        return used;
+        return;
     }
     let start = 4 * k;
     let end = start + least(4, after.len() - start);
-    put_change(&mut *out, used, label, start, &after[start..end])
+    put_change(&mut *page, label, start, &after[start..end]);
 }
 
-fn put_words(out: &mut [u8], used: usize, label: &[u8], after: &[u8], before: &[u8]) -> usize
+fn put_words(page: &mut Page, label: &[u8], after: &[u8], before: &[u8])
     requires { length before.now ≡ length after.now }
-    ensures { page result out.new ≡ with_text (page used out.old) (word_changes label.now after.now before.now) }
+    ensures { Puts page.old page.new (word_changes label.now after.now before.now) }
 {
     let words = after.len() / 4 + 1;
-    let mut at = used;
-    let mut k = 0;
-    while k < words {
-        at = put_if_changed(&mut *out, at, label, after, before, k);
-        k += 1;
+    for k in 0..words {
+        put_if_changed(&mut *page, label, after, before, k);
     }
-    at
 }
 
 // The changed words of the first n bytes of a memory.
-fn put_memory(out: &mut [u8], used: usize, label: &[u8], memory: &Memory, n: usize) -> usize
-    ensures { page result out.new ≡ with_text (page used out.old) (memory_changes label.now memory.now n) }
+fn put_memory(page: &mut Page, label: &[u8], memory: &Memory, n: usize)
+    ensures { Puts page.old page.new (memory_changes label.now memory.now n) }
 {
     let end = least(n, COPY);
     let bytes = &memory[..];
-    put_words(
-        &mut *out,
-        used,
-        label,
-        &bytes[0..end],
-        &bytes[COPY..COPY + end],
-    )
+    put_words(&mut *page, label, &bytes[0..end], &bytes[COPY..COPY + end]);
 }
 
-fn put_cache_line(out: &mut [u8], used: usize, k: usize, w: u32) -> usize
-    ensures { page result out.new ≡ with_text (page used out.old) (cache_line k w) }
+fn put_cache_line(page: &mut Page, k: usize, w: u32)
+    ensures { Puts page.old page.new (cache_line k w) }
 {
-    say(&mut *out, used, b"cache % #\n", &[k as u64, w as u64])
+    say(&mut *page, b"cache % #\n", &[k as u64, w as u64]);
 }
 
-fn put_cache_word(out: &mut [u8], used: usize, cache: &Cache, k: usize) -> usize
+fn put_cache_word(page: &mut Page, cache: &Cache, k: usize)
     requires { k ≤ 512 }
-    ensures { page result out.new ≡ with_text (page used out.old) (cache_change cache.now k) }
+    ensures { Puts page.old page.new (cache_change cache.now k) }
 {
     let w = cache[k];
     if w == cache[CACHE_COPY + k] {
-        return used;
+        return;
     }
-    put_cache_line(&mut *out, used, k, w)
+    put_cache_line(&mut *page, k, w);
 }
 
 // The changed words of the first n stack cache words.
-fn put_cache(out: &mut [u8], used: usize, cache: &Cache, n: usize) -> usize
-    ensures { page result out.new ≡ with_text (page used out.old) (cache_changes cache.now n) }
+fn put_cache(page: &mut Page, cache: &Cache, n: usize)
+    ensures { Puts page.old page.new (cache_changes cache.now n) }
 {
     let end = least(n, CACHE_COPY);
-    let mut at = used;
-    let mut k = 0;
-    while k < end {
-        at = put_cache_word(&mut *out, at, cache, k);
-        k += 1;
+    for k in 0..end {
+        put_cache_word(&mut *page, cache, k);
     }
-    at
 }
 
-pub fn put_changes(
-    out: &mut [u8],
-    used: usize,
-    main: &Memory,
-    local: &Memory,
-    cache: &Cache,
-    e: Extents,
-) -> usize
-    ensures { page result out.new ≡ with_text (page used out.old) (changes_text main.now local.now cache.now e) }
+pub fn put_changes(page: &mut Page, main: &Memory, local: &Memory, cache: &Cache, e: Extents)
+    ensures { Puts page.old page.new (changes_text main.now local.now cache.now e) }
 {
-    let a = put_memory(&mut *out, used, b"main ", main, e.main);
-    let b = put_memory(&mut *out, a, b"local ", local, e.local);
-    put_cache(&mut *out, b, cache, e.words)
+    put_memory(&mut *page, b"main ", main, e.main);
+    put_memory(&mut *page, b"local ", local, e.local);
+    put_cache(&mut *page, cache, e.words);
 }

@@ -1,22 +1,24 @@
 // Texts with numbers filled in. A form is a text in which '%' stands for a number in decimal, '#' for one as a word, and '$' for
 // one as a letter. Numbers are taken one after the other, and are 0 where there are no more.
+#![tactic(auto, using(text::specs::PageLaws::texts), unfolding(crate::specs::Form::shown))]
+
 ghost use Rattle.std.specs.Prelude.{◌≡◌, cond, ◌+◌, ◌≤◌, ◌<◌, get_or, drop};
-ghost use Rattle.text.specs.Page.{page, with_text};
+ghost use Rattle.text.specs.Page.{Puts};
 ghost use Rattle.case_report.specs.Form.{is_hole, shown, filled};
 
 use case_kept::buffers::least;
 use case_kept::kept::{ALL, Kept};
-use text::page::{put_byte, put_decimal, put_word};
+use text::page::Page;
 
 // A byte of a form, with the number that it may stand for.
-fn put_shown(out: &mut [u8], used: usize, b: u8, n: u64) -> usize
-    ensures { page result out.new ≡ with_text (page used out.old) (shown b n) }
+fn put_shown(page: &mut Page, b: u8, n: u64)
+    ensures { Puts page.old page.new (shown b n) }
 {
     match b {
-        b'%' => put_decimal(&mut *out, used, n),
-        b'#' => put_word(&mut *out, used, (n % 4294967296) as u32),
-        b'$' => put_byte(&mut *out, used, (n % 256) as u8),
-        _ => put_byte(&mut *out, used, b),
+        b'%' => page.put_decimal(n),
+        b'#' => page.put_word((n % 4294967296) as u32),
+        b'$' => page.put_byte((n % 256) as u8),
+        _ => page.put_byte(b),
     }
 }
 
@@ -40,26 +42,22 @@ fn nth(numbers: &[u64], k: usize) -> u64
     0
 }
 
-pub fn say(out: &mut [u8], used: usize, form: &[u8], numbers: &[u64]) -> usize
-    ensures { page result out.new ≡ with_text (page used out.old) (filled form.now numbers.now) }
+// A form with its numbers.
+pub fn say(page: &mut Page, form: &[u8], numbers: &[u64])
+    ensures { Puts page.old page.new (filled form.now numbers.now) }
 {
-    let mut at = used;
     let mut k = 0;
-    let mut i = 0;
-    while i < form.len() {
-        let b = form[i];
-        at = put_shown(&mut *out, at, b, nth(numbers, k));
-        k = next_number(b, k);
-        i += 1;
+    for b in form {
+        put_shown(&mut *page, *b, nth(numbers, k));
+        k = next_number(*b, k);
     }
-    at
 }
 
 // A form with kept numbers, from an index on.
-pub fn say_kept(out: &mut [u8], used: usize, form: &[u8], kept: &Kept, first: usize) -> usize
-    ensures { page result out.new ≡ with_text (page used out.old) (filled form.now (drop first kept.now)) }
+pub fn say_kept(page: &mut Page, form: &[u8], kept: &Kept, first: usize)
+    ensures { Puts page.old page.new (filled form.now (drop first kept.now)) }
 {
     let from = least(first, ALL);
     let numbers = &kept[..];
-    say(&mut *out, used, form, &numbers[from..])
+    say(&mut *page, form, &numbers[from..]);
 }

@@ -2,16 +2,15 @@
 ghost use Rattle.std.specs.Prelude.{◌≤◌, IsTrue, length, take};
 ghost use Rattle.std.specs.Io.KnownBytes.{Appends, Keeps};
 
-use case_kept::buffers::least;
 use std::io::{Cursor, Error, Write};
+use text::page::Page;
 
-// Writes the used part of a buffer, and answers whether that went well. If not, it says so on the writer of errors.
-pub fn write_out<W: Write, E: Write>(to: &mut W, errors: &mut E, out: &[u8], used: usize) -> bool
-    ensures written { IsTrue result → Appends (W.contents to.old) (W.contents to.new) (take used out.now) }
+// Writes what stands on a page, and answers whether that went well. If not, it says so on the writer of errors.
+pub fn write_out<W: Write, E: Write>(to: &mut W, errors: &mut E, page: &Page) -> bool
+    ensures written { IsTrue result → Appends (W.contents to.old) (W.contents to.new) (take page.now.used page.now.out.now) }
     ensures quiet { IsTrue result → Keeps (E.contents errors.old) (E.contents errors.new) }
 {
-    let n = least(used, out.len());
-    match to.write_all(&out[0..n]) {
+    match to.write_all(page.text()) {
         Ok(()) => true,
         Err(e) => {
             say_failure(errors, b"the report could not be written", &e);
@@ -74,9 +73,19 @@ mod tests {
     fn writes_what_is_used(rt: HostRuntime) {
         let mut to = Vec::new(rt.alloc());
         let mut errors = Vec::new(rt.alloc());
-        assert!(rt; write_out(&mut to, &mut errors, b"report and more", 6));
+        let mut report = *b"report and more";
+        let page = Page {
+            out: &mut report,
+            used: 6,
+        };
+        assert!(rt; write_out(&mut to, &mut errors, &page));
         assert!(rt; to.as_slice() == b"report".as_slice());
-        assert!(rt; write_out(&mut to, &mut errors, b"!", 2));
+        let mut mark = *b"!";
+        let page = Page {
+            out: &mut mark,
+            used: 2,
+        };
+        assert!(rt; write_out(&mut to, &mut errors, &page));
         assert!(rt; to.as_slice() == b"report!".as_slice());
         assert!(rt; errors.is_empty());
     }
@@ -85,7 +94,12 @@ mod tests {
     fn says_what_could_not_be_written(rt: HostRuntime) {
         let mut to = Full { taken: 0 };
         let mut errors = Vec::new(rt.alloc());
-        assert!(rt; !write_out(&mut to, &mut errors, b"report", 6));
+        let mut report = *b"report";
+        let page = Page {
+            out: &mut report,
+            used: 6,
+        };
+        assert!(rt; !write_out(&mut to, &mut errors, &page));
         assert!(rt;
             errors.as_slice()
                 == b"the report could not be written: No space left on device\n".as_slice()

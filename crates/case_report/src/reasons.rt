@@ -1,11 +1,11 @@
 // Why a line is a mistake, in words.
 ghost use Rattle.std.specs.Prelude.{◌≡◌};
-ghost use Rattle.text.specs.Page.{page, with_text};
+ghost use Rattle.text.specs.Page.{Puts};
 ghost use Rattle.case_report.specs.Mistake.{reason_text};
 ghost use Rattle.case_report.specs.Reasons.{number_of};
 
 use case_file::Reason;
-use text::table::put_row;
+use text::page::Page;
 
 // The row of a reason.
 fn number_of(r: Reason) -> usize
@@ -46,12 +46,10 @@ fn number_of(r: Reason) -> usize
     }
 }
 
-pub(crate) fn put_reason(out: &mut [u8], used: usize, r: Reason) -> usize
-    ensures { page result out.new ≡ with_text (page used out.old) (reason_text r) }
+pub(crate) fn put_reason(page: &mut Page, r: Reason)
+    ensures { Puts page.old page.new (reason_text r) }
 {
-    put_row(
-        &mut *out,
-        used,
+    page.put_row(
         b"the first word is unknown\n\
 a field is missing\n\
 a field too many\n\
@@ -84,5 +82,5 @@ vectors of handlers are 0 to 31\n\
 a case has at most 4096 interrupts\n\
 a list is at most 65536 bytes long, and a table 256\n",
         number_of(r),
-    )
+    );
 }

@@ -1,53 +1,54 @@
 // The lines on a record that was written, and on the bytes behind it.
+#![tactic(auto, using(text::specs::PageLaws::texts), unfolding(crate::specs::RecordLines::lead, crate::specs::RecordLines::record_word, crate::specs::RecordLines::record_text, crate::specs::RecordLines::rest_text))]
+
 ghost use Rattle.std.specs.Prelude.{◌≡◌, ◌+◌, ◌*◌, ◌≤◌, ◌<◌, length};
-ghost use Rattle.text.specs.Page.{page, with_text};
+ghost use Rattle.text.specs.Page.{Puts};
 ghost use Rattle.case_report.specs.RecordLines.{lead, record_word, record_text, counted_with, filled_to, rest_text};
 
 use crate::changes::put_bytes;
 use crate::form::say;
-use text::page::{put, put_byte};
+use text::page::Page;
 
 // What the room for a record holds before one is written.
 pub const FILL: u8 = 0xA5;
 
 // What stands in front of word k.
-fn put_lead(out: &mut [u8], used: usize, k: usize) -> usize
-    ensures { page result out.new ≡ with_text (page used out.old) (lead k) }
+fn put_lead(page: &mut Page, k: usize)
+    ensures { Puts page.old page.new (lead k) }
 {
     if k == 0 {
-        return put(&mut *out, used, b"record ");
+        page.put(b"record ");
+        return;
     }
     if k % 16 == 0 {
-        return put(&mut *out, used, b"\nrecord ");
+        page.put(b"\nrecord ");
+        return;
     }
-    put(&mut *out, used, b" ")
+    page.put(b" ");
 }
 
-fn put_record_word(out: &mut [u8], used: usize, bytes: &[u8], k: usize) -> usize
+fn put_record_word(page: &mut Page, bytes: &[u8], k: usize)
     requires { 4 * k + 4 ≤ length bytes.now }
-    ensures { page result out.new ≡ with_text (page used out.old) (record_word bytes.now k) }
+    ensures { Puts page.old page.new (record_word bytes.now k) }
 {
-    let a = put_lead(&mut *out, used, k);
+    put_lead(&mut *page, k);
     let start = 4 * k;
     let end = start + 4;
-    put_bytes(&mut *out, a, &bytes[start..end])
+    put_bytes(&mut *page, &bytes[start..end]);
 }
 
 // The words of a record, 16 to a line. Of no words there is no line.
-pub fn put_record(out: &mut [u8], used: usize, bytes: &[u8]) -> usize
-    ensures { page result out.new ≡ with_text (page used out.old) (record_text bytes.now) }
+pub fn put_record(page: &mut Page, bytes: &[u8])
+    ensures { Puts page.old page.new (record_text bytes.now) }
 {
     let words = bytes.len() / 4;
     if words == 0 {
-        return used;
+        return;
     }
-    let mut at = used;
-    let mut k = 0;
-    while k < words {
-        at = put_record_word(&mut *out, at, bytes, k);
-        k += 1;
+    for k in 0..words {
+        put_record_word(&mut *page, bytes, k);
     }
-    put_byte(&mut *out, at, b'\n')
+    page.put_byte(b'\n');
 }
 
 // How many hold FILL with one byte more.
@@ -74,8 +75,8 @@ fn filled(bytes: &[u8]) -> usize
 }
 
 // How many of the bytes behind a record hold what they held before.
-pub fn put_rest(out: &mut [u8], used: usize, bytes: &[u8]) -> usize
-    ensures { page result out.new ≡ with_text (page used out.old) (rest_text bytes.now) }
+pub fn put_rest(page: &mut Page, bytes: &[u8])
+    ensures { Puts page.old page.new (rest_text bytes.now) }
 {
-    say(&mut *out, used, b"rest %\n", &[filled(bytes) as u64])
+    say(&mut *page, b"rest %\n", &[filled(bytes) as u64]);
 }

@@ -1,6 +1,6 @@
 // The lines on a state, which is among the kept numbers.
 ghost use Rattle.std.specs.Prelude.{◌≡◌, ◌+◌, ◌≤◌, length, take, drop};
-ghost use Rattle.text.specs.Page.{page, with_text};
+ghost use Rattle.text.specs.Page.{Puts};
 ghost use Rattle.case_kept.specs.Indices.{HELD};
 ghost use Rattle.case_report.specs.Form.{filled};
 ghost use Rattle.case_report.specs.StateLines.{transfer_line, load_line, products_line, held_bases, held_line, replay_line, waiting_text, state_text};
@@ -11,136 +11,124 @@ use case_kept::kept::{
     ACTIVE, BLOCK, BR, CALL, FETCH, HELD, HOLDS, Kept, LOAD, LOADED, METHOD, PLACE, PREDICATES,
     PRODUCT, PRODUCTS, REGISTERS, REPLAYS, SPECIALS, TARGET, TRANSFER, XRET, is_set, number,
 };
-use text::page::{put, put_byte};
+use text::page::Page;
 
-fn put_transfer(out: &mut [u8], used: usize, kept: &Kept) -> usize
-    ensures { page result out.new ≡ with_text (page used out.old) (transfer_line kept.now) }
+#[tactic(auto, unfolding(crate::specs::StateLines::transfer_line))]
+fn put_transfer(page: &mut Page, kept: &Kept)
+    ensures { Puts page.old page.new (transfer_line kept.now) }
 {
     let kind = number(kept, TRANSFER);
     match kind {
-        BR => say_kept(&mut *out, used, b"transfer br % %\n", kept, TARGET),
-        CALL => say_kept(&mut *out, used, b"transfer call % %\n", kept, TARGET),
-        BLOCK => say_kept(&mut *out, used, b"transfer block % % %\n", kept, TARGET),
-        XRET => say_kept(&mut *out, used, b"transfer xret % % %\n", kept, TARGET),
-        _ => put(&mut *out, used, b"transfer none\n"),
+        BR => say_kept(&mut *page, b"transfer br % %\n", kept, TARGET),
+        CALL => say_kept(&mut *page, b"transfer call % %\n", kept, TARGET),
+        BLOCK => say_kept(&mut *page, b"transfer block % % %\n", kept, TARGET),
+        XRET => say_kept(&mut *page, b"transfer xret % % %\n", kept, TARGET),
+        _ => page.put(b"transfer none\n"),
     }
 }
 
-fn put_load(out: &mut [u8], used: usize, kept: &Kept) -> usize
-    ensures { page result out.new ≡ with_text (page used out.old) (load_line kept.now) }
+#[tactic(auto, unfolding(crate::specs::StateLines::load_line))]
+fn put_load(page: &mut Page, kept: &Kept)
+    ensures { Puts page.old page.new (load_line kept.now) }
 {
     if is_set(kept, LOAD) {
-        return say_kept(&mut *out, used, b"load % #\n", kept, LOADED);
+        say_kept(&mut *page, b"load % #\n", kept, LOADED);
+        return;
     }
-    put(&mut *out, used, b"load none\n")
+    page.put(b"load none\n");
 }
 
-fn put_products(out: &mut [u8], used: usize, kept: &Kept) -> usize
-    ensures { page result out.new ≡ with_text (page used out.old) (products_line kept.now) }
+#[tactic(auto, using(text::specs::PageLaws::texts), unfolding(crate::specs::StateLines::products_line))]
+fn put_products(page: &mut Page, kept: &Kept)
+    ensures { Puts page.old page.new (products_line kept.now) }
 {
     let count = number(kept, PRODUCTS);
     match count {
-        0 => used,
-        1 => say_kept(&mut *out, used, b"products % # #\n", kept, PRODUCT),
-        _ => say_kept(&mut *out, used, b"products % # # % # #\n", kept, PRODUCT),
+        0 => {}
+        1 => say_kept(&mut *page, b"products % # #\n", kept, PRODUCT),
+        _ => say_kept(&mut *page, b"products % # # % # #\n", kept, PRODUCT),
     }
 }
 
 // A form with the bases of held blocks, cut behind n of its bytes.
-fn put_cut(out: &mut [u8], used: usize, form: &[u8], n: usize, kept: &Kept) -> usize
+fn put_cut(page: &mut Page, form: &[u8], n: usize, kept: &Kept)
     requires { n ≤ length form.now }
-    ensures { page result out.new ≡ with_text (page used out.old) (filled (take n form.now) (drop (HELD + 1) kept.now)) }
+    ensures { Puts page.old page.new (filled (take n form.now) (drop (HELD + 1) kept.now)) }
 {
-    say_kept(&mut *out, used, &form[0..n], kept, HELD + 1)
+    say_kept(&mut *page, &form[0..n], kept, HELD + 1);
 }
 
-fn put_bases(out: &mut [u8], used: usize, kept: &Kept, n: usize) -> usize
+#[tactic(auto, using(text::specs::PageLaws::texts), unfolding(crate::specs::StateLines::held_bases))]
+fn put_bases(page: &mut Page, kept: &Kept, n: usize)
     requires { n ≤ 16 }
-    ensures { page result out.new ≡ with_text (page used out.old) (held_bases kept.now n) }
+    ensures { Puts page.old page.new (held_bases kept.now n) }
 {
     if n == 0 {
-        return put(&mut *out, used, b"held none\n");
+        page.put(b"held none\n");
+        return;
     }
-    let a = put_cut(
-        &mut *out,
-        used,
+    put_cut(
+        &mut *page,
         b"held % % % % % % % % % % % % % % % %",
         4 + 2 * n,
         kept,
     );
-    put_byte(&mut *out, a, b'\n')
+    page.put_byte(b'\n');
 }
 
 // A case that says nothing of the method cache has no line on it.
-fn put_held(out: &mut [u8], used: usize, kept: &Kept) -> usize
-    ensures { page result out.new ≡ with_text (page used out.old) (held_line kept.now) }
+#[tactic(auto, using(text::specs::PageLaws::texts), unfolding(crate::specs::StateLines::held_line))]
+fn put_held(page: &mut Page, kept: &Kept)
+    ensures { Puts page.old page.new (held_line kept.now) }
 {
     if is_set(kept, METHOD) | is_set(kept, HOLDS) {
-        return put_bases(
-            &mut *out,
-            used,
-            kept,
-            least(number(kept, HELD) as usize, 16),
-        );
+        put_bases(&mut *page, kept, least(number(kept, HELD) as usize, 16));
     }
-    used
 }
 
 // An active handler is told in every case, and that there is none where a line says something of the replay.
-fn put_replay(out: &mut [u8], used: usize, kept: &Kept) -> usize
-    ensures { page result out.new ≡ with_text (page used out.old) (replay_line kept.now) }
+#[tactic(auto, using(text::specs::PageLaws::texts), unfolding(crate::specs::StateLines::replay_line))]
+fn put_replay(page: &mut Page, kept: &Kept)
+    ensures { Puts page.old page.new (replay_line kept.now) }
 {
     if is_set(kept, ACTIVE) {
-        return say_kept(
-            &mut *out,
-            used,
-            b"replay active place % done %\n",
-            kept,
-            PLACE,
-        );
+        say_kept(&mut *page, b"replay active place % done %\n", kept, PLACE);
+        return;
     }
     if is_set(kept, REPLAYS) {
-        return say_kept(
-            &mut *out,
-            used,
-            b"replay idle place % done %\n",
-            kept,
-            PLACE,
-        );
+        say_kept(&mut *page, b"replay idle place % done %\n", kept, PLACE);
     }
-    used
 }
 
 // What waits, what is under way, what is held, and where the replay is.
-fn put_waiting(out: &mut [u8], used: usize, kept: &Kept) -> usize
-    ensures { page result out.new ≡ with_text (page used out.old) (waiting_text kept.now) }
+#[tactic(auto, using(text::specs::PageLaws::texts), unfolding(crate::specs::StateLines::waiting_text))]
+fn put_waiting(page: &mut Page, kept: &Kept)
+    ensures { Puts page.old page.new (waiting_text kept.now) }
 {
-    let a = put_transfer(&mut *out, used, kept);
-    let b = put_load(&mut *out, a, kept);
-    let c = put_products(&mut *out, b, kept);
-    let d = put_held(&mut *out, c, kept);
-    put_replay(&mut *out, d, kept)
+    put_transfer(&mut *page, kept);
+    put_load(&mut *page, kept);
+    put_products(&mut *page, kept);
+    put_held(&mut *page, kept);
+    put_replay(&mut *page, kept);
 }
 
 // The state lines, all of them.
-pub fn put_state(out: &mut [u8], used: usize, kept: &Kept) -> usize
-    ensures { page result out.new ≡ with_text (page used out.old) (state_text kept.now) }
+pub fn put_state(page: &mut Page, kept: &Kept)
+    ensures { Puts page.old page.new (state_text kept.now) }
 {
-    let a = say_kept(&mut *out, used, b"fetch % base %\n", kept, FETCH);
-    let b = say_kept(
-        &mut *out,
-        a,
+    say_kept(&mut *page, b"fetch % base %\n", kept, FETCH);
+    say_kept(
+        &mut *page,
         b"regs # # # # # # # # # # # # # # # # # # # # # # # # # # # # # # # #\n",
         kept,
         REGISTERS,
     );
-    let c = say_kept(&mut *out, b, b"preds % % % % % % % %\n", kept, PREDICATES);
-    let d = say_kept(
-        &mut *out,
-        c,
+    say_kept(&mut *page, b"preds % % % % % % % %\n", kept, PREDICATES);
+    say_kept(
+        &mut *page,
         b"specials sl # sh # ss # st # srb # sro # sxb # sxo #\n",
         kept,
         SPECIALS,
     );
-    put_waiting(&mut *out, d, kept)
+    put_waiting(&mut *page, kept);
 }

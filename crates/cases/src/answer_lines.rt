@@ -1,9 +1,7 @@
 // What is reported of an operation that does bundles: how it ended, and what it counted.
-use case_kept::buffers::Report;
 use case_report::form::say;
 use resume::Reply;
-use text::page::put_decimal;
-use text::table::put_row;
+use text::page::Page;
 
 // The names of the operations, by their rows.
 pub(crate) const STEP: usize = 0;
@@ -23,29 +21,27 @@ fn row_of(r: Reply) -> usize {
     }
 }
 
-pub(crate) fn put_reply(out: &mut Report, operation: usize, r: Reply) -> usize {
-    let a = put_row(&mut *out, 0, b"step \nrun \nrestep \nresume \n", operation);
-    let b = put_row(&mut *out, a, b"done\nended\nspent\nrefused \n", row_of(r));
-    match r {
-        Reply::Refused(n) => put_decimal(&mut *out, b, n as u64),
-        _ => b,
+pub(crate) fn put_reply(page: &mut Page, operation: usize, r: Reply) {
+    page.put_row(b"step \nrun \nrestep \nresume \n", operation);
+    page.put_row(b"done\nended\nspent\nrefused \n", row_of(r));
+    if let Reply::Refused(refusal) = r {
+        page.put_decimal(refusal.number() as u64);
     }
 }
 
 // The six counts; those of the method cache stand in the report of a case that has one.
-pub(crate) fn put_counts(out: &mut Report, used: usize, counts: &[u64], method: bool) -> usize {
+pub(crate) fn put_counts(page: &mut Page, counts: &[u64], method: bool) {
     if method {
-        return say(
-            &mut *out,
-            used,
+        say(
+            &mut *page,
             b" bundles % cycles % spilled % filled % misses % fetched %\n",
             counts,
         );
+        return;
     }
     say(
-        &mut *out,
-        used,
+        &mut *page,
         b" bundles % cycles % spilled % filled %\n",
         counts,
-    )
+    );
 }

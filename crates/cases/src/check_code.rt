@@ -1,12 +1,13 @@
 // The check of a case's code under its marking.
 use crate::kept_state::config_of;
-use case_kept::buffers::{Bytes, Report, least};
+use answers::Refusal;
+use case_kept::buffers::{Bytes, least};
 use case_kept::extent::extents_of;
 use case_kept::kept::Kept;
 use case_notes::marked::marking_of;
 use case_report::form::say;
 use single_path::{Checked, Rule};
-use text::page::put;
+use text::page::Page;
 
 fn letter(r: Rule) -> u8 {
     match r {
@@ -19,36 +20,35 @@ fn letter(r: Rule) -> u8 {
 }
 
 // Refusal 1 is one of the marking, and has no address.
-fn put_refused(out: &mut Report, number: u32, address: u32) -> usize {
-    if number == 1 {
-        return put(&mut *out, 0, b"check refused 1\n");
+fn put_refused(page: &mut Page, refusal: Refusal, address: u32) {
+    if refusal == Refusal::Limits {
+        page.put(b"check refused 1\n");
+        return;
     }
     say(
-        &mut *out,
-        0,
+        &mut *page,
         b"check refused % at %\n",
-        &[number as u64, address as u64],
-    )
+        &[refusal.number() as u64, address as u64],
+    );
 }
 
-fn put_broken(out: &mut Report, address: u32, letter: u8) -> usize {
+fn put_broken(page: &mut Page, address: u32, letter: u8) {
     say(
-        &mut *out,
-        0,
+        &mut *page,
         b"check refused 9 at % rule $\n",
         &[address as u64, letter as u64],
-    )
+    );
 }
 
-fn put_checked(out: &mut Report, c: Checked) -> usize {
+fn put_checked(page: &mut Page, c: Checked) {
     match c {
-        Checked::Accepted => put(&mut *out, 0, b"check accepted\n"),
-        Checked::Refused { number, address } => put_refused(&mut *out, number, address),
-        Checked::Broken { address, rule } => put_broken(&mut *out, address, letter(rule)),
+        Checked::Accepted => page.put(b"check accepted\n"),
+        Checked::Refused { refusal, address } => put_refused(&mut *page, refusal, address),
+        Checked::Broken { address, rule } => put_broken(&mut *page, address, letter(rule)),
     }
 }
 
-pub(crate) fn do_check(code: &Bytes, kept: &Kept, out: &mut Report) -> usize {
+pub(crate) fn do_check(code: &Bytes, kept: &Kept, page: &mut Page) {
     let e = extents_of(kept);
     let n = least(e.code, 65536);
     let config = config_of(e, kept);
@@ -61,5 +61,5 @@ pub(crate) fn do_check(code: &Bytes, kept: &Kept, out: &mut Report) -> usize {
         config,
         marking_of(kept),
     );
-    put_checked(&mut *out, c)
+    put_checked(&mut *page, c);
 }

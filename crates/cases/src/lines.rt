@@ -1,5 +1,4 @@
-// Lines of the file, one after the other. What a line has to report is put at the front of a buffer, of which each function answers
-// how much is used, and is written out before the next line is read.
+// Lines of the file, one after the other. What a line has to report is put on a page, which is written out before the next line is read.
 use crate::check_code::do_check;
 use crate::kinds::{kind_in, kind_of, reason};
 use crate::opening::{judge_places, open_case, start_case};
@@ -19,11 +18,12 @@ use case_report::output::{say_failure, write_out};
 use std::fs::File;
 use std::io::Error;
 use std::num::wrapping_add_u64;
+use text::page::Page;
 
 // A mistake of the line that was read last.
-fn fail_here(kept: &mut Kept, r: Reason, out: &mut Report) -> usize {
+fn fail_here(kept: &mut Kept, r: Reason, page: &mut Page) {
     let line = kept[LINE];
-    fail(&mut *out, 0, &mut *kept, line, r)
+    fail(&mut *page, &mut *kept, line, r);
 }
 
 // An operation line that needs an opened case: the first one opens it, which is reported only where it is refused. After a refused
@@ -35,22 +35,22 @@ fn operation_line(
     local: &mut Memory,
     cache: &mut Cache,
     kept: &mut Kept,
-    out: &mut Report,
-) -> usize {
-    let used = open_case(
+    page: &mut Page,
+) {
+    open_case(
         code,
         &mut *main,
         &mut *local,
         &mut *cache,
         &mut *kept,
-        &mut *out,
+        &mut *page,
     );
     if kept[PHASE] != OPEN {
-        return used;
+        return;
     }
     match asked {
-        Asked::Check => do_check(code, &*kept, &mut *out),
-        Asked::Save => do_save(&*cache, &*kept, &mut *out),
+        Asked::Check => do_check(code, &*kept, &mut *page),
+        Asked::Save => do_save(&*cache, &*kept, &mut *page),
         Asked::Resume { asked, room } => do_resume(
             asked,
             room,
@@ -59,7 +59,7 @@ fn operation_line(
             &mut *local,
             &*cache,
             &*kept,
-            &mut *out,
+            &mut *page,
         ),
         _ => do_operation(
             asked,
@@ -68,28 +68,28 @@ fn operation_line(
             &mut *local,
             &mut *cache,
             &mut *kept,
-            &mut *out,
+            &mut *page,
         ),
     }
 }
 
 // An operation line that needs no state, and is done after a refused opening too.
-fn showing_line(shown: Shown, code: &Bytes, kept: &mut Kept, out: &mut Report) -> usize {
-    let used = judge_places(&mut *kept, &mut *out);
+fn showing_line(shown: Shown, code: &Bytes, kept: &mut Kept, page: &mut Page) {
+    judge_places(&mut *kept, &mut *page);
     if kept[PHASE] == STOPPED {
-        return used;
+        return;
     }
     match shown {
-        Shown::Words(w) => do_write(w, &mut *out),
-        Shown::Listing => do_list(code, &*kept, &mut *out),
+        Shown::Words(w) => do_write(w, &mut *page),
+        Shown::Listing => do_list(code, &*kept, &mut *page),
     }
 }
 
 // What came of a line of the case's description.
-fn described(j: Judged, kept: &mut Kept, out: &mut Report) -> usize {
+fn described(j: Judged, kept: &mut Kept, page: &mut Page) {
     match j {
-        Judged::Fine => 0,
-        Judged::Mistake(r) => fail_here(&mut *kept, r, &mut *out),
+        Judged::Fine => {}
+        Judged::Mistake(r) => fail_here(&mut *kept, r, &mut *page),
     }
 }
 
@@ -101,13 +101,13 @@ fn take_line(
     local: &mut Memory,
     cache: &mut Cache,
     kept: &mut Kept,
-    out: &mut Report,
-) -> usize {
+    page: &mut Page,
+) {
     kept[LINE] = wrapping_add_u64(kept[LINE], 1);
     let said = read_line(line);
     match kind_in(kept[PHASE], kind_of(said, line)) {
-        Kind::Empty => 0,
-        Kind::Mistake(r) => fail_here(&mut *kept, reason(line, r), &mut *out),
+        Kind::Empty => {}
+        Kind::Mistake(r) => fail_here(&mut *kept, reason(line, r), &mut *page),
         Kind::Start(name) => start_case(
             line,
             name,
@@ -115,9 +115,9 @@ fn take_line(
             &mut *local,
             &mut *cache,
             &mut *kept,
-            &mut *out,
+            &mut *page,
         ),
-        Kind::Show(shown) => showing_line(shown, &*code, &mut *kept, &mut *out),
+        Kind::Show(shown) => showing_line(shown, &*code, &mut *kept, &mut *page),
         Kind::Operation(asked) => operation_line(
             asked,
             &*code,
@@ -125,7 +125,7 @@ fn take_line(
             &mut *local,
             &mut *cache,
             &mut *kept,
-            &mut *out,
+            &mut *page,
         ),
         Kind::Description => described(
             describe(
@@ -138,27 +138,20 @@ fn take_line(
                 &mut *kept,
             ),
             &mut *kept,
-            &mut *out,
+            &mut *page,
         ),
     }
 }
 
 // The file gave no line.
-fn without_line(found: Found, kept: &mut Kept, out: &mut Report) -> usize {
+fn without_line(found: Found, kept: &mut Kept, page: &mut Page) {
     match found {
-        Found::Unreadable => {
-            kept[PHASE] = STOPPED;
-            0
-        }
-        Found::End => {
-            kept[PHASE] = STOPPED;
-            0
-        }
+        Found::Unreadable | Found::End => kept[PHASE] = STOPPED,
         Found::TooLong => {
             let line = wrapping_add_u64(kept[LINE], 1);
-            fail(&mut *out, 0, &mut *kept, line, Reason::LineTooLong)
+            fail(&mut *page, &mut *kept, line, Reason::LineTooLong);
         }
-        _ => 0,
+        _ => {}
     }
 }
 
@@ -171,8 +164,8 @@ fn take(
     local: &mut Memory,
     cache: &mut Cache,
     kept: &mut Kept,
-    out: &mut Report,
-) -> usize {
+    page: &mut Page,
+) {
     match found {
         Found::Line(n) => {
             let end = least(n, 4000);
@@ -184,10 +177,10 @@ fn take(
                 &mut *local,
                 &mut *cache,
                 &mut *kept,
-                &mut *out,
+                &mut *page,
             )
         }
-        _ => without_line(found, &mut *kept, &mut *out),
+        _ => without_line(found, &mut *kept, &mut *page),
     }
 }
 
@@ -217,7 +210,8 @@ pub(crate) fn read_all(
     for _ in 0..u64::MAX {
         s = look(file, &mut failure, &mut *piece, &mut *line, s);
         let found = s.found;
-        let used = take(
+        let mut page = Page::new(&mut *out);
+        take(
             found,
             &*line,
             &mut *code,
@@ -225,9 +219,9 @@ pub(crate) fn read_all(
             &mut *local,
             &mut *cache,
             &mut *kept,
-            &mut *out,
+            &mut page,
         );
-        if !write_out(&mut rt.stdout(), &mut rt.stderr(), &*out, used) {
+        if !write_out(&mut rt.stdout(), &mut rt.stderr(), &page) {
             return;
         }
         if kept[PHASE] == STOPPED {

@@ -2,9 +2,8 @@
 ghost use Rattle.std.specs.Prelude.{◌≤◌, length};
 
 use crate::kept_state::config_of;
-use answers::Verdict;
 use case_file::Reason;
-use case_kept::buffers::{Bytes, Cache, Memory, Report};
+use case_kept::buffers::{Bytes, Cache, Memory};
 use case_kept::clearing::{clear_cache_copy, clear_memory, copy_memory, fill_cache};
 use case_kept::extent::{Extents, extents_of};
 use case_kept::kept::{
@@ -19,15 +18,15 @@ use case_state::listed;
 use settings::Config;
 use state::{Opened, State};
 use text::fields::next_field;
-use text::page::{put, put_byte};
+use text::page::Page;
 
-fn put_name(out: &mut Report, line: &[u8], name: usize) -> usize {
+fn put_name(page: &mut Page, line: &[u8], name: usize) {
     let f = next_field(line, name);
     let start = f.start;
     let end = f.end;
-    let a = put(&mut *out, 0, b"case ");
-    let b = put(&mut *out, a, &line[start..end]);
-    put_byte(&mut *out, b, b'\n')
+    page.put(b"case ");
+    page.put(&line[start..end]);
+    page.put_byte(b'\n');
 }
 
 // How many bytes of a memory a case may have written: those that it has, and those of its places.
@@ -47,14 +46,14 @@ pub(crate) fn start_case(
     local: &mut Memory,
     cache: &mut Cache,
     kept: &mut Kept,
-    out: &mut Report,
-) -> usize {
+    page: &mut Page,
+) {
     clear_memory(&mut *main, written(&*kept, MAIN, Store::Main));
     clear_memory(&mut *local, written(&*kept, LOCAL, Store::Local));
     clear_cache_copy(&mut *cache);
     forget_case(&mut *kept);
     kept[PHASE] = DESCRIBED;
-    put_name(&mut *out, line, name)
+    put_name(&mut *page, line, name);
 }
 
 // The opening over the parts of what is lent that the case asks for.
@@ -108,17 +107,14 @@ fn keep_fresh(kept: &mut Kept, o: Opened) {
 }
 
 // Keeps what came of the opening. The number of a refusal is reported.
-fn keep_opened(o: Opened, kept: &mut Kept, out: &mut Report) -> usize {
+fn keep_opened(o: Opened, kept: &mut Kept, page: &mut Page) {
     let answer = o.answer;
     match answer {
-        Verdict::Refused(n) => {
+        Err(refusal) => {
             kept[PHASE] = REFUSED;
-            say(&mut *out, 0, b"open refused %\n", &[n as u64])
+            say(&mut *page, b"open refused %\n", &[refusal.number() as u64]);
         }
-        Verdict::Fine => {
-            keep_fresh(&mut *kept, o);
-            0
-        }
+        Ok(()) => keep_fresh(&mut *kept, o),
     }
 }
 
@@ -130,8 +126,8 @@ fn open(
     local: &mut Memory,
     cache: &mut Cache,
     kept: &mut Kept,
-    out: &mut Report,
-) -> usize {
+    page: &mut Page,
+) {
     let e = extents_of(&*kept);
     let entry = word(&*kept, ENTRY);
     let config = config_of(e, &*kept);
@@ -139,20 +135,17 @@ fn open(
     copy_memory(&mut *main, e.main);
     copy_memory(&mut *local, e.local);
     fill_cache(&mut *cache, e.words);
-    keep_opened(o, &mut *kept, &mut *out)
+    keep_opened(o, &mut *kept, &mut *page);
 }
 
 // At a case's first operation its places are judged.
-pub(crate) fn judge_places(kept: &mut Kept, out: &mut Report) -> usize {
+pub(crate) fn judge_places(kept: &mut Kept, page: &mut Page) {
     if kept[PHASE] != DESCRIBED {
-        return 0;
+        return;
     }
     match first_outside(&*kept) {
-        Outside::Line(n) => fail(&mut *out, 0, &mut *kept, n, Reason::PlaceOutside),
-        Outside::Nowhere => {
-            kept[PHASE] = JUDGED;
-            0
-        }
+        Outside::Line(n) => fail(&mut *page, &mut *kept, n, Reason::PlaceOutside),
+        Outside::Nowhere => kept[PHASE] = JUDGED,
     }
 }
 
@@ -163,11 +156,11 @@ pub(crate) fn open_case(
     local: &mut Memory,
     cache: &mut Cache,
     kept: &mut Kept,
-    out: &mut Report,
-) -> usize {
-    let used = judge_places(&mut *kept, &mut *out);
+    page: &mut Page,
+) {
+    judge_places(&mut *kept, &mut *page);
     if kept[PHASE] != JUDGED {
-        return used;
+        return;
     }
     open(
         code,
@@ -175,6 +168,6 @@ pub(crate) fn open_case(
         &mut *local,
         &mut *cache,
         &mut *kept,
-        &mut *out,
-    )
+        &mut *page,
+    );
 }

@@ -5,7 +5,7 @@ use crate::Asked;
 use crate::answer_lines::{RUN, STEP, put_counts, put_reply};
 use crate::kept_state::{config_of, keep_counts, keep_far, keep_state, state_of};
 use bundle_model::Answer;
-use case_kept::buffers::{Bytes, Cache, Memory, Report};
+use case_kept::buffers::{Bytes, Cache, Memory};
 use case_kept::clearing::{copy_cache, copy_memory};
 use case_kept::extent::extents_of;
 use case_kept::kept::{COUNTS, Kept, METHOD, is_set};
@@ -16,12 +16,13 @@ use resume::Reply;
 use run::{Ran, RunAnswer};
 use settings::Config;
 use state::Stepped;
+use text::page::Page;
 
 fn step_reply(a: Answer) -> Reply {
     match a {
         Answer::Done => Reply::Done,
         Answer::Ended => Reply::Ended,
-        Answer::Refused(n) => Reply::Refused(n),
+        Answer::Refused(refusal) => Reply::Refused(refusal),
     }
 }
 
@@ -29,7 +30,7 @@ fn run_reply(a: RunAnswer) -> Reply {
     match a {
         RunAnswer::Ended => Reply::Ended,
         RunAnswer::Spent => Reply::Spent,
-        RunAnswer::Refused(n) => Reply::Refused(n),
+        RunAnswer::Refused(refusal) => Reply::Refused(refusal),
     }
 }
 
@@ -147,47 +148,36 @@ fn row_of(asked: Asked) -> usize {
 }
 
 // The answer, and the counts, which are kept.
-fn put_outcome(out: &mut Report, asked: Asked, r: Reply, kept: &Kept) -> usize {
-    let used = put_reply(&mut *out, row_of(asked), r);
+fn put_outcome(page: &mut Page, asked: Asked, r: Reply, kept: &Kept) {
+    put_reply(&mut *page, row_of(asked), r);
     let numbers = &kept[..];
     put_counts(
-        &mut *out,
-        used,
+        &mut *page,
         &numbers[COUNTS..COUNTS + 6],
         is_set(kept, METHOD),
-    )
+    );
 }
 
 // The change lines. What is reported is changed no longer: the copies of the memories are brought up to date.
 pub(crate) fn report_changes(
-    out: &mut Report,
-    used: usize,
+    page: &mut Page,
     main: &mut Memory,
     local: &mut Memory,
     cache: &Cache,
     kept: &Kept,
-) -> usize {
+) {
     let e = extents_of(kept);
-    let a = put_changes(&mut *out, used, &*main, &*local, cache, e);
+    put_changes(&mut *page, &*main, &*local, cache, e);
     copy_memory(&mut *main, e.main);
     copy_memory(&mut *local, e.local);
-    a
 }
 
 // The state lines and the change lines.
-fn report(
-    out: &mut Report,
-    used: usize,
-    main: &mut Memory,
-    local: &mut Memory,
-    cache: &mut Cache,
-    kept: &Kept,
-) -> usize {
+fn report(page: &mut Page, main: &mut Memory, local: &mut Memory, cache: &mut Cache, kept: &Kept) {
     let e = extents_of(kept);
-    let a = put_state(&mut *out, used, kept);
-    let b = report_changes(&mut *out, a, &mut *main, &mut *local, &*cache, kept);
+    put_state(&mut *page, kept);
+    report_changes(&mut *page, &mut *main, &mut *local, &*cache, kept);
     copy_cache(&mut *cache, e.words);
-    b
 }
 
 pub(crate) fn do_operation(
@@ -197,8 +187,8 @@ pub(crate) fn do_operation(
     local: &mut Memory,
     cache: &mut Cache,
     kept: &mut Kept,
-    out: &mut Report,
-) -> usize {
+    page: &mut Page,
+) {
     let r = replay_on(
         asked,
         code,
@@ -207,13 +197,6 @@ pub(crate) fn do_operation(
         &mut *cache,
         &mut *kept,
     );
-    let used = put_outcome(&mut *out, asked, r, &*kept);
-    report(
-        &mut *out,
-        used,
-        &mut *main,
-        &mut *local,
-        &mut *cache,
-        &*kept,
-    )
+    put_outcome(&mut *page, asked, r, &*kept);
+    report(&mut *page, &mut *main, &mut *local, &mut *cache, &*kept);
 }

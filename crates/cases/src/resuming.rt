@@ -6,7 +6,7 @@ use crate::kept_state::{config_of, counts_of, state_of};
 use crate::operation::report_changes;
 use bundle_model::Counts;
 use case_file::{Resumption, Room};
-use case_kept::buffers::{Bytes, Cache, Memory, RECORD_ROOM, Record, Report, least};
+use case_kept::buffers::{Bytes, Cache, Memory, RECORD_ROOM, Record, least};
 use case_kept::extent::extents_of;
 use case_kept::kept::{Kept, METHOD, is_set};
 use case_notes::record::{lay_record, record_length};
@@ -15,7 +15,7 @@ use case_report::form::say;
 use case_report::record_lines::{FILL, put_record, put_rest};
 use resume::Resumed;
 use settings::Config;
-use text::page::put_byte;
+use text::page::Page;
 
 fn save(cache: &Cache, kept: &Kept, bytes: &mut Record) -> usize {
     let e = extents_of(kept);
@@ -24,17 +24,17 @@ fn save(cache: &Cache, kept: &Kept, bytes: &mut Record) -> usize {
     record::writing::write_record(state_of(kept), counts_of(kept), &words[0..w], &mut *bytes)
 }
 
-fn put_saved(out: &mut Report, bytes: &Record, length: usize) -> usize {
+fn put_saved(page: &mut Page, bytes: &Record, length: usize) {
     let n = least(length, RECORD_ROOM);
     let all = &bytes[..];
-    let used = say(&mut *out, 0, b"save %\n", &[(n / 4) as u64]);
-    put_record(&mut *out, used, &all[0..n])
+    say(&mut *page, b"save %\n", &[(n / 4) as u64]);
+    put_record(&mut *page, &all[0..n]);
 }
 
-pub(crate) fn do_save(cache: &Cache, kept: &Kept, out: &mut Report) -> usize {
+pub(crate) fn do_save(cache: &Cache, kept: &Kept, page: &mut Page) {
     let mut bytes = [FILL; 8192];
     let n = save(cache, kept, &mut bytes);
-    put_saved(&mut *out, &bytes, n)
+    put_saved(&mut *page, &bytes, n);
 }
 
 // How many bytes the record is written into.
@@ -139,38 +139,38 @@ fn row_of(asked: Resumption) -> usize {
 }
 
 // Where no record was written, nothing is counted.
-fn put_counted(out: &mut Report, used: usize, c: Counts, method: bool, n: usize) -> usize {
+fn put_counted(page: &mut Page, c: Counts, method: bool, n: usize) {
     if n == 0 {
-        return put_byte(&mut *out, used, b'\n');
+        page.put_byte(b'\n');
+        return;
     }
     put_counts(
-        &mut *out,
-        used,
+        &mut *page,
         &[
             c.bundles, c.cycles, c.spilled, c.filled, c.misses, c.fetched,
         ],
         method,
-    )
+    );
 }
 
 // The answer, the record that was written, and what is left of the room behind it.
 fn put_resumed(
-    out: &mut Report,
+    page: &mut Page,
     asked: Resumption,
     r: Resumed,
     method: bool,
     bytes: &Record,
     room: usize,
-) -> usize {
+) {
     let answer = r.answer;
     let counts = r.counts;
     let end = least(room, RECORD_ROOM);
     let n = least(r.written, end);
     let all = &bytes[..];
-    let a = put_reply(&mut *out, row_of(asked), answer);
-    let b = put_counted(&mut *out, a, counts, method, n);
-    let c = put_record(&mut *out, b, &all[0..n]);
-    put_rest(&mut *out, c, &all[n..end])
+    put_reply(&mut *page, row_of(asked), answer);
+    put_counted(&mut *page, counts, method, n);
+    put_record(&mut *page, &all[0..n]);
+    put_rest(&mut *page, &all[n..end]);
 }
 
 pub(crate) fn do_resume(
@@ -181,12 +181,12 @@ pub(crate) fn do_resume(
     local: &mut Memory,
     cache: &Cache,
     kept: &Kept,
-    out: &mut Report,
-) -> usize {
+    page: &mut Page,
+) {
     let mut bytes = [FILL; 8192];
     let e = extents_of(kept);
     let n = room_of(room, e.words);
     let r = replay_from(asked, code, &mut *main, &mut *local, kept, &mut bytes[0..n]);
-    let used = put_resumed(&mut *out, asked, r, is_set(kept, METHOD), &bytes, n);
-    report_changes(&mut *out, used, &mut *main, &mut *local, cache, kept)
+    put_resumed(&mut *page, asked, r, is_set(kept, METHOD), &bytes, n);
+    report_changes(&mut *page, &mut *main, &mut *local, cache, kept);
 }

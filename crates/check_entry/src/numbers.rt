@@ -17,11 +17,9 @@ fn bits_of(word: u32) -> [bool; 32]
 {
     let mut bits = [false; 32];
     let mut rest = word;
-    let mut i = 0;
-    while i < 32 {
+    for i in 0..32 {
         bits[i] = rest % 2 == 1;
-        rest = rest / 2;
-        i += 1;
+        rest /= 2;
     }
     bits
 }

@@ -13,7 +13,7 @@ impl Core {
     pub fn write_register(self, registers: &mut [u32; 32], r: u32, v: u32) -> Core
         ensures { Written ((ps : List Bool) → joined registers.new ps result ≡ with_register (joined registers.old ps self) r v) result self.transfer self.load self.products }
     {
-        registers::write_register(&mut *registers, r, v);
+        registers::write_later(&mut *registers, r, v);
         self
     }
 
@@ -21,7 +21,7 @@ impl Core {
     pub(crate) fn write_predicate(self, predicates: &mut [bool; 8], p: u32, v: bool) -> Core
         ensures { Written ((rs : List ℕ) → joined rs predicates.new result ≡ with_predicate (joined rs predicates.old self) p v) result self.transfer self.load self.products }
     {
-        registers::write_predicate(&mut *predicates, p, v);
+        registers::write_later(&mut *predicates, p, v);
         self
     }
 

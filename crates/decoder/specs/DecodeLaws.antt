@@ -1,6 +1,5 @@
 -- What those who use the decoder need of its definition.
-use Rattle.std.specs.Prelude.{ℕ, Bool, true, false, cond, ◌≡◌, refl}
-use Rattle.std.proofs.Math.Option.{Option, none, some}
+use Rattle.std.specs.Prelude.{ℕ, Bool, true, false, cond, ◌≡◌, refl, Option, None, Some}
 use Rattle.std.proofs.Common.{ap, arith}
 use Rattle.isa.specs.Format.{reading}
 use Rattle.isa.specs.Formats.{long_formats, applied}
@@ -35,12 +34,12 @@ unfolding decode
 decode_alone first s t e = rw (words_one first e)
 
 -- What is decoded, by whether it is a long immediate.
-pub decode_by_long : (first second : ℕ) (r : Option AluOperation) → cond (is_two_words first) (applied (reading long_formats first) second) none ≡ r
+pub decode_by_long : (first second : ℕ) (r : Option AluOperation) → cond (is_two_words first) (applied (reading long_formats first) second) None ≡ r
     → decode first second ≡ long (guard_of first) r (cond (is_two_words first) (two (guard_of first) (slot_one first) (guard_of second) (slot_two second)) (one (guard_of first) (slot_one first)))
 unfolding decode
 decode_by_long first second r = go (is_two_words first)
   where
-    go : (t : Bool) → cond t (applied (reading long_formats first) second) none ≡ r
+    go : (t : Bool) → cond t (applied (reading long_formats first) second) None ≡ r
         → cond t (long (guard_of first) (applied (reading long_formats first) second) (two (guard_of first) (slot_one first) (guard_of second) (slot_two second))) (one (guard_of first) (slot_one first))
         ≡ long (guard_of first) r (cond t (two (guard_of first) (slot_one first) (guard_of second) (slot_two second)) (one (guard_of first) (slot_one first)))
     go true e = ap (λ (x : Option AluOperation). long (guard_of first) x (two (guard_of first) (slot_one first) (guard_of second) (slot_two second))) e
@@ -63,12 +62,12 @@ decode_words first second = go (is_two_words first) (applied (reading long_forma
   where
     go : (t : Bool) (l : Option AluOperation) (o : Option Operation) (a : Option AluOperation)
         → HasWords (cond t 2 1) (cond t (long (guard_of first) l (two (guard_of first) o (guard_of second) a)) (one (guard_of first) o))
-    go true (some l) o a = refl
-    go true none (some o) (some a) = refl
-    go true none (some o) none = tt
-    go true none none a = tt
-    go false l (some o) a = refl
-    go false l none a = tt
+    go true (Some l) o a = refl
+    go true None (Some o) (Some a) = refl
+    go true None (Some o) None = tt
+    go true None None a = tt
+    go false l (Some o) a = refl
+    go false l None a = tt
 
 -- The same by the form of the bundle.
 pub decode_one_words : (first second : ℕ) {i : Instruction} → decode first second ≡ One i → bundle_words first ≡ 1

@@ -2,19 +2,15 @@
 // contracts of `decode` and `bundle_words`.
 #![tactic(auto)]
 
-ghost use Rattle.std.specs.Prelude.{◌≡◌, cond};
-ghost use Rattle.std.proofs.Math.Option.{none};
+ghost use Rattle.std.specs.Prelude.{◌≡◌, cond, None};
 ghost use Rattle.isa.specs.Format.{reading};
 ghost use Rattle.isa.specs.Formats.{long_formats, applied};
-ghost use Rattle.alu_formats.specs.Readings.{alu_found};
-ghost use Rattle.first_formats.specs.Readings.{found};
 ghost use Rattle.decoder.specs.Decode.{is_two_words, bundle_words, guard_of, slot_one, slot_two, decode};
 
-use alu_formats::AluReading;
-use first_formats::Reading;
-use isa::{AluInstruction, Bundle, Instruction, Operation, PredicateOperand};
+use isa::{AluInstruction, AluOperation, Bundle, Instruction, Operation, PredicateOperand};
 
 // How many words a bundle has, by its first.
+#[tactic(auto, unfolding(crate::specs::Decode::bundle_words))]
 pub fn bundle_words(first: u32) -> u32
     ensures { result ≡ bundle_words first }
 {
@@ -24,37 +20,40 @@ pub fn bundle_words(first: u32) -> u32
     1
 }
 
+#[tactic(auto, unfolding(crate::specs::Decode::guard_of))]
 fn guard_of(w: u32) -> PredicateOperand
     ensures { result ≡ guard_of w }
 {
     alu_formats::predicate_operand(w / 134217728 % 16)
 }
 
-fn slot_one(w: u32) -> Reading
-    ensures { found result ≡ slot_one w }
+#[tactic(auto, unfolding(crate::specs::Decode::slot_one))]
+fn slot_one(w: u32) -> Option<Operation>
+    ensures { result ≡ slot_one w }
 {
-    if let AluReading::Found(operation) = alu_formats::read_alu(w) {
-        return Reading::Found(Operation::Alu(operation));
+    if let Some(operation) = alu_formats::read_alu(w) {
+        return Some(Operation::Alu(operation));
     }
     first_formats::read_first(w)
 }
 
 #[tactic(auto, unfolding(crate::specs::Decode::slot_two))]
-fn slot_two(w: u32) -> AluReading
-    ensures { alu_found result ≡ slot_two w }
+fn slot_two(w: u32) -> Option<AluOperation>
+    ensures { result ≡ slot_two w }
 {
     if w / 2147483648 % 2 == 1 {
-        return AluReading::Nothing;
+        return None;
     }
     alu_formats::read_second(w)
 }
 
 // A long immediate, which needs a bundle of two words.
-fn long(first: u32, second: u32) -> AluReading
-    ensures { alu_found result ≡ cond (is_two_words first) (applied (reading long_formats first) second) none }
+#[tactic(auto, using(crate::specs::DecodeLaws::words_one, crate::specs::DecodeLaws::words_two))]
+fn long(first: u32, second: u32) -> Option<AluOperation>
+    ensures { result ≡ cond (is_two_words first) (applied (reading long_formats first) second) None }
 {
     if bundle_words(first) == 1 {
-        return AluReading::Nothing;
+        return None;
     }
     alu_formats::read_long(first, second)
 }
@@ -63,13 +62,13 @@ fn long(first: u32, second: u32) -> AluReading
 pub fn decode(first: u32, second: u32) -> Bundle
     ensures { result ≡ decode first second }
 {
-    if let AluReading::Found(operation) = long(first, second) {
+    if let Some(operation) = long(first, second) {
         return Bundle::Long(Instruction {
             guard: guard_of(first),
             operation: Operation::Alu(operation),
         });
     }
-    let Reading::Found(operation) = slot_one(first) else {
+    let Some(operation) = slot_one(first) else {
         return Bundle::Undecodable;
     };
     let one = Instruction {
@@ -79,7 +78,7 @@ pub fn decode(first: u32, second: u32) -> Bundle
     if bundle_words(first) == 1 {
         return Bundle::One(one);
     }
-    let AluReading::Found(other) = slot_two(second) else {
+    let Some(other) = slot_two(second) else {
         return Bundle::Undecodable;
     };
     let two = AluInstruction {

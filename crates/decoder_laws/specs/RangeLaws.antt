@@ -1,6 +1,5 @@
 -- What the decoder reads is in range: a field's number is below 2 ^ its width, and each format keeps to that.
-use Rattle.std.specs.Prelude.{ℕ, suc, ◌-◌, ◌<◌, ◌^◌, Bool, true, false, cond, List, [], ◌∷◌, ◌≡◌, eqb}
-use Rattle.std.proofs.Math.Option.{Option, none, some}
+use Rattle.std.specs.Prelude.{ℕ, suc, ◌-◌, ◌<◌, ◌^◌, Bool, true, false, cond, List, [], ◌∷◌, ◌≡◌, eqb, Option, None, Some}
 use Rattle.std.proofs.Common.{pow_pos, mod-lt, arith}
 use Rattle.word.specs.WordLaws.{signed_mag}
 use Rattle.isa.specs.Format.{Range, bits, Meaning, Format, matches, said, reading, Row, row}
@@ -19,8 +18,8 @@ use Rattle.isa.specs.declared.Bundle.TheVariants.{One, Two, Long}
 infixr 60 ◌also◌
 -- If there is a value, P holds of it.
 abbrev pub IfSome : {A : Type 0} → (A → Type 0) → Option A → Type 0
-IfSome P none = Unit {0}
-IfSome P (some a) = P a
+IfSome P None = Unit {0}
+IfSome P (Some a) = P a
 
 -- P holds of whatever the fields say, for all numbers that fit the fields.
 abbrev pub Says : {A : Type 0} → (A → Type 0) → (fs : List Range) → Meaning A fs → Type 0
@@ -110,14 +109,14 @@ unfolding slot_one
 slot_one_in_range w = go (reading alu_formats w) (reading first_formats w) (reading_says _ alu_formats w alu_say) (reading_says _ first_formats w first_say)
   where
     go : (a : Option AluOperation) (o : Option Operation) → IfSome AluInRange a → IfSome OperationInRange o → IfSome OperationInRange (either a o)
-    go none o p q = q
-    go (some a) o p q = p
+    go None o p q = q
+    go (Some a) o p q = p
 
 pub slot_two_in_range : (w : ℕ) → IfSome AluInRange (slot_two w)
 unfolding slot_two
 slot_two_in_range w = go (is_two_words w)
   where
-    go : (t : Bool) → IfSome AluInRange (cond t none (reading alu_formats w))
+    go : (t : Bool) → IfSome AluInRange (cond t None (reading alu_formats w))
     go true = tt
     go false = reading_says _ alu_formats w alu_say
 
@@ -125,8 +124,8 @@ long_in_range : (first second : ℕ) → second < 2 ^ 32 → IfSome AluInRange (
 long_in_range first second h = go (reading long_formats first) (reading_says _ long_formats first long_say)
   where
     go : (f : Option (ℕ → AluOperation)) → IfSome (λ f. (c : ℕ) → c < 2 ^ 32 → AluInRange (f c)) f → IfSome AluInRange (applied f second)
-    go none p = tt
-    go (some f) p = p second h
+    go None p = tt
+    go (Some f) p = p second h
 
 pub decode_in_range : (first second : ℕ) → second < 2 ^ 32 → InRange (decode first second)
 unfolding decode
@@ -143,12 +142,12 @@ decode_in_range first second h =
     go : (t : Bool) (l : Option AluOperation) (o : Option Operation) (a : Option AluOperation)
         → IfSome AluInRange l → IfSome OperationInRange o → IfSome AluInRange a
         → InRange (cond t (long (guard_of first) l (two (guard_of first) o (guard_of second) a)) (one (guard_of first) o))
-    go true (some l) o a p q r = (guard_in_range first, p)
-    go true none (some o) (some a) p q r = ((guard_in_range first, q), (guard_in_range second, r))
-    go true none (some o) none p q r = tt
-    go true none none a p q r = tt
-    go false l (some o) a p q r = (guard_in_range first, q)
-    go false l none a p q r = tt
+    go true (Some l) o a p q r = (guard_in_range first, p)
+    go true None (Some o) (Some a) p q r = ((guard_in_range first, q), (guard_in_range second, r))
+    go true None (Some o) None p q r = tt
+    go true None None a p q r = tt
+    go false l (Some o) a p q r = (guard_in_range first, q)
+    go false l None a p q r = tt
 
 -- The same by the form of the bundle.
 pub one_in_range : (first second : ℕ) {i : Instruction} → second < 2 ^ 32 → decode first second ≡ One i → InstructionInRange i

@@ -1,6 +1,8 @@
-// The text of a bundle, put into a buffer.
+// The text of a bundle, put on a page.
+#![tactic(auto, using(text::specs::PageLaws::texts), unfolding(crate::specs::Text::shown_text, crate::specs::Text::guard_text, crate::specs::Text::bundle_text))]
+
 ghost use Rattle.std.specs.Prelude.{◌≡◌, false, cond, eqb};
-ghost use Rattle.text.specs.Page.{page, with_text};
+ghost use Rattle.text.specs.Page.{Puts};
 ghost use Rattle.assembly.specs.Forms.{letter as letter_of};
 ghost use Rattle.assembly.specs.Operands.{operand_text};
 ghost use Rattle.disassembler.specs.Text.{shown_text, guard_text, slot_text, bundle_text};
@@ -11,27 +13,27 @@ use assembly::Operand;
 use assembly::operand_text::{put_operand, put_predicate};
 use assembly::table::{letter, put_name};
 use isa::{AluInstruction, Bundle, Instruction, Operation, PredicateOperand};
-use text::page::{put, put_byte};
+use text::page::Page;
 
 // An operand of a form.
-fn put_nth(out: &mut [u8], used: usize, form: u32, nth: u32, o: Operand) -> usize
-    ensures { page result out.new ≡ with_text (page used out.old) (operand_text (letter_of form nth) o) }
+fn put_nth(page: &mut Page, form: u32, nth: u32, o: Operand)
+    ensures { Puts page.old page.new (operand_text (letter_of form nth) o) }
 {
     let kind = letter(form, nth);
-    put_operand(&mut *out, used, kind, o)
+    put_operand(&mut *page, kind, o);
 }
 
 // A name with its operands.
-fn put_shown(out: &mut [u8], used: usize, s: Shown) -> usize
-    ensures { page result out.new ≡ with_text (page used out.old) (shown_text s) }
+fn put_shown(page: &mut Page, s: Shown)
+    ensures { Puts page.old page.new (shown_text s) }
 {
     let m = s.mnemonic;
     let form = m.form;
-    let named = put_name(&mut *out, used, m);
-    let first = put_nth(&mut *out, named, form, 0, s.a);
-    let second = put_nth(&mut *out, first, form, 1, s.b);
-    let third = put_nth(&mut *out, second, form, 2, s.c);
-    put_nth(&mut *out, third, form, 3, s.d)
+    put_name(&mut *page, m);
+    put_nth(&mut *page, form, 0, s.a);
+    put_nth(&mut *page, form, 1, s.b);
+    put_nth(&mut *page, form, 2, s.c);
+    put_nth(&mut *page, form, 3, s.d);
 }
 
 // Whether a guard is p0, which is not written.
@@ -44,49 +46,48 @@ fn is_unguarded(g: PredicateOperand) -> bool
     g.predicate == 0
 }
 
-fn put_guard(out: &mut [u8], used: usize, g: PredicateOperand) -> usize
-    ensures { page result out.new ≡ with_text (page used out.old) (guard_text g) }
+fn put_guard(page: &mut Page, g: PredicateOperand)
+    ensures { Puts page.old page.new (guard_text g) }
 {
     if is_unguarded(g) {
-        return used;
+        return;
     }
-    let at = put_predicate(&mut *out, used, g.negated, g.predicate);
-    put_byte(&mut *out, at, b' ')
+    put_predicate(&mut *page, g.negated, g.predicate);
+    page.put_byte(b' ');
 }
 
-fn put_slot(out: &mut [u8], used: usize, g: PredicateOperand, o: Operation) -> usize
-    ensures { page result out.new ≡ with_text (page used out.old) (slot_text g o) }
+fn put_slot(page: &mut Page, g: PredicateOperand, o: Operation)
+    ensures { Puts page.old page.new (slot_text g o) }
 {
-    let at = put_guard(&mut *out, used, g);
-    put_shown(&mut *out, at, show(o))
+    put_guard(&mut *page, g);
+    put_shown(&mut *page, show(o));
 }
 
-fn put_instruction(out: &mut [u8], used: usize, i: Instruction) -> usize
-    ensures { page result out.new ≡ with_text (page used out.old) (slot_text i.guard i.operation) }
+fn put_instruction(page: &mut Page, i: Instruction)
+    ensures { Puts page.old page.new (slot_text i.guard i.operation) }
 {
     let g = i.guard;
     let o = i.operation;
-    put_slot(&mut *out, used, g, o)
+    put_slot(&mut *page, g, o);
 }
 
-fn put_two(out: &mut [u8], used: usize, i: Instruction, j: AluInstruction) -> usize
-    ensures { page result out.new ≡ with_text (page used out.old) (bundle_text (Bundle.Two i j)) }
+fn put_two(page: &mut Page, i: Instruction, j: AluInstruction)
+    ensures { Puts page.old page.new (bundle_text (Bundle.Two i j)) }
 {
-    let first = put_instruction(&mut *out, used, i);
-    let at = put(&mut *out, first, b" ; ");
+    put_instruction(&mut *page, i);
+    page.put(b" ; ");
     let g = j.guard;
     let a = j.operation;
-    put_slot(&mut *out, at, g, Operation::Alu(a))
+    put_slot(&mut *page, g, Operation::Alu(a));
 }
 
 // The text of a bundle. One that cannot be decoded has none.
-pub fn put_bundle(out: &mut [u8], used: usize, b: Bundle) -> usize
-    ensures { page result out.new ≡ with_text (page used out.old) (bundle_text b) }
+pub fn put_bundle(page: &mut Page, b: Bundle)
+    ensures { Puts page.old page.new (bundle_text b) }
 {
     match b {
-        Bundle::Undecodable => used,
-        Bundle::One(i) => put_instruction(&mut *out, used, i),
-        Bundle::Long(i) => put_instruction(&mut *out, used, i),
-        Bundle::Two(i, j) => put_two(&mut *out, used, i, j),
+        Bundle::Undecodable => {}
+        Bundle::One(i) | Bundle::Long(i) => put_instruction(&mut *page, i),
+        Bundle::Two(i, j) => put_two(&mut *page, i, j),
     }
 }

@@ -24,6 +24,7 @@ use Rattle.memory.specs.Access.{load_scale, store_scale}
 use Rattle.alu_effects.specs.declared.Specials.{Specials}
 use Rattle.replay.specs.Replay.{handler_at}
 use Rattle.alu_effects.specs.AluEffects.{holds, special, alu_effect, slot_two_effect}
+use Rattle.effects.specs.declared.AtStart.{AtStart}
 use Rattle.effects.specs.declared.Transfer as declared
 use Rattle.effects.specs.declared.Transfer.TheVariants as transfer
 use Rattle.alu_effects.specs.declared.AluEffect.{AluEffect}
@@ -41,6 +42,10 @@ pub record Start : Type 0 where
 
 abbrev pub start : List ℕ → List Bool → Specials → ℕ → List ℕ → Start
 start rs ps specials fetch table = record { registers = rs; predicates = ps; specials = specials; fetch = fetch; table = table }
+
+-- The same of what the code is given.
+abbrev pub at_start : AtStart → Start
+at_start s = start s.registers.now s.predicates.now s.specials s.fetch s.table.now
 
 abbrev pub register : Start → ℕ → ℕ
 register s r = get_or s.registers r 0

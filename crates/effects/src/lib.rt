@@ -3,9 +3,19 @@
 
 pub mod slot;
 
-use alu_effects::AluEffect;
+use alu_effects::{AluEffect, Specials};
 use isa::{AccessKind, LoadWidth, Special, StoreWidth};
 use stack_cache::StackControl;
+
+// What the slots read: the state as the bundle begins, and the table of handlers.
+#[derive(Clone, Copy)]
+pub struct AtStart<'a> {
+    pub registers: &'a [u32; 32],
+    pub predicates: &'a [bool; 8],
+    pub specials: Specials,
+    pub fetch: u32,
+    pub table: &'a [u8],
+}
 
 // A transfer of control that is to be carried out. Block is brcf and ret, which set the base; so does xret, which also ends a handler.
 #[derive(Clone, Copy)]

@@ -1,6 +1,5 @@
 -- Writing a bundle: the words of its instructions, to be read beside `Decode` of decoder.
-use Rattle.std.specs.Prelude.{ℕ}
-use Rattle.std.proofs.Math.Option.{Option, none, some}
+use Rattle.std.specs.Prelude.{ℕ, Option, None, Some}
 use Rattle.isa.specs.Format.{◌⋯◌, ◌≔◌}
 use Rattle.isa.specs.Formats.{long_formats, alu_formats, first_formats}
 use Rattle.fields.specs.Place.{put, writing}
@@ -20,56 +19,56 @@ use Rattle.encoder.specs.declared.Written.TheVariants.{One, Two, Refused}
 
 -- The operation as one that either slot may hold, if it is one.
 abbrev pub either_slot : Operation → Option AluOperation
-either_slot (Alu a) = some a
-either_slot (Multiply f rs1 rs2) = none
-either_slot (Mts s rs1) = none
-either_slot (Mfs rd s) = none
-either_slot (Load k w rd ra n) = none
-either_slot (Store k w ra rs n) = none
-either_slot (StackControl o) = none
-either_slot (Transfer d t) = none
-either_slot (Trap n) = none
-either_slot (Xret d) = none
+either_slot (Alu a) = Some a
+either_slot (Multiply f rs1 rs2) = None
+either_slot (Mts s rs1) = None
+either_slot (Mfs rd s) = None
+either_slot (Load k w rd ra n) = None
+either_slot (Store k w ra rs n) = None
+either_slot (StackControl o) = None
+either_slot (Transfer d t) = None
+either_slot (Trap n) = None
+either_slot (Xret d) = None
 
 -- The constant of a long immediate, which is its second word.
 abbrev pub constant_in : Op2 → Option ℕ
-constant_in (op2.Long n) = some n
-constant_in (op2.Immediate n) = none
-constant_in (op2.Register r) = none
+constant_in (op2.Long n) = Some n
+constant_in (op2.Immediate n) = None
+constant_in (op2.Register r) = None
 
 abbrev pub constant_of : Option AluOperation → Option ℕ
-constant_of none = none
-constant_of (some (Arithmetic f rd rs1 o)) = constant_in o
-constant_of (some (Compare f pd rs1 o)) = none
-constant_of (some (Predicate f pd p q)) = none
-constant_of (some (BitCopy rd rs1 n p)) = none
+constant_of None = None
+constant_of (Some (Arithmetic f rd rs1 o)) = constant_in o
+constant_of (Some (Compare f pd rs1 o)) = None
+constant_of (Some (Predicate f pd p q)) = None
+constant_of (Some (BitCopy rd rs1 n p)) = None
 
 -- The guard stands in bits 30 to 27 of every word.
 unfoldable pub guarded : PredicateOperand → Option ℕ
-guarded g = put (some 0) (30 ⋯ 27 ≔ operand_number g)
+guarded g = put (Some 0) (30 ⋯ 27 ≔ operand_number g)
 
 -- The word of a slot. Its bit 31 is given: set in the first of two.
 abbrev pub in_slot : Option ℕ → Operation → Option AluOperation → Option ℕ
-in_slot start o (some a) = writing alu_formats start (alu_fields a)
-in_slot start o none = writing first_formats start (first_fields o)
+in_slot start o (Some a) = writing alu_formats start (alu_fields a)
+in_slot start o None = writing first_formats start (first_fields o)
 
 unfoldable pub slot_word : ℕ → PredicateOperand → Operation → Option ℕ
 slot_word two g o = in_slot (put (guarded g) (31 ⋯ 31 ≔ two)) o (either_slot o)
 
 -- The first word of a long immediate, whose format sets bit 31 itself.
 abbrev pub long_word : PredicateOperand → Option AluOperation → Option ℕ
-long_word g none = none
-long_word g (some a) = writing long_formats (guarded g) (long_fields a)
+long_word g None = None
+long_word g (Some a) = writing long_formats (guarded g) (long_fields a)
 
 -- One word, or two; 12 where one is missing.
 abbrev pub alone : Option ℕ → Written
-alone none = Refused 12
-alone (some w) = One w
+alone None = Refused 12
+alone (Some w) = One w
 
 abbrev pub beside : Option ℕ → Option ℕ → Written
-beside none v = Refused 12
-beside (some w) none = Refused 12
-beside (some w) (some v) = Two w v
+beside None v = Refused 12
+beside (Some w) None = Refused 12
+beside (Some w) (Some v) = Two w v
 
 -- The words of a bundle, or the refusal.
 unfoldable pub written : Bundle → Written
@@ -80,16 +79,16 @@ written (bundle.Long i) = beside (long_word i.guard (either_slot i.operation)) (
 
 -- The bundle of one instruction: of two words if it has a long constant.
 abbrev pub of_length : Instruction → Option ℕ → Bundle
-of_length i none = bundle.One i
-of_length i (some n) = bundle.Long i
+of_length i None = bundle.One i
+of_length i (Some n) = bundle.Long i
 
 unfoldable pub single : Instruction → Bundle
 single i = of_length i (constant_of (either_slot i.operation))
 
 -- The bundle of two instructions. What slot two cannot hold makes no bundle.
 abbrev pub beside_alu : Instruction → PredicateOperand → Option AluOperation → Bundle
-beside_alu i g none = bundle.Undecodable
-beside_alu i g (some a) = bundle.Two i (record { guard = g; operation = a })
+beside_alu i g None = bundle.Undecodable
+beside_alu i g (Some a) = bundle.Two i (record { guard = g; operation = a })
 
 unfoldable pub pair : Instruction → Instruction → Bundle
 pair i j = beside_alu i j.guard (either_slot j.operation)

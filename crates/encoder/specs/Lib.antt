@@ -1,3 +1,2 @@
 -- Open first: Encode.antt.
 pub mod Encode
-pub mod Readings

@@ -1,10 +1,8 @@
 // The encoder: the words of a bundle, or its refusal. The decoder reads them as that bundle again (encoder_laws).
-#![tactic(auto)]
+#![tactic(auto, unfolding(fields::specs::Place::writing, crate::specs::Encode::guarded, crate::specs::Encode::slot_word, crate::specs::Encode::written, crate::specs::Encode::single, crate::specs::Encode::pair))]
 
 pub mod bundles;
 pub mod words;
-
-use isa::AluOperation;
 
 // What a bundle is written as.
 #[derive(Clone, Copy)]
@@ -12,11 +10,4 @@ pub enum Written {
     One(u32),
     Two(u32, u32),
     Refused(u32),
-}
-
-// An operation that either slot may hold, or that there is none.
-#[derive(Clone, Copy)]
-pub enum AluFound {
-    Nothing,
-    Found(AluOperation),
 }

@@ -4,11 +4,9 @@ ghost use Rattle.isa.specs.Formats.{long_formats, alu_formats, first_formats};
 ghost use Rattle.fields.specs.Place.{writing};
 ghost use Rattle.fields.specs.Fields.{long_fields, alu_fields, amount_fields, first_fields};
 ghost use Rattle.encoder.specs.Encode.{guarded, slot_word, alone, beside, written};
-ghost use Rattle.fields.specs.Readings.{found};
 
+use crate::Written;
 use crate::bundles::{constant_of, either_slot};
-use crate::{AluFound, Written};
-use fields::Word;
 use fields::codes::{
     alu_code, bit, compare_code, kind_code, load_code, multiply_code, predicate_code, special_code,
     store_code,
@@ -19,30 +17,30 @@ use isa::{
     Operation, PredicateOperand, StackAmount, StackOperation, Target,
 };
 
-fn arithmetic(w: Word, function: AluFunction, rd: u32, rs1: u32, op2: Op2) -> Word
-    ensures { found result ≡ writing alu_formats (found w) (alu_fields (AluOperation.Arithmetic function rd rs1 op2)) }
+fn arithmetic(w: Option<u32>, function: AluFunction, rd: u32, rs1: u32, op2: Op2) -> Option<u32>
+    ensures { result ≡ writing alu_formats w (alu_fields (AluOperation.Arithmetic function rd rs1 op2)) }
 {
     let func = alu_code(function);
     match op2 {
         Op2::Register(rs2) => format_words::alu(w, 0, 32, rd, 32, rs1, rs2, func),
         Op2::Immediate(n) => format_words::alu_immediate(w, func, rd, rs1, n),
-        Op2::Long(_) => Word::Nothing,
+        Op2::Long(_) => None,
     }
 }
 
-fn compare(w: Word, function: CompareFunction, pd: u32, rs1: u32, op2: Op2) -> Word
-    ensures { found result ≡ writing alu_formats (found w) (alu_fields (AluOperation.Compare function pd rs1 op2)) }
+fn compare(w: Option<u32>, function: CompareFunction, pd: u32, rs1: u32, op2: Op2) -> Option<u32>
+    ensures { result ≡ writing alu_formats w (alu_fields (AluOperation.Compare function pd rs1 op2)) }
 {
     let func = compare_code(function);
     match op2 {
         Op2::Register(rs2) => format_words::alu(w, 3, 8, pd, 32, rs1, rs2, func),
         Op2::Immediate(n) => format_words::alu(w, 6, 8, pd, 32, rs1, n, func),
-        Op2::Long(_) => Word::Nothing,
+        Op2::Long(_) => None,
     }
 }
 
-fn alu_word(w: Word, a: AluOperation) -> Word
-    ensures { found result ≡ writing alu_formats (found w) (alu_fields a) }
+fn alu_word(w: Option<u32>, a: AluOperation) -> Option<u32>
+    ensures { result ≡ writing alu_formats w (alu_fields a) }
 {
     match a {
         AluOperation::Arithmetic {
@@ -85,8 +83,8 @@ fn alu_word(w: Word, a: AluOperation) -> Word
     }
 }
 
-fn amount_word(w: Word, op: u32, amount: StackAmount) -> Word
-    ensures { found result ≡ writing first_formats (found w) (amount_fields op amount) }
+fn amount_word(w: Option<u32>, op: u32, amount: StackAmount) -> Option<u32>
+    ensures { result ≡ writing first_formats w (amount_fields op amount) }
 {
     match amount {
         StackAmount::Words(n) => format_words::stack(w, 0, op, 262144, 1, n),
@@ -94,8 +92,8 @@ fn amount_word(w: Word, op: u32, amount: StackAmount) -> Word
     }
 }
 
-fn stack_word(w: Word, o: StackOperation) -> Word
-    ensures { found result ≡ writing first_formats (found w) (first_fields (Operation.StackControl o)) }
+fn stack_word(w: Option<u32>, o: StackOperation) -> Option<u32>
+    ensures { result ≡ writing first_formats w (first_fields (Operation.StackControl o)) }
 {
     match o {
         StackOperation::Sres(n) => amount_word(w, 0, StackAmount::Words(n)),
@@ -105,8 +103,8 @@ fn stack_word(w: Word, o: StackOperation) -> Word
     }
 }
 
-fn transfer_word(w: Word, delayed: bool, target: Target) -> Word
-    ensures { found result ≡ writing first_formats (found w) (first_fields (Operation.Transfer delayed target)) }
+fn transfer_word(w: Option<u32>, delayed: bool, target: Target) -> Option<u32>
+    ensures { result ≡ writing first_formats w (first_fields (Operation.Transfer delayed target)) }
 {
     let d = bit(delayed);
     match target {
@@ -120,11 +118,11 @@ fn transfer_word(w: Word, delayed: bool, target: Target) -> Word
     }
 }
 
-fn first_word(w: Word, o: Operation) -> Word
-    ensures { found result ≡ writing first_formats (found w) (first_fields o) }
+fn first_word(w: Option<u32>, o: Operation) -> Option<u32>
+    ensures { result ≡ writing first_formats w (first_fields o) }
 {
     match o {
-        Operation::Alu(_) => Word::Nothing,
+        Operation::Alu(_) => None,
         Operation::Multiply { function, rs1, rs2 } => format_words::multiply(
             w,
             rs1,
@@ -167,61 +165,52 @@ fn first_word(w: Word, o: Operation) -> Word
 }
 
 // A word that has its guard and nothing else.
-fn guarded(g: PredicateOperand) -> Word
-    ensures { found result ≡ guarded g }
+fn guarded(g: PredicateOperand) -> Option<u32>
+    ensures { result ≡ guarded g }
 {
-    put(Word::Of(0), 16, 134217728, operand_number(g))
+    put(Some(0), 16, 134217728, operand_number(g))
 }
 
 // The word of a slot: `two` is its bit 31.
-fn slot_word(two: u32, g: PredicateOperand, o: Operation) -> Word
-    ensures { found result ≡ slot_word two g o }
+fn slot_word(two: u32, g: PredicateOperand, o: Operation) -> Option<u32>
+    ensures { result ≡ slot_word two g o }
 {
     let w = put(guarded(g), 2, 2147483648, two);
     match either_slot(o) {
-        AluFound::Nothing => first_word(w, o),
-        AluFound::Found(a) => alu_word(w, a),
+        Some(a) => alu_word(w, a),
+        None => first_word(w, o),
     }
 }
 
-fn long_in_format(w: Word, a: AluOperation) -> Word
-    ensures { found result ≡ writing long_formats (found w) (long_fields a) }
+fn long_in_format(w: Option<u32>, a: AluOperation) -> Option<u32>
+    ensures { result ≡ writing long_formats w (long_fields a) }
 {
     match a {
         AluOperation::Arithmetic {
             function,
             rd,
             rs1,
-            op2,
-        } => match op2 {
-            Op2::Register(_) => Word::Nothing,
-            Op2::Immediate(_) => Word::Nothing,
-            Op2::Long(_) => format_words::alu_long(w, rd, rs1, alu_code(function)),
-        },
-        AluOperation::Compare { .. } => Word::Nothing,
-        AluOperation::Predicate { .. } => Word::Nothing,
-        AluOperation::BitCopy { .. } => Word::Nothing,
+            op2: Op2::Long(_),
+        } => format_words::alu_long(w, rd, rs1, alu_code(function)),
+        _ => None,
     }
 }
 
-fn alone(w: Word) -> Written
-    ensures { result ≡ alone (found w) }
+fn alone(w: Option<u32>) -> Written
+    ensures { result ≡ alone w }
 {
     match w {
-        Word::Nothing => Written::Refused(12),
-        Word::Of(x) => Written::One(x),
+        Some(x) => Written::One(x),
+        None => Written::Refused(12),
     }
 }
 
-fn beside(w: Word, v: Word) -> Written
-    ensures { result ≡ beside (found w) (found v) }
+fn beside(w: Option<u32>, v: Option<u32>) -> Written
+    ensures { result ≡ beside w v }
 {
-    match w {
-        Word::Nothing => Written::Refused(12),
-        Word::Of(x) => match v {
-            Word::Nothing => Written::Refused(12),
-            Word::Of(y) => Written::Two(x, y),
-        },
+    match (w, v) {
+        (Some(x), Some(y)) => Written::Two(x, y),
+        _ => Written::Refused(12),
     }
 }
 
@@ -252,10 +241,10 @@ pub(crate) fn write_long(i: Instruction) -> Written
 {
     let guard = i.guard;
     let operation = i.operation;
-    match either_slot(operation) {
-        AluFound::Nothing => Written::Refused(12),
-        AluFound::Found(a) => beside(long_in_format(guarded(guard), a), constant_of(a)),
-    }
+    let Some(a) = either_slot(operation) else {
+        return Written::Refused(12);
+    };
+    beside(long_in_format(guarded(guard), a), constant_of(a))
 }
 
 // The words of a bundle: 12 for a number that does not fit its field, and for a bundle that the slots do not allow.

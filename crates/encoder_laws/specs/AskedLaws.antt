@@ -1,7 +1,6 @@
 -- Asking for an instruction, or for two: what is refused is what no words decode to, the rules of the slots included.
-use Rattle.std.specs.Prelude.{ℕ, ◌<◌, ◌^◌, ◌↔◌, ◌≡◌, refl}
+use Rattle.std.specs.Prelude.{ℕ, ◌<◌, ◌^◌, ◌↔◌, ◌≡◌, refl, Option, None, Some}
 use mathlib.Core.List.{List, [], ◌∷◌, cons≢nil, nil≢cons, head-eq_of_cons-eq, tail-eq_of_cons-eq}
-use Rattle.std.proofs.Math.Option.{Option, none, some}
 use Rattle.std.proofs.Common.{sym, ap, ap₂, ◌∙◌, subst, arith}
 use Rattle.decoder.specs.Decode.{guard_of, decode}
 use Rattle.fields.specs.Place.{writing}
@@ -32,11 +31,11 @@ not_undecodable b i is e u = cons≢nil (sym e ∙ ap instructions_of u)
 
 -- Words that decode to one instruction decode to the bundle that is written for it: a bundle of one word has no long constant, for
 -- no format of a slot holds one, and a long immediate has one.
-pub no_constant : (start : Option ℕ) (o : Operation) → IsWords (alone (in_slot start o (either_slot o))) → constant_of (either_slot o) ≡ none
+pub no_constant : (start : Option ℕ) (o : Operation) → IsWords (alone (in_slot start o (either_slot o))) → constant_of (either_slot o) ≡ None
 unfolding writing
-no_constant start = by_slot (λ o x. IsWords (alone (in_slot start o x)) → constant_of x ≡ none) alu (λ o h. refl)
+no_constant start = by_slot (λ o x. IsWords (alone (in_slot start o x)) → constant_of x ≡ None) alu (λ o h. refl)
   where
-    alu : (a : AluOperation) → IsWords (alone (in_slot start (Alu a) (some a))) → constant_of (some a) ≡ none
+    alu : (a : AluOperation) → IsWords (alone (in_slot start (Alu a) (Some a))) → constant_of (Some a) ≡ None
     alu (Arithmetic f rd rs1 (op2.Long n)) h = absurd h
     alu (Arithmetic f rd rs1 (op2.Immediate n)) h = refl
     alu (Arithmetic f rd rs1 (op2.Register r)) h = refl
@@ -54,9 +53,9 @@ of_single (bundle.Long k) i e h =
     go (long_word k.guard x) (constant_of x) h ∙ ap single (head-eq_of_cons-eq e)
   where
     go : (x y : Option ℕ) → IsWords (beside x y) → bundle.Long k ≡ of_length k y
-    go none y h = absurd h
-    go (some w) none h = absurd h
-    go (some w) (some n) h = refl
+    go None y h = absurd h
+    go (Some w) None h = absurd h
+    go (Some w) (Some n) h = refl
 
 pub single_decoded : (w v : ℕ) (i : Instruction) → instructions_of (decode w v) ≡ i ∷ [] → decode w v ≡ single i
 single_decoded w v i e = of_single (decode w v) i e (decoded_written w v (not_undecodable (decode w v) i [] e))
@@ -77,13 +76,13 @@ abbrev pub AllWritten : List Instruction → Type 0
 AllWritten [] = Unit {0}
 AllWritten (i ∷ is) = IsWords (written (single i)) × AllWritten is
 
-slot_single : (g : PredicateOperand) (o : Operation) (w : ℕ) → slot_word 0 g o ≡ some w → IsWords (written (single (record { guard = g; operation = o })))
+slot_single : (g : PredicateOperand) (o : Operation) (w : ℕ) → slot_word 0 g o ≡ Some w → IsWords (written (single (record { guard = g; operation = o })))
 unfolding written single slot_word
 slot_single g o w e =
     let h : IsWords (alone (slot_word 0 g o)) = subst (λ x. IsWords (alone x)) (sym e) tt in
     subst (λ x. IsWords (written (of_length (record { guard = g; operation = o }) x))) (sym (no_constant _ o h)) h
 
-long_single : (g : PredicateOperand) (a : AluOperation) (w n : ℕ) → long_word g (some a) ≡ some w → constant_of (some a) ≡ some n
+long_single : (g : PredicateOperand) (a : AluOperation) (w n : ℕ) → long_word g (Some a) ≡ Some w → constant_of (Some a) ≡ Some n
     → IsWords (written (single (record { guard = g; operation = Alu a })))
 unfolding written single
 long_single g a w n e c = rw (c, e, c) tt
@@ -113,8 +112,8 @@ unfolding single
 single_instructions i = go (constant_of (either_slot i.operation))
   where
     go : (x : Option ℕ) → instructions_of (of_length i x) ≡ i ∷ []
-    go none = refl
-    go (some n) = refl
+    go None = refl
+    go (Some n) = refl
 
 pub single_refused : (i : Instruction) → ((written (single i) ≡ Refused 12) ↔ ((w v : ℕ) → instructions_of (decode w v) ≡ i ∷ [] → ⊥))
 single_refused i = asked (single i) i [] (single_instructions i) (λ w v. single_decoded w v i)

@@ -1,14 +1,13 @@
 -- The codes of `Fields` and the tables of isa undo each other, and so do the numbers of predicates, of bits and of two's complement.
-use Rattle.std.specs.Prelude.{ℕ, zero, suc, ◌+◌, ◌-◌, ◌/◌, ◌%◌, ◌^◌, ◌<◌, Bool, true, false, cond, List, [], ◌∷◌, ◌≡◌, refl, eqb, ltb, ℤ, pos, negsuc}
-use Rattle.std.proofs.Math.Option.{Option, some}
-use Rattle.std.proofs.Common.{sym, ap, ◌∙◌, subst, sub-one, arith, ltb-true, ltb-false, lt-ltb, le-ltb, eqb-true}
+use Rattle.std.specs.Prelude.{ℕ, zero, suc, ◌+◌, ◌-◌, ◌/◌, ◌%◌, ◌^◌, ◌<◌, Bool, true, false, cond, List, [], ◌∷◌, ◌≡◌, refl, eqb, ltb, ℤ, pos, negsuc, Option, Some}
+use Rattle.std.proofs.Common.{sym, ap, subst, sub-one, arith, ltb-true, ltb-false, lt-ltb, le-ltb, eqb-true}
 use Rattle.std.proofs.Math.Nat.{two-pow-succ}
 use Rattle.std.proofs.lemmas.Bool.{eqb-false}
 use Rattle.word.specs.Word.{signed}
 use Rattle.isa.specs.Format.{Row, row}
 use Rattle.isa.specs.Formats.{is_set, predicate_operand}
 use Rattle.isa.specs.Tables.{alu_table, multiply_table, compare_table, predicate_table, special_table, kind_table, load_table, store_table}
-use Rattle.isa.specs.TableLaws.{and_then, row_then}
+use Rattle.isa.specs.TableLaws.{row_used}
 use Rattle.decoder_laws.specs.RangeLaws.{IfSome, ◌also◌}
 use Rattle.fields.specs.CodeLaws.{alu_row_lem, multiply_row_lem, compare_row_lem, predicate_row_lem, special_row_lem, kind_row, load_row, store_row}
 use Rattle.fields.specs.Fields.{alu_code, multiply_code, compare_code, predicate_code, special_code, kind_code, load_code, store_code, bit, operand_number, twos_complement}
@@ -32,7 +31,7 @@ row_back Q (r ∷ rs) n make s = go (eqb n r.code) refl (row_back Q rs n make s.
 -- A table and the codes of its values undo each other: the code of each row's value is the row's code, and each value has a row.
 pub record Inverse {A : Type 0} (t : List (Row A)) (code : A → ℕ) : Type 0 where
   pub codes : Each (λ r. code r.value ≡ r.code) t
-  pub has : (a : A) → row t (code a) some ≡ some a
+  pub has : (a : A) → row t (code a) Some ≡ Some a
 
 pub row_coded : {A B : Type 0} {t : List (Row A)} {code : A → ℕ} → Inverse t code → (Q : ℕ → B → Type 0) (n : ℕ) (make : A → Option B)
     → ((a : A) → IfSome (Q (code a)) (make a)) → IfSome (Q n) (row t n make)
@@ -44,37 +43,37 @@ row_coded {A} {t = t} {code = code} v Q n make q = row_back Q t n make (go t v.c
 
 pub row_of : {A B : Type 0} {t : List (Row A)} {code : A → ℕ} → Inverse t code → (a : A) (make : A → Option B)
     → row t (code a) make ≡ make a
-row_of {A} {t = t} {code = code} v a make = row_then t (code a) make ∙ ap (λ (x : Option A). and_then x make) (v.has a)
+row_of {t = t} {code = code} v a make = row_used t (code a) make a (v.has a)
 
 pub alu_inverse : Inverse alu_table alu_code
 alu_inverse = record {
   codes = refl also refl also refl also refl also refl also refl also refl also refl also refl also refl also refl also tt;
-  has = λ x. alu_row_lem x some;
+  has = λ x. alu_row_lem x Some;
 }
 
 pub multiply_inverse : Inverse multiply_table multiply_code
-multiply_inverse = record { codes = refl also refl also tt; has = λ x. multiply_row_lem x some }
+multiply_inverse = record { codes = refl also refl also tt; has = λ x. multiply_row_lem x Some }
 
 pub compare_inverse : Inverse compare_table compare_code
-compare_inverse = record { codes = refl also refl also refl also refl also refl also refl also refl also tt; has = λ x. compare_row_lem x some }
+compare_inverse = record { codes = refl also refl also refl also refl also refl also refl also refl also tt; has = λ x. compare_row_lem x Some }
 
 pub predicate_inverse : Inverse predicate_table predicate_code
-predicate_inverse = record { codes = refl also refl also refl also tt; has = λ x. predicate_row_lem x some }
+predicate_inverse = record { codes = refl also refl also refl also tt; has = λ x. predicate_row_lem x Some }
 
 pub special_inverse : Inverse special_table special_code
 special_inverse = record {
   codes = refl also refl also refl also refl also refl also refl also refl also refl also refl also tt;
-  has = λ x. special_row_lem x some;
+  has = λ x. special_row_lem x Some;
 }
 
 pub kind_inverse : Inverse kind_table kind_code
-kind_inverse = record { codes = refl also refl also refl also refl also tt; has = λ x. kind_row x some }
+kind_inverse = record { codes = refl also refl also refl also refl also tt; has = λ x. kind_row x Some }
 
 pub load_inverse : Inverse load_table load_code
-load_inverse = record { codes = refl also refl also refl also refl also refl also tt; has = λ x. load_row x some }
+load_inverse = record { codes = refl also refl also refl also refl also refl also tt; has = λ x. load_row x Some }
 
 pub store_inverse : Inverse store_table store_code
-store_inverse = record { codes = refl also refl also refl also tt; has = λ x. store_row x some }
+store_inverse = record { codes = refl also refl also refl also tt; has = λ x. store_row x Some }
 
 -- One bit.
 pub bit_back : (n : ℕ) → n < 2 → bit (is_set n) ≡ n

@@ -1,7 +1,7 @@
 -- Writing a bundle and decoding it: the decoder reads back what is written, every bundle that it gives can be written, and what is
 -- refused is what no words decode to.
-use Rattle.std.specs.Prelude.{ℕ, ◌<◌, ◌^◌, Bool, true, false, cond, ◌↔◌, ◌≡◌, refl}
-use Rattle.std.proofs.Math.Option.{none, some, none-ne-some}
+use Rattle.std.specs.Prelude.{ℕ, ◌<◌, ◌^◌, Bool, true, false, cond, ◌↔◌, ◌≡◌, refl, None, Some}
+use Rattle.std.proofs.lemmas.Option.{none-some}
 use Rattle.std.proofs.Common.{sym, ap, ◌∙◌, subst, arith}
 use Rattle.isa.specs.Format.{reading}
 use Rattle.isa.specs.Formats.{alu_formats}
@@ -25,19 +25,19 @@ Decodes (One w) b = (second : ℕ) → decode w second ≡ b
 Decodes (Two w v) b = decode w v ≡ b
 Decodes (Refused n) b = Unit {0}
 
-one_decodes : (i : Instruction) (w s : ℕ) → slot_word 0 i.guard i.operation ≡ some w → decode w s ≡ bundle.One i
+one_decodes : (i : Instruction) (w s : ℕ) → slot_word 0 i.guard i.operation ≡ Some w → decode w s ≡ bundle.One i
 unfolding decode
 one_decodes i w s e = let r = slot_read 0 i.guard i.operation w e in rw (r.length, r.guard, r.operation) refl
 
 two_decodes : (i : Instruction) (j : AluInstruction) (w v : ℕ)
-    → slot_word 1 i.guard i.operation ≡ some w → slot_word 0 j.guard (Alu j.operation) ≡ some v → decode w v ≡ bundle.Two i j
+    → slot_word 1 i.guard i.operation ≡ Some w → slot_word 0 j.guard (Alu j.operation) ≡ Some v → decode w v ≡ bundle.Two i j
 unfolding decode slot_two
 two_decodes i j w v e f =
     let r = slot_read 1 i.guard i.operation w e in
     let s = slot_read 0 j.guard (Alu j.operation) v f in
     rw (r.length, r.not_long, r.guard, r.operation, s.length, s.guard, alu_read 0 j.guard j.operation v f) refl
 
-long_decodes : (g : PredicateOperand) (a : AluOperation) (w n : ℕ) → long_word g (some a) ≡ some w → constant_of (some a) ≡ some n
+long_decodes : (g : PredicateOperand) (a : AluOperation) (w n : ℕ) → long_word g (Some a) ≡ Some w → constant_of (Some a) ≡ Some n
     → decode w n ≡ long_of g (Alu a)
 unfolding decode
 long_decodes g a w n e c = let r = long_read g a n w e c in rw (r.length, r.operation, r.guard) refl
@@ -51,12 +51,12 @@ IsWords (One w) = Unit {0}
 IsWords (Two w v) = Unit {0}
 IsWords (Refused n) = ⊥
 
-pub slot_two_reads : (w : ℕ) (a : AluOperation) → slot_two w ≡ some a → reading alu_formats w ≡ some a
+pub slot_two_reads : (w : ℕ) (a : AluOperation) → slot_two w ≡ Some a → reading alu_formats w ≡ Some a
 unfolding slot_two
 slot_two_reads w a = go (is_two_words w)
   where
-    go : (t : Bool) → cond t none (reading alu_formats w) ≡ some a → reading alu_formats w ≡ some a
-    go true e = absurd (none-ne-some a e)
+    go : (t : Bool) → cond t None (reading alu_formats w) ≡ Some a → reading alu_formats w ≡ Some a
+    go true e = absurd (none-some a e)
     go false e = e
 
 pub decoded_written : (first second : ℕ) → (decode first second ≡ bundle.Undecodable → ⊥) → IsWords (written (decode first second))

@@ -1,7 +1,7 @@
 -- Bits without a meaning in the words of a bundle: the writer leaves them zero, and words that decode and have zeros there are exactly
 -- what is written for the bundle that they decode to.
-use Rattle.std.specs.Prelude.{ℕ, ◌<◌, ◌^◌, Bool, true, false, cond, ◌&&◌, ◌≡◌, refl, eqb}
-use Rattle.std.proofs.Math.Option.{Option, none, some, some-injective, none-ne-some}
+use Rattle.std.specs.Prelude.{ℕ, ◌<◌, ◌^◌, Bool, true, false, cond, ◌&&◌, ◌≡◌, refl, eqb, Option, None, Some}
+use Rattle.std.proofs.lemmas.Option.{same_Some, none-some}
 use Rattle.std.proofs.Common.{sym, ap, ◌∙◌, subst, arith, eq-eqb, eqb-true}
 use Rattle.std.proofs.lemmas.Bool.{eqb-false}
 use Rattle.word.specs.BoolLaws.{and_left, and_right}
@@ -28,22 +28,22 @@ use Rattle.encoder.specs.declared.Written.TheVariants.{One, Two, Refused}
 
 -- A written word has zeros in the bits that its format leaves without a meaning, for each of the three lists.
 pub long_unused_zero : (g : PredicateOperand) (a : AluOperation) (w : ℕ) (f : Format (ℕ → AluOperation))
-    → long_word g (some a) ≡ some w → at long_formats (long_fields a).format ≡ some f → matches (blanks f.unused) w ≡ true
+    → long_word g (Some a) ≡ Some w → at long_formats (long_fields a).format ≡ Some f → matches (blanks f.unused) w ≡ true
 unfolding guarded
 long_unused_zero g a w f = unused_zero long_formats (guard_only g) (long_fields a) w f (long_sound g)
 
 pub alu_unused_zero : (two : ℕ) (g : PredicateOperand) (a : AluOperation) (w : ℕ) (f : Format AluOperation)
-    → slot_word two g (Alu a) ≡ some w → at alu_formats (alu_fields a).format ≡ some f → matches (blanks f.unused) w ≡ true
+    → slot_word two g (Alu a) ≡ Some w → at alu_formats (alu_fields a).format ≡ Some f → matches (blanks f.unused) w ≡ true
 unfolding guarded slot_word
 alu_unused_zero two g a w f = unused_zero alu_formats (guard_and_length g two) (alu_fields a) w f
     (alu_sound g two)
 
 pub first_unused_zero : (two : ℕ) (g : PredicateOperand) (o : Operation) (w : ℕ) (f : Format Operation)
-    → slot_word two g o ≡ some w → at first_formats (first_fields o).format ≡ some f → matches (blanks f.unused) w ≡ true
+    → slot_word two g o ≡ Some w → at first_formats (first_fields o).format ≡ Some f → matches (blanks f.unused) w ≡ true
 unfolding guarded slot_word
-first_unused_zero two g o w f = by_slot (λ o e. in_slot (placed (some 0) (guard_and_length g two)) o e ≡ some w
-    → at first_formats (first_fields o).format ≡ some f → matches (blanks f.unused) w ≡ true)
-    (λ a e k. absurd (none-ne-some f k))
+first_unused_zero two g o w f = by_slot (λ o e. in_slot (placed (Some 0) (guard_and_length g two)) o e ≡ Some w
+    → at first_formats (first_fields o).format ≡ Some f → matches (blanks f.unused) w ≡ true)
+    (λ a e k. absurd (none-some f k))
     (λ o. unused_zero first_formats (guard_and_length g two) (first_fields o) w f (first_sound g two)) o
 
 -- A word has zeros in the bits without a meaning, whichever format it has.
@@ -66,11 +66,11 @@ first_of_bare : (w : ℕ) → bare_word w ≡ true → bare first_formats w ≡ 
 unfolding bare_word
 first_of_bare w e = and_right (bare alu_formats w) _ (and_right (bare long_formats w) _ e)
 
-slot_bare : (two : ℕ) (g : PredicateOperand) (o : Operation) (w : ℕ) → slot_word two g o ≡ some w → bare_word w ≡ true
+slot_bare : (two : ℕ) (g : PredicateOperand) (o : Operation) (w : ℕ) → slot_word two g o ≡ Some w → bare_word w ≡ true
 unfolding guarded slot_word
-slot_bare two g o w = by_slot (λ o e. in_slot (placed (some 0) (guard_and_length g two)) o e ≡ some w → bare_word w ≡ true) alu first o
+slot_bare two g o w = by_slot (λ o e. in_slot (placed (Some 0) (guard_and_length g two)) o e ≡ Some w → bare_word w ≡ true) alu first o
   where
-    alu : (a : AluOperation) → slot_word two g (Alu a) ≡ some w → bare_word w ≡ true
+    alu : (a : AluOperation) → slot_word two g (Alu a) ≡ Some w → bare_word w ≡ true
     alu a e =
         let i = alu_in two g a w e in
         word_bare w
@@ -78,7 +78,7 @@ slot_bare two g o w = by_slot (λ o e. in_slot (placed (some 0) (guard_and_lengt
         (write_bare alu_formats _ (alu_fields a) w alu_differ (alu_sound g two) i)
         (other_bare first_formats alu_formats _ (alu_fields a) w first_not_alu i)
 
-    first : (o : Operation) → writing first_formats (placed (some 0) (guard_and_length g two)) (first_fields o) ≡ some w → bare_word w ≡ true
+    first : (o : Operation) → writing first_formats (placed (Some 0) (guard_and_length g two)) (first_fields o) ≡ Some w → bare_word w ≡ true
     first o e =
         let i = in_format_lem first_formats (guard_and_length g two) (first_fields o) w (first_sound g two) e in
         word_bare w
@@ -86,7 +86,7 @@ slot_bare two g o w = by_slot (λ o e. in_slot (placed (some 0) (guard_and_lengt
         (other_bare alu_formats first_formats _ (first_fields o) w alu_not_first i)
         (write_bare first_formats _ (first_fields o) w first_differ (first_sound g two) i)
 
-long_bare : (g : PredicateOperand) (a : AluOperation) (w : ℕ) → long_word g (some a) ≡ some w → bare_word w ≡ true
+long_bare : (g : PredicateOperand) (a : AluOperation) (w : ℕ) → long_word g (Some a) ≡ Some w → bare_word w ≡ true
 unfolding guarded
 long_bare g a w e =
     let i = in_format_lem long_formats (guard_only g) (long_fields a) w (long_sound g) e in
@@ -106,17 +106,17 @@ outside_has w two e = rw (guard_has w, eq-eqb (bits (31 ⋯ 31) w) two e) refl
 clear : (w : ℕ) → is_two_words w ≡ false → bits (31 ⋯ 31) w ≡ 0
 clear w e = omega (arith, eqb-false (bits (31 ⋯ 31) w) 1 e)
 
-slot_two_clear : (w : ℕ) (a : AluOperation) → slot_two w ≡ some a → bits (31 ⋯ 31) w ≡ 0
+slot_two_clear : (w : ℕ) (a : AluOperation) → slot_two w ≡ Some a → bits (31 ⋯ 31) w ≡ 0
 unfolding slot_two
 slot_two_clear w a = go (is_two_words w) refl
   where
-    go : (t : Bool) → is_two_words w ≡ t → cond t none (reading alu_formats w) ≡ some a → bits (31 ⋯ 31) w ≡ 0
-    go true p e = absurd (none-ne-some a e)
+    go : (t : Bool) → is_two_words w ≡ t → cond t None (reading alu_formats w) ≡ Some a → bits (31 ⋯ 31) w ≡ 0
+    go true p e = absurd (none-some a e)
     go false p e = clear w p
 
 -- What is read from a bare word is written as that word.
-alu_exact : (w two : ℕ) (a : AluOperation) → bits (31 ⋯ 31) w ≡ two → bare_word w ≡ true → w < 2 ^ 32 → reading alu_formats w ≡ some a
-    → slot_word two (guard_of w) (Alu a) ≡ some w
+alu_exact : (w two : ℕ) (a : AluOperation) → bits (31 ⋯ 31) w ≡ two → bare_word w ≡ true → w < 2 ^ 32 → reading alu_formats w ≡ Some a
+    → slot_word two (guard_of w) (Alu a) ≡ Some w
 unfolding slot_word guarded
 alu_exact w two a t b h e =
     let g = guard_of w in
@@ -124,41 +124,41 @@ alu_exact w two a t b h e =
     rw f.says
     (read_whole _ alu_formats (guard_and_length g two) w a alu_differ (alu_sound g two) f (outside_has w two t) (alu_of_bare w b) h)
 
-first_exact : (w two : ℕ) (o : Operation) → bits (31 ⋯ 31) w ≡ two → bare_word w ≡ true → w < 2 ^ 32 → reading first_formats w ≡ some o
-    → slot_word two (guard_of w) o ≡ some w
+first_exact : (w two : ℕ) (o : Operation) → bits (31 ⋯ 31) w ≡ two → bare_word w ≡ true → w < 2 ^ 32 → reading first_formats w ≡ Some o
+    → slot_word two (guard_of w) o ≡ Some w
 unfolding slot_word guarded
 first_exact w two o t b h e =
     let g = guard_of w in
     let f = find (λ o k ns. first_fields o ≡ k ⟨ ns ⟩) first_formats w o first_back e in
-    let s = placed (some 0) (guard_and_length g two) in
+    let s = placed (Some 0) (guard_and_length g two) in
     let v = read_whole _ first_formats (guard_and_length g two) w o first_differ (first_sound g two) f (outside_has w two t)
     (first_of_bare w b) h in
-    let q : writing first_formats s (first_fields o) ≡ some w = rw f.says v in
+    let q : writing first_formats s (first_fields o) ≡ Some w = rw f.says v in
     ap (in_slot s o) (first_only o s w q) ∙ q
 
-slot_exact : (w two : ℕ) (o : Operation) → bits (31 ⋯ 31) w ≡ two → bare_word w ≡ true → w < 2 ^ 32 → slot_one w ≡ some o
-    → slot_word two (guard_of w) o ≡ some w
+slot_exact : (w two : ℕ) (o : Operation) → bits (31 ⋯ 31) w ≡ two → bare_word w ≡ true → w < 2 ^ 32 → slot_one w ≡ Some o
+    → slot_word two (guard_of w) o ≡ Some w
 unfolding slot_one
 slot_exact w two o t b h = go (reading alu_formats w) refl
   where
-    go : (x : Option AluOperation) → reading alu_formats w ≡ x → either x (reading first_formats w) ≡ some o
-        → slot_word two (guard_of w) o ≡ some w
-    go none e q = first_exact w two o t b h q
-    go (some a) e q = ap (slot_word two (guard_of w)) (sym (some-injective (Alu a) o q)) ∙ alu_exact w two a t b h e
+    go : (x : Option AluOperation) → reading alu_formats w ≡ x → either x (reading first_formats w) ≡ Some o
+        → slot_word two (guard_of w) o ≡ Some w
+    go None e q = first_exact w two o t b h q
+    go (Some a) e q = ap (slot_word two (guard_of w)) (sym (same_Some (Alu a) o q)) ∙ alu_exact w two a t b h e
 
-long_exact : (w n : ℕ) (a : AluOperation) → bare_word w ≡ true → w < 2 ^ 32 → applied (reading long_formats w) n ≡ some a
-    → (long_word (guard_of w) (some a) ≡ some w) × (constant_of (some a) ≡ some n)
+long_exact : (w n : ℕ) (a : AluOperation) → bare_word w ≡ true → w < 2 ^ 32 → applied (reading long_formats w) n ≡ Some a
+    → (long_word (guard_of w) (Some a) ≡ Some w) × (constant_of (Some a) ≡ Some n)
 unfolding guarded
 long_exact w n a b h = go (reading long_formats w) refl
   where
-    go : (x : Option (ℕ → AluOperation)) → reading long_formats w ≡ x → applied x n ≡ some a
-        → (long_word (guard_of w) (some a) ≡ some w) × (constant_of (some a) ≡ some n)
-    go none e q = absurd (none-ne-some a q)
-    go (some g) e q =
+    go : (x : Option (ℕ → AluOperation)) → reading long_formats w ≡ x → applied x n ≡ Some a
+        → (long_word (guard_of w) (Some a) ≡ Some w) × (constant_of (Some a) ≡ Some n)
+    go None e q = absurd (none-some a q)
+    go (Some g) e q =
         let k = guard_of w in
         let f = find IsLong long_formats w g long_back e in
         let v = read_whole _ long_formats (guard_only k) w g long_differ (long_sound k) f (rw (guard_has w) refl) (long_of_bare w b) h in
-        subst (λ (a : AluOperation). (long_word k (some a) ≡ some w) × (constant_of (some a) ≡ some n)) (some-injective (g n) a q)
+        subst (λ (a : AluOperation). (long_word k (Some a) ≡ Some w) × (constant_of (Some a) ≡ Some n)) (same_Some (g n) a q)
         (rw (f.says n).0 v, (f.says n).1)
 
 -- The words of a bundle are bare: each that holds an instruction. (A long immediate's second word is all meaning.)

@@ -1,7 +1,7 @@
 -- What the laws on lists of formats ask of the three lists: the computed tests, a line for each format (`..-back`) and a line for each
 -- case of an operation (`..-tells`).
-use Rattle.std.specs.Prelude.{ℕ, true, false, List, [], ◌∷◌, map, ◌≡◌, refl}
-use Rattle.std.proofs.Math.Option.{some, some-injective, none-ne-some}
+use Rattle.std.specs.Prelude.{ℕ, true, false, List, [], ◌∷◌, map, ◌≡◌, refl, Some}
+use Rattle.std.proofs.lemmas.Option.{same_Some, none-some}
 use Rattle.std.proofs.Common.{sym, ap, ◌∙◌, arith}
 use Rattle.isa.specs.Format.{Fixed, ◌⋯◌, ◌≔◌, row}
 use Rattle.isa.specs.Formats.{long_formats, alu_formats, first_formats}
@@ -74,7 +74,7 @@ first_not_long = refl
 
 -- What a format reads is written with the same numbers in the same format.
 abbrev pub IsLong : (ℕ → AluOperation) → ℕ → List ℕ → Type 0
-IsLong g k ns = (n : ℕ) → (long_fields (g n) ≡ k ⟨ ns ⟩) × (constant_of (some (g n)) ≡ some n)
+IsLong g k ns = (n : ℕ) → (long_fields (g n) ≡ k ⟨ ns ⟩) × (constant_of (Some (g n)) ≡ Some n)
 
 pub long_back : AllBack IsLong long_formats
 long_back =
@@ -116,16 +116,16 @@ first_back =
 
 -- The numbers of a case, if they fit, are read as the case. A case that its list has no format for has no word either. (`h` says
 -- that the numbers fit, one after the other.)
-pub long_tells : (a : AluOperation) (n : ℕ) → constant_of (some a) ≡ some n
+pub long_tells : (a : AluOperation) (n : ℕ) → constant_of (Some a) ≡ Some n
     → (g : ℕ → AluOperation) × (g n ≡ a) × Tells g (at long_formats (long_fields a).format) (long_fields a).numbers
 long_tells (Arithmetic f rd rs1 (op2.Long m)) n e =
     let g : ℕ → AluOperation = λ c. Arithmetic f rd rs1 (op2.Long c) in
-    (g, ap g (sym (some-injective m n e)), λ h. row_of alu_inverse f _)
-long_tells (Arithmetic f rd rs1 (op2.Immediate m)) n e = absurd (none-ne-some n e)
-long_tells (Arithmetic f rd rs1 (op2.Register r)) n e = absurd (none-ne-some n e)
-long_tells (Compare f pd rs1 o) n e = absurd (none-ne-some n e)
-long_tells (Predicate f pd p q) n e = absurd (none-ne-some n e)
-long_tells (BitCopy rd rs1 m p) n e = absurd (none-ne-some n e)
+    (g, ap g (sym (same_Some m n e)), λ h. row_of alu_inverse f _)
+long_tells (Arithmetic f rd rs1 (op2.Immediate m)) n e = absurd (none-some n e)
+long_tells (Arithmetic f rd rs1 (op2.Register r)) n e = absurd (none-some n e)
+long_tells (Compare f pd rs1 o) n e = absurd (none-some n e)
+long_tells (Predicate f pd p q) n e = absurd (none-some n e)
+long_tells (BitCopy rd rs1 m p) n e = absurd (none-some n e)
 
 pub alu_tells : (a : AluOperation) → Tells a (at alu_formats (alu_fields a).format) (alu_fields a).numbers
 alu_tells (Arithmetic f rd rs1 (op2.Immediate n)) = λ h. row_of alu_inverse f _
@@ -139,13 +139,13 @@ alu_tells (Compare f pd rs1 (op2.Long n)) = tt
 
 pub first_tells : (o : Operation) → Tells o (at first_formats (first_fields o).format) (first_fields o).numbers
 unfolding row
-first_tells (Multiply f rs1 rs2) = λ h. row_of multiply_inverse f (λ f. some (Multiply f rs1 rs2))
-first_tells (Mts s rs1) = λ h. row_of special_inverse s (λ s. some (Mts s rs1))
-first_tells (Mfs rd s) = λ h. row_of special_inverse s (λ s. some (Mfs rd s))
-first_tells (Load k w rd ra n) = λ h. row_of load_inverse w (λ w. row kind_table (kind_code k) (λ k. some (Load k w rd ra n)))
-    ∙ row_of kind_inverse k (λ k. some (Load k w rd ra n))
-first_tells (Store k w ra rs n) = λ h. row_of store_inverse w (λ w. row kind_table (kind_code k) (λ k. some (Store k w ra rs n)))
-    ∙ row_of kind_inverse k (λ k. some (Store k w ra rs n))
+first_tells (Multiply f rs1 rs2) = λ h. row_of multiply_inverse f (λ f. Some (Multiply f rs1 rs2))
+first_tells (Mts s rs1) = λ h. row_of special_inverse s (λ s. Some (Mts s rs1))
+first_tells (Mfs rd s) = λ h. row_of special_inverse s (λ s. Some (Mfs rd s))
+first_tells (Load k w rd ra n) = λ h. row_of load_inverse w (λ w. row kind_table (kind_code k) (λ k. Some (Load k w rd ra n)))
+    ∙ row_of kind_inverse k (λ k. Some (Load k w rd ra n))
+first_tells (Store k w ra rs n) = λ h. row_of store_inverse w (λ w. row kind_table (kind_code k) (λ k. Some (Store k w ra rs n)))
+    ∙ row_of kind_inverse k (λ k. Some (Store k w ra rs n))
 first_tells (StackControl (Sres n)) = λ h. refl
 first_tells (StackControl (Sens (amount.Words n))) = λ h. refl
 first_tells (StackControl (Sfree n)) = λ h. refl
@@ -154,14 +154,14 @@ first_tells (StackControl (Sens (amount.Register r))) = λ h. refl
 first_tells (StackControl (Sspill (amount.Register r))) = λ h. refl
 first_tells (Transfer false (Call n)) = λ h. refl
 first_tells (Transfer true (Call n)) = λ h. refl
-first_tells (Transfer false (Br z)) = λ h. ap (λ x. some (Transfer false (Br x))) (signed_forth 22 z (omega arith) h.1.0)
-first_tells (Transfer true (Br z)) = λ h. ap (λ x. some (Transfer true (Br x))) (signed_forth 22 z (omega arith) h.1.0)
+first_tells (Transfer false (Br z)) = λ h. ap (λ x. Some (Transfer false (Br x))) (signed_forth 22 z (omega arith) h.1.0)
+first_tells (Transfer true (Br z)) = λ h. ap (λ x. Some (Transfer true (Br x))) (signed_forth 22 z (omega arith) h.1.0)
 first_tells (Transfer false (Brcf n)) = λ h. refl
 first_tells (Transfer true (Brcf n)) = λ h. refl
 first_tells (Trap n) = λ h. refl
-first_tells (Transfer d Ret) = λ h. ap (λ x. some (Transfer x Ret)) (set_bit d)
-first_tells (Xret d) = λ h. ap (λ x. some (Xret x)) (set_bit d)
-first_tells (Transfer d (CallRegister r)) = λ h. ap (λ x. some (Transfer x (CallRegister r))) (set_bit d)
-first_tells (Transfer d (BrRegister r)) = λ h. ap (λ x. some (Transfer x (BrRegister r))) (set_bit d)
-first_tells (Transfer d (BrcfRegister r s)) = λ h. ap (λ x. some (Transfer x (BrcfRegister r s))) (set_bit d)
+first_tells (Transfer d Ret) = λ h. ap (λ x. Some (Transfer x Ret)) (set_bit d)
+first_tells (Xret d) = λ h. ap (λ x. Some (Xret x)) (set_bit d)
+first_tells (Transfer d (CallRegister r)) = λ h. ap (λ x. Some (Transfer x (CallRegister r))) (set_bit d)
+first_tells (Transfer d (BrRegister r)) = λ h. ap (λ x. Some (Transfer x (BrRegister r))) (set_bit d)
+first_tells (Transfer d (BrcfRegister r s)) = λ h. ap (λ x. Some (Transfer x (BrcfRegister r s))) (set_bit d)
 first_tells (Alu a) = tt

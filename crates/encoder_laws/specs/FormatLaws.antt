@@ -1,8 +1,8 @@
 -- Lists of formats, of any values: a word written in one of them is read by that one, and what is read can be written. What is asked
 -- of a list is a test on its formats as data, and what its cases and its formats supply (`Tells`, `AllBack`).
-use Rattle.std.specs.Prelude.{ℕ, zero, suc, ◌+◌, ◌-◌, ◌/◌, ◌%◌, ◌^◌, ◌<◌, ◌≤◌, Bool, true, false, cond, ◌&&◌, ◌||◌, List, [], ◌∷◌, ◌++◌, map, ◌≡◌, refl, eqb, leb}
+use Rattle.std.specs.Prelude.{ℕ, zero, suc, ◌+◌, ◌-◌, ◌/◌, ◌%◌, ◌^◌, ◌<◌, ◌≤◌, Bool, true, false, cond, ◌&&◌, ◌||◌, List, [], ◌∷◌, ◌++◌, map, ◌≡◌, refl, eqb, leb, Option, None, Some}
+use Rattle.std.proofs.lemmas.Option.{same_Some, none-some}
 use Rattle.std.proofs.Common.{true≢false, sym, ap, ◌∙◌, subst, mod-lt, arith, pow_pos, shr-shr, leb-true, eqb-true}
-use Rattle.std.proofs.Math.Option.{Option, none, some, some-injective, none-ne-some}
 use Rattle.std.proofs.Math.Pow.{field, mod-mod-pow}
 use Rattle.word.specs.BoolLaws.{and_left, and_right}
 use Rattle.isa.specs.Format.{Range, bits, Fixed, ◌≔◌, Meaning, Format, matches, said, reading}
@@ -61,26 +61,26 @@ unmatched s t w d q = go (matches s.fixed w) (λ p. not_both s t w d p q)
     go false n = refl
 
 -- What holds of all the formats of a list holds of the one at a place.
-pub at_all : {A : Type 0} (t : Shape → Bool) (fs : List (Format A)) (k : ℕ) (f : Format A) → all t (map shape fs) ≡ true → at fs k ≡ some f
+pub at_all : {A : Type 0} (t : Shape → Bool) (fs : List (Format A)) (k : ℕ) (f : Format A) → all t (map shape fs) ≡ true → at fs k ≡ Some f
     → t (shape f) ≡ true
-at_all t [] k f a e = absurd (none-ne-some f e)
-at_all t (h ∷ fs) zero f a e = ap (λ x. t (shape x)) (sym (some-injective h f e)) ∙ and_left _ _ a
+at_all t [] k f a e = absurd (none-some f e)
+at_all t (h ∷ fs) zero f a e = ap (λ x. t (shape x)) (sym (same_Some h f e)) ∙ and_left _ _ a
 at_all t (h ∷ fs) (suc k) f a e = at_all t fs k f (and_right (t (shape h)) _ a) e
 
 -- A word is read by the format that it matches, and by none of a list that differs from that.
 reading_none : {A : Type 0} (fs : List (Format A)) (s : Shape) (w : ℕ) → all (λ t. differ t s) (map shape fs) ≡ true
-    → matches s.fixed w ≡ true → reading fs w ≡ none
+    → matches s.fixed w ≡ true → reading fs w ≡ None
 unfolding reading
 reading_none [] s w d m = refl
 reading_none (f ∷ fs) s w d m = rw (unmatched (shape f) s w (and_left _ _ d) m) (reading_none fs s w (and_right (differ (shape f) s) _ d) m)
 
 reading_at : {A : Type 0} (fs : List (Format A)) (k : ℕ) (f : Format A) (w : ℕ)
-    → all_differ (map shape fs) ≡ true → at fs k ≡ some f → matches f.fixed w ≡ true → reading fs w ≡ said f.fields f.meaning w
+    → all_differ (map shape fs) ≡ true → at fs k ≡ Some f → matches f.fixed w ≡ true → reading fs w ≡ said f.fields f.meaning w
 unfolding reading
-reading_at [] k f w d e m = absurd (none-ne-some f e)
+reading_at [] k f w d e m = absurd (none-some f e)
 reading_at {A} (h ∷ fs) zero f w d e m =
     subst (λ (g : Format A). matches g.fixed w ≡ true → reading (h ∷ fs) w ≡ said g.fields g.meaning w)
-    (some-injective h f e) (λ n. rw n refl) m
+    (same_Some h f e) (λ n. rw n refl) m
 reading_at (h ∷ fs) (suc k) f w d e m =
     rw (unmatched (shape h) (shape f) w (at_all (differ (shape h)) fs k f (and_left _ _ d) e) m)
     (reading_at fs k f w (and_right (all (differ (shape h)) (map shape fs)) _ d) e m)
@@ -88,22 +88,22 @@ reading_at (h ∷ fs) (suc k) f w d e m =
 -- What the fields say at given numbers.
 abbrev pub said_of : {A : Type 0} → (rs : List Range) → Meaning A rs → List ℕ → Option A
 said_of [] m [] = m
-said_of [] m (n ∷ ns) = none
-said_of (r ∷ rs) m [] = none
+said_of [] m (n ∷ ns) = None
+said_of (r ∷ rs) m [] = None
 said_of (r ∷ rs) m (n ∷ ns) = said_of rs (m n) ns
 
 said_filled : {A : Type 0} (rs : List Range) (m : Meaning A rs) (ns : List ℕ) (a : A) (w : ℕ) → matches (filled rs ns) w ≡ true
-    → said_of rs m ns ≡ some a → said rs m w ≡ some a
+    → said_of rs m ns ≡ Some a → said rs m w ≡ Some a
 said_filled [] m [] a w e s = s
-said_filled [] m (n ∷ ns) a w e s = absurd (none-ne-some a s)
-said_filled (r ∷ rs) m [] a w e s = absurd (none-ne-some a s)
+said_filled [] m (n ∷ ns) a w e s = absurd (none-some a s)
+said_filled (r ∷ rs) m [] a w e s = absurd (none-some a s)
 said_filled (r ∷ rs) m (n ∷ ns) a w e s =
     rw (matches_head (r ≔ n) (filled rs ns) w e) (said_filled rs (m n) ns a w (matches_tail (r ≔ n) (filled rs ns) w e) s)
 
 -- What each case supplies: the numbers of its fields, if they fit, say the case again.
 abbrev pub Tells : {A : Type 0} → A → Option (Format A) → List ℕ → Type 0
-Tells a none ns = Unit {0}
-Tells a (some f) ns = Fits (filled f.fields ns) → said_of f.fields f.meaning ns ≡ some a
+Tells a None ns = Unit {0}
+Tells a (Some f) ns = Fits (filled f.fields ns) → said_of f.fields f.meaning ns ≡ Some a
 
 -- What is asked of a format, with the bits outside of it: no two of its ranges share a bit, its fixed numbers fit, its bits without a
 -- meaning share none with the others, and every bit has a range.
@@ -126,7 +126,7 @@ pub record Sound (outer : List Fixed) (s : Shape) : Type 0 where
   pub filling : full outer s ≡ true
 
 pub sound_at : {A : Type 0} (fs : List (Format A)) (outer : List Fixed) (k : ℕ) (f : Format A)
-    → all (is_sound outer) (map shape fs) ≡ true → at fs k ≡ some f → Sound outer (shape f)
+    → all (is_sound outer) (map shape fs) ≡ true → at fs k ≡ Some f → Sound outer (shape f)
 sound_at fs outer k f a e = let s = shape f in
     let t = at_all (is_sound outer) fs k f a e in
     let c = tidy (ranges_of (outer ++ s.fixed) ++ s.fields) in
@@ -142,8 +142,8 @@ sound_at fs outer k f a e = let s = shape f in
 -- A written word has the numbers of its format, and those outside of it.
 pub record InFormat {A : Type 0} (fs : List (Format A)) (outer : List Fixed) (t : Fields) (w : ℕ) : Type 0 where
   pub form : Format A
-  pub found : at fs t.format ≡ some form
-  pub whole : placed (some 0) ((outer ++ form.fixed) ++ filled form.fields t.numbers) ≡ some w
+  pub found : at fs t.format ≡ Some form
+  pub whole : placed (Some 0) ((outer ++ form.fixed) ++ filled form.fields t.numbers) ≡ Some w
   pub outside : matches outer w ≡ true
   pub inside : matches form.fixed w ≡ true
   pub field : matches (filled form.fields t.numbers) w ≡ true
@@ -151,15 +151,15 @@ pub record InFormat {A : Type 0} (fs : List (Format A)) (outer : List Fixed) (t 
   pub word : w < 2 ^ 32
 
 pub in_format_lem : {A : Type 0} (fs : List (Format A)) (outer : List Fixed) (t : Fields) (w : ℕ)
-    → all (is_sound outer) (map shape fs) ≡ true → writing fs (placed (some 0) outer) t ≡ some w → InFormat fs outer t w
+    → all (is_sound outer) (map shape fs) ≡ true → writing fs (placed (Some 0) outer) t ≡ Some w → InFormat fs outer t w
 unfolding writing
 in_format_lem {A} fs outer t w s = go (at fs t.format) refl
   where
-    go : (o : Option (Format A)) → at fs t.format ≡ o → in_format (placed (some 0) outer) o t.numbers ≡ some w → InFormat fs outer t w
-    go none e q = absurd (none-ne-some w q)
-    go (some f) e q = let l = filled f.fields t.numbers in
-        let p = placed_both (some 0) (outer ++ f.fixed) l ∙ ap (λ x. placed x l) (placed_both (some 0) outer f.fixed)
-        ∙ sym (placed_both (placed (some 0) outer) f.fixed l) ∙ q in
+    go : (o : Option (Format A)) → at fs t.format ≡ o → in_format (placed (Some 0) outer) o t.numbers ≡ Some w → InFormat fs outer t w
+    go None e q = absurd (none-some w q)
+    go (Some f) e q = let l = filled f.fields t.numbers in
+        let p = placed_both (Some 0) (outer ++ f.fixed) l ∙ ap (λ x. placed x l) (placed_both (Some 0) outer f.fixed)
+        ∙ sym (placed_both (placed (Some 0) outer) f.fixed l) ∙ q in
         let d = tidy_filled (outer ++ f.fixed) f.fields t.numbers (sound_at fs outer t.format f s e).tidied in
         let m = placed_matches w ((outer ++ f.fixed) ++ l) d p in
         let n = matches_left (outer ++ f.fixed) l w m in
@@ -176,7 +176,7 @@ in_format_lem {A} fs outer t w s = go (at fs t.format) refl
 
 -- What is written is read as the case that was written.
 pub write_read : {A : Type 0} (fs : List (Format A)) (outer : List Fixed) (t : Fields) (a : A) (w : ℕ)
-    → all_differ (map shape fs) ≡ true → Tells a (at fs t.format) t.numbers → InFormat fs outer t w → reading fs w ≡ some a
+    → all_differ (map shape fs) ≡ true → Tells a (at fs t.format) t.numbers → InFormat fs outer t w → reading fs w ≡ Some a
 write_read fs outer t a w d h i =
     reading_at fs t.format i.form w d i.found i.inside
     ∙ said_filled i.form.fields i.form.meaning t.numbers a w i.field
@@ -187,7 +187,7 @@ abbrev pub unlike : {A B : Type 0} → List (Format B) → List (Format A) → B
 unlike gs fs = all (λ s. all (λ r. differ r s) (map shape gs)) (map shape fs)
 
 pub read_other : {A B : Type 0} (gs : List (Format B)) (fs : List (Format A)) (outer : List Fixed) (t : Fields) (w : ℕ)
-    → unlike gs fs ≡ true → InFormat fs outer t w → reading gs w ≡ none
+    → unlike gs fs ≡ true → InFormat fs outer t w → reading gs w ≡ None
 read_other gs fs outer t w d i = reading_none gs (shape i.form) w
     (at_all (λ s. all (λ r. differ r s) (map shape gs)) fs t.format i.form d i.found) i.inside
 
@@ -209,7 +209,7 @@ numbers_fit [] w = tt
 numbers_fit (r ∷ rs) w = (mod-lt _ (pow_pos _), numbers_fit rs w)
 
 back_said : {A : Type 0} (P : A → List ℕ → Type 0) (rs : List Range) (m : Meaning A rs) (w : ℕ) (a : A) → Back P rs m
-    → said rs m w ≡ some a → P a (numbers_in rs w)
+    → said rs m w ≡ Some a → P a (numbers_in rs w)
 back_said P [] m w a b e = subst (IfSome (λ a. P a [])) e b
 back_said P (r ∷ rs) m w a b e = back_said (λ a ns. P a (bits r w ∷ ns)) rs (m (bits r w)) w a (b (bits r w) (mod-lt _ (pow_pos _))) e
 
@@ -217,18 +217,18 @@ back_said P (r ∷ rs) m w a b e = back_said (λ a ns. P a (bits r w ∷ ns)) rs
 pub record Found {A : Type 0} (P : A → ℕ → List ℕ → Type 0) (fs : List (Format A)) (w : ℕ) (a : A) : Type 0 where
   pub place : ℕ
   pub form : Format A
-  pub found : at fs place ≡ some form
+  pub found : at fs place ≡ Some form
   pub inside : matches form.fixed w ≡ true
   pub says : P a place (numbers_in form.fields w)
 
-pub find : {A : Type 0} (P : A → ℕ → List ℕ → Type 0) (fs : List (Format A)) (w : ℕ) (a : A) → AllBack P fs → reading fs w ≡ some a
+pub find : {A : Type 0} (P : A → ℕ → List ℕ → Type 0) (fs : List (Format A)) (w : ℕ) (a : A) → AllBack P fs → reading fs w ≡ Some a
     → Found P fs w a
 unfolding reading
-find P [] w a b e = absurd (none-ne-some a e)
+find P [] w a b e = absurd (none-some a e)
 find {A} P (f ∷ fs) w a b e = go (matches f.fixed w) refl e (find (λ a k. P a (suc k)) fs w a b.1)
   where
-    go : (t : Bool) → matches f.fixed w ≡ t → cond t (said f.fields f.meaning w) (reading fs w) ≡ some a
-        → (reading fs w ≡ some a → Found (λ a k. P a (suc k)) fs w a) → Found P (f ∷ fs) w a
+    go : (t : Bool) → matches f.fixed w ≡ t → cond t (said f.fields f.meaning w) (reading fs w) ≡ Some a
+        → (reading fs w ≡ Some a → Found (λ a k. P a (suc k)) fs w a) → Found P (f ∷ fs) w a
     go true m q rest =
         let h = back_said (λ a. P a 0) f.fields f.meaning w a b.0 q in
         record { place = 0; form = f; found = refl; inside = m; says = h }
@@ -239,7 +239,7 @@ find {A} P (f ∷ fs) w a b e = go (matches f.fixed w) refl e (find (λ a k. P a
 -- What is read can be written, after any numbers outside of the formats that fit.
 pub read_write : {A : Type 0} (P : A → ℕ → List ℕ → Type 0) (fs : List (Format A)) (outer : List Fixed) (w : ℕ) (a : A)
     → all (is_sound outer) (map shape fs) ≡ true → Fits outer
-    → (g : Found P fs w a) → (v : ℕ) × (writing fs (placed (some 0) outer) (g.place ⟨ numbers_in g.form.fields w ⟩) ≡ some v)
+    → (g : Found P fs w a) → (v : ℕ) × (writing fs (placed (Some 0) outer) (g.place ⟨ numbers_in g.form.fields w ⟩) ≡ Some v)
 unfolding writing
 read_write P fs outer w a s h g = let u = fit_placed 0 outer h in let f = g.form in
     let b = fits_both f.fixed _ (sound_at fs outer g.place f s g.found).fitted (numbers_fit f.fields w) in

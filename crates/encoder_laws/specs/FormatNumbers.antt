@@ -1,7 +1,7 @@
 -- The eighteen formats by number: ALUl is 0, those of `alu_formats` follow from 1 on, and those of `first_formats` from 7 on. What is
 -- decoded has one of them, and each of them is decoded.
-use Rattle.std.specs.Prelude.{ℕ, zero, suc, ◌+◌, ◌<◌, ◌≤◌, cond, List, [], ◌∷◌, map, ◌≡◌, refl, ltb, length}
-use Rattle.std.proofs.Math.Option.{Option, none, some, none-ne-some}
+use Rattle.std.specs.Prelude.{ℕ, zero, suc, ◌+◌, ◌<◌, ◌≤◌, cond, List, [], ◌∷◌, map, ◌≡◌, refl, ltb, length, Option, None, Some}
+use Rattle.std.proofs.lemmas.Option.{none-some}
 use Rattle.std.proofs.Common.{sym, subst, arith, lt-ltb}
 use Rattle.isa.specs.Format.{Format, reading, row}
 use Rattle.isa.specs.Formats.{long_formats, alu_formats, first_formats}
@@ -26,47 +26,47 @@ abbrev pub numbered : {A : Type 0} → List (Format A) → ℕ → Fields → �
 numbered fs first t = cond (ltb t.format (length fs)) (first + t.format) 18
 
 abbrev pub alu_format : AluOperation → Option ℕ → ℕ
-alu_format a (some n) = numbered long_formats 0 (long_fields a)
-alu_format a none = numbered alu_formats 1 (alu_fields a)
+alu_format a (Some n) = numbered long_formats 0 (long_fields a)
+alu_format a None = numbered alu_formats 1 (alu_fields a)
 
 abbrev pub format_in : Operation → Option AluOperation → ℕ
-format_in o (some a) = alu_format a (constant_of (some a))
-format_in o none = numbered first_formats 7 (first_fields o)
+format_in o (Some a) = alu_format a (constant_of (Some a))
+format_in o None = numbered first_formats 7 (first_fields o)
 
 -- The format in which an operation is written; 18 for one that has no word.
 unfoldable pub format_of : Operation → ℕ
 format_of o = format_in o (either_slot o)
 
-at_inside : {A : Type 0} (fs : List (Format A)) (k : ℕ) (f : Format A) → at fs k ≡ some f → k < length fs
-at_inside [] k f e = absurd (none-ne-some f e)
+at_inside : {A : Type 0} (fs : List (Format A)) (k : ℕ) (f : Format A) → at fs k ≡ Some f → k < length fs
+at_inside [] k f e = absurd (none-some f e)
 at_inside (h ∷ fs) zero f e = omega arith
 at_inside (h ∷ fs) (suc k) f e = let i = at_inside fs k f e in omega arith
 
-numbered_below : {A : Type 0} (fs : List (Format A)) (first : ℕ) (t : Fields) (f : Format A) → at fs t.format ≡ some f
+numbered_below : {A : Type 0} (fs : List (Format A)) (first : ℕ) (t : Fields) (f : Format A) → at fs t.format ≡ Some f
     → first + length fs ≤ 18 → numbered fs first t < 18
 numbered_below fs first t f e h =
     let i = at_inside fs t.format f e in
     rw (lt-ltb t.format (length fs) i) (omega arith)
 
 -- What is written has one of the eighteen.
-slot_format : (two : ℕ) (g : PredicateOperand) (o : Operation) (w : ℕ) → slot_word two g o ≡ some w → format_of o < 18
+slot_format : (two : ℕ) (g : PredicateOperand) (o : Operation) (w : ℕ) → slot_word two g o ≡ Some w → format_of o < 18
 unfolding slot_word guarded format_of
-slot_format two g o w = by_slot (λ o x. in_slot (placed (some 0) (guard_and_length g two)) o x ≡ some w → format_in o x < 18) alu first o
+slot_format two g o w = by_slot (λ o x. in_slot (placed (Some 0) (guard_and_length g two)) o x ≡ Some w → format_in o x < 18) alu first o
   where
-    alu : (a : AluOperation) → writing alu_formats (placed (some 0) (guard_and_length g two)) (alu_fields a) ≡ some w
-        → alu_format a (constant_of (some a)) < 18
+    alu : (a : AluOperation) → writing alu_formats (placed (Some 0) (guard_and_length g two)) (alu_fields a) ≡ Some w
+        → alu_format a (constant_of (Some a)) < 18
     alu a e =
         let i = in_format_lem alu_formats (guard_and_length g two) (alu_fields a) w (alu_sound g two) e in
-        rw (no_constant (placed (some 0) (guard_and_length g two)) (Alu a) (subst (λ x. IsWords (alone x)) (sym e) tt))
+        rw (no_constant (placed (Some 0) (guard_and_length g two)) (Alu a) (subst (λ x. IsWords (alone x)) (sym e) tt))
         (numbered_below alu_formats 1 (alu_fields a) i.form i.found (omega arith))
 
-    first : (o : Operation) → writing first_formats (placed (some 0) (guard_and_length g two)) (first_fields o) ≡ some w
+    first : (o : Operation) → writing first_formats (placed (Some 0) (guard_and_length g two)) (first_fields o) ≡ Some w
         → numbered first_formats 7 (first_fields o) < 18
     first o e =
         let i = in_format_lem first_formats (guard_and_length g two) (first_fields o) w (first_sound g two) e in
         numbered_below first_formats 7 (first_fields o) i.form i.found (omega arith)
 
-long_format : (g : PredicateOperand) (a : AluOperation) (w n : ℕ) → long_word g (some a) ≡ some w → constant_of (some a) ≡ some n
+long_format : (g : PredicateOperand) (a : AluOperation) (w n : ℕ) → long_word g (Some a) ≡ Some w → constant_of (Some a) ≡ Some n
     → format_of (Alu a) < 18
 unfolding guarded format_of
 long_format g a w n e c =

@@ -1,7 +1,7 @@
 -- Many numbers put into ranges that share no bit: each range then has its number, and all other bits are zero.
-use Rattle.std.specs.Prelude.{ℕ, suc, ◌-◌, ◌^◌, ◌<◌, Bool, true, ◌&&◌, List, [], ◌∷◌, ◌++◌, map, ◌≡◌, refl, eqb, ltb}
+use Rattle.std.specs.Prelude.{ℕ, suc, ◌-◌, ◌^◌, ◌<◌, Bool, true, ◌&&◌, List, [], ◌∷◌, ◌++◌, map, ◌≡◌, refl, eqb, ltb, Option, None, Some}
+use Rattle.std.proofs.lemmas.Option.{same_Some, none-some}
 use Rattle.std.proofs.Math.Bool.{or_comm}
-use Rattle.std.proofs.Math.Option.{Option, none, some, some-injective, none-ne-some}
 use Rattle.std.proofs.Common.{sym, ap, ◌∙◌, ltb-true, eqb-true, eq-eqb}
 use Rattle.std.proofs.Math.Nat.{zero-div, zero-mod}
 use Rattle.word.specs.BoolLaws.{and_left, and_right}
@@ -46,7 +46,7 @@ fits_right [] qs f = f
 fits_right (p ∷ ps) qs f = fits_right ps qs f.1
 
 -- The first of the numbers, and then the others.
-placed_none : (ps : List Fixed) → placed none ps ≡ none
+placed_none : (ps : List Fixed) → placed None ps ≡ None
 placed_none [] = refl
 placed_none (p ∷ ps) = placed_none ps
 
@@ -54,29 +54,29 @@ pub placed_both : (w : Option ℕ) (ps qs : List Fixed) → placed w (ps ++ qs) 
 placed_both w [] qs = refl
 placed_both w (p ∷ ps) qs = placed_both (put w p) ps qs
 
-first_put : (w v : ℕ) (p : Fixed) (ps : List Fixed) → placed (some w) (p ∷ ps) ≡ some v
-    → (u : ℕ) × (put (some w) p ≡ some u) × (placed (some u) ps ≡ some v)
-first_put w v p ps = go (put (some w) p)
+first_put : (w v : ℕ) (p : Fixed) (ps : List Fixed) → placed (Some w) (p ∷ ps) ≡ Some v
+    → (u : ℕ) × (put (Some w) p ≡ Some u) × (placed (Some u) ps ≡ Some v)
+first_put w v p ps = go (put (Some w) p)
   where
-    go : (o : Option ℕ) → placed o ps ≡ some v → (u : ℕ) × (o ≡ some u) × (placed (some u) ps ≡ some v)
-    go none e = absurd (none-ne-some v (sym (placed_none ps) ∙ e))
-    go (some u) e = (u, refl, e)
+    go : (o : Option ℕ) → placed o ps ≡ Some v → (u : ℕ) × (o ≡ Some u) × (placed (Some u) ps ≡ Some v)
+    go None e = absurd (none-some v (sym (placed_none ps) ∙ e))
+    go (Some u) e = (u, refl, e)
 
 -- There is a word if and only if every number fits.
-pub placed_fit : (w v : ℕ) (ps : List Fixed) → placed (some w) ps ≡ some v → Fits ps
+pub placed_fit : (w v : ℕ) (ps : List Fixed) → placed (Some w) ps ≡ Some v → Fits ps
 placed_fit w v [] e = tt
 placed_fit w v (p ∷ ps) e = let s = first_put w v p ps e in ((put_given w s.0 p s.1).0, placed_fit s.0 v ps s.2)
 
-pub fit_placed : (w : ℕ) (ps : List Fixed) → Fits ps → (v : ℕ) × (placed (some w) ps ≡ some v)
+pub fit_placed : (w : ℕ) (ps : List Fixed) → Fits ps → (v : ℕ) × (placed (Some w) ps ≡ Some v)
 fit_placed w [] f = (w, refl)
 fit_placed w (p ∷ ps) f = let s = put_fits w p f.0 in let t = fit_placed s.0 ps f.1 in (t.0, rw s.1 t.1)
 
-pub placed_below : (w v : ℕ) (ps : List Fixed) → w < 2 ^ 32 → placed (some w) ps ≡ some v → v < 2 ^ 32
-placed_below w v [] h e = rw (← some-injective w v e) h
+pub placed_below : (w v : ℕ) (ps : List Fixed) → w < 2 ^ 32 → placed (Some w) ps ≡ Some v → v < 2 ^ 32
+placed_below w v [] h e = rw (← same_Some w v e) h
 placed_below w v (p ∷ ps) h e = let s = first_put w v p ps e in placed_below s.0 v ps (put_below w s.0 p s.1) s.2
 
 -- Bits apart from all of the ranges are as they were.
-clear_after : (w v : ℕ) (p : Fixed) (rs : List Range) → in_word p.range ≡ true → bits p.range w ≡ 0 → put (some w) p ≡ some v
+clear_after : (w v : ℕ) (p : Fixed) (rs : List Range) → in_word p.range ≡ true → bits p.range w ≡ 0 → put (Some w) p ≡ Some v
     → all (apart p.range) rs ≡ true → tidy rs ≡ true → Clear w rs → Clear v rs
 clear_after w v p [] i z e a t c = tt
 clear_after w v p (r ∷ rs) i z e a t c =
@@ -84,9 +84,9 @@ clear_after w v p (r ∷ rs) i z e a t c =
     let k = put_keeps w v p r i z e (and_left _ _ t) (and_left _ _ a) in
     (k ∙ c.0, clear_after w v p rs i z e (and_right (apart p.range r) _ a) u c.1)
 
-placed_keeps : (w v : ℕ) (ps : List Fixed) (r : Range) → tidy (ranges_of ps) ≡ true → Clear w (ranges_of ps) → placed (some w) ps ≡ some v
+placed_keeps : (w v : ℕ) (ps : List Fixed) (r : Range) → tidy (ranges_of ps) ≡ true → Clear w (ranges_of ps) → placed (Some w) ps ≡ Some v
     → in_word r ≡ true → all (apart r) (ranges_of ps) ≡ true → bits r v ≡ bits r w
-placed_keeps w v [] r t c e i a = ap (bits r) (sym (some-injective w v e))
+placed_keeps w v [] r t c e i a = ap (bits r) (sym (same_Some w v e))
 placed_keeps w v (p ∷ ps) r t c e i a =
     let s = first_put w v p ps e in
     let j = and_left (in_word p.range) _ t in
@@ -97,7 +97,7 @@ placed_keeps w v (p ∷ ps) r t c e i a =
     ∙ put_keeps w s.0 p r j c.0 s.1 i (or_comm (ltb p.range.high r.low) _ ∙ and_left _ _ a)
 
 -- Each range has its number.
-placed_has : (w v : ℕ) (ps : List Fixed) → tidy (ranges_of ps) ≡ true → Clear w (ranges_of ps) → placed (some w) ps ≡ some v
+placed_has : (w v : ℕ) (ps : List Fixed) → tidy (ranges_of ps) ≡ true → Clear w (ranges_of ps) → placed (Some w) ps ≡ Some v
     → matches ps v ≡ true
 placed_has w v [] t c e = refl
 placed_has w v (p ∷ ps) t c e =
@@ -115,10 +115,10 @@ zero_clear : (rs : List Range) → Clear 0 rs
 zero_clear [] = tt
 zero_clear (r ∷ rs) = (rw zero-div (zero-mod _), zero_clear rs)
 
-pub placed_matches : (v : ℕ) (ps : List Fixed) → tidy (ranges_of ps) ≡ true → placed (some 0) ps ≡ some v → matches ps v ≡ true
+pub placed_matches : (v : ℕ) (ps : List Fixed) → tidy (ranges_of ps) ≡ true → placed (Some 0) ps ≡ Some v → matches ps v ≡ true
 placed_matches v ps t e = placed_has 0 v ps t (zero_clear (ranges_of ps)) e
 
-pub placed_zero : (v : ℕ) (ps : List Fixed) (r : Range) → tidy (ranges_of ps) ≡ true → placed (some 0) ps ≡ some v
+pub placed_zero : (v : ℕ) (ps : List Fixed) (r : Range) → tidy (ranges_of ps) ≡ true → placed (Some 0) ps ≡ Some v
     → in_word r ≡ true → all (apart r) (ranges_of ps) ≡ true → bits r v ≡ 0
 placed_zero v ps r t e i a = placed_keeps 0 v ps r t (zero_clear (ranges_of ps)) e i a ∙ (zero_clear (r ∷ [])).0
 

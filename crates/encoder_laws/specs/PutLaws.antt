@@ -1,6 +1,6 @@
 -- One number put into a range of bits: the range then has the number, and ranges apart from it have what they had. All widths at once.
-use Rattle.std.specs.Prelude.{ℕ, suc, ◌+◌, ◌-◌, ◌*◌, ◌/◌, ◌%◌, ◌^◌, ◌<◌, ◌≤◌, Bool, true, false, cond, ◌&&◌, ◌||◌, ◌≡◌, refl, leb, ltb}
-use Rattle.std.proofs.Math.Option.{none, some, some-injective, none-ne-some}
+use Rattle.std.specs.Prelude.{ℕ, suc, ◌+◌, ◌-◌, ◌*◌, ◌/◌, ◌%◌, ◌^◌, ◌<◌, ◌≤◌, Bool, true, false, cond, ◌&&◌, ◌||◌, ◌≡◌, refl, leb, ltb, None, Some}
+use Rattle.std.proofs.lemmas.Option.{same_Some, none-some}
 use Rattle.std.proofs.Common.{sym, ap, ◌∙◌, add-sub_of_le, arith, pow_pos, shr-shr, ltb-true, leb-true, lt-ltb}
 use Rattle.std.proofs.Math.Nat.{add-mul-div_right, add-mul-mod_self_right}
 use Rattle.std.proofs.Math.Pow.{split, high, low, field, mod-mod-pow}
@@ -45,16 +45,16 @@ below l x n j k q = sym (under j k l (x + n * 2 ^ l) q) ∙ ap (λ (y : ℕ). y 
     ∙ under j k l x q
 
 -- A word that a put gives is the sum, taken to 32 bits, and the number fits.
-pub put_given : (w v : ℕ) (p : Fixed) → put (some w) p ≡ some v → Fit p × ((w + p.value * 2 ^ p.range.low) % 2 ^ 32 ≡ v)
+pub put_given : (w v : ℕ) (p : Fixed) → put (Some w) p ≡ Some v → Fit p × ((w + p.value * 2 ^ p.range.low) % 2 ^ 32 ≡ v)
 put_given w v p = go (ltb p.value (2 ^ (suc p.range.high - p.range.low))) refl
   where
     go : (t : Bool) → ltb p.value (2 ^ (suc p.range.high - p.range.low)) ≡ t
-        → cond t (some ((w + p.value * 2 ^ p.range.low) % 2 ^ 32)) none ≡ some v
+        → cond t (Some ((w + p.value * 2 ^ p.range.low) % 2 ^ 32)) None ≡ Some v
         → Fit p × ((w + p.value * 2 ^ p.range.low) % 2 ^ 32 ≡ v)
-    go true e q = (ltb-true _ _ e, some-injective _ _ q)
-    go false e q = absurd (none-ne-some _ q)
+    go true e q = (ltb-true _ _ e, same_Some _ _ q)
+    go false e q = absurd (none-some _ q)
 
-pub put_fits : (w : ℕ) (p : Fixed) → Fit p → (v : ℕ) × (put (some w) p ≡ some v)
+pub put_fits : (w : ℕ) (p : Fixed) → Fit p → (v : ℕ) × (put (Some w) p ≡ Some v)
 put_fits w p h = ((w + p.value * 2 ^ p.range.low) % 2 ^ 32, rw (lt-ltb _ _ h) refl)
 
 in_word_lem : (r : Range) → in_word r ≡ true → (r.low ≤ r.high) × (r.high < 32)
@@ -64,13 +64,13 @@ in_word_lem r e = (leb-true _ _ (and_left _ _ e), ltb-true _ _ (and_right (leb r
 bits_word : (r : Range) (x : ℕ) → in_word r ≡ true → bits r (x % 2 ^ 32) ≡ bits r x
 bits_word r x e = under r.low (suc r.high - r.low) 32 x (omega (arith, in_word_lem r e))
 
-pub put_same : (w v : ℕ) (p : Fixed) → in_word p.range ≡ true → bits p.range w ≡ 0 → put (some w) p ≡ some v
+pub put_same : (w v : ℕ) (p : Fixed) → in_word p.range ≡ true → bits p.range w ≡ 0 → put (Some w) p ≡ Some v
     → bits p.range v ≡ p.value
 put_same w v p i z e = let g = put_given w v p e in
     ap (bits p.range) (sym g.1) ∙ bits_word p.range _ i
     ∙ same p.range.low (suc p.range.high - p.range.low) w p.value z g.0
 
-pub put_keeps : (w v : ℕ) (p : Fixed) (r : Range) → in_word p.range ≡ true → bits p.range w ≡ 0 → put (some w) p ≡ some v
+pub put_keeps : (w v : ℕ) (p : Fixed) (r : Range) → in_word p.range ≡ true → bits p.range w ≡ 0 → put (Some w) p ≡ Some v
     → in_word r ≡ true → apart p.range r ≡ true → bits r v ≡ bits r w
 put_keeps w v p r i z e j a = let g = put_given w v p e in
     ap (bits r) (sym g.1) ∙ bits_word r _ j ∙ go (ltb p.range.high r.low) refl a
@@ -83,5 +83,5 @@ put_keeps w v p r i z e j a = let g = put_given w v p e in
     go false q u = below p.range.low w p.value r.low (suc r.high - r.low)
         (omega (arith, ltb-true r.high p.range.low u, in_word_lem r j))
 
-pub put_below : (w v : ℕ) (p : Fixed) → put (some w) p ≡ some v → v < 2 ^ 32
+pub put_below : (w v : ℕ) (p : Fixed) → put (Some w) p ≡ Some v → v < 2 ^ 32
 put_below w v p e = omega (arith, (put_given w v p e).1)

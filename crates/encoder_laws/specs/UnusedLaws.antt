@@ -1,7 +1,7 @@
 -- Bits without a meaning: a written word has zeros there, and a word that is read and has zeros there is the word that is written.
-use Rattle.std.specs.Prelude.{ℕ, zero, suc, ◌+◌, ◌-◌, ◌*◌, ◌/◌, ◌%◌, ◌^◌, ◌<◌, Bool, true, cond, ◌&&◌, List, [], ◌∷◌, ◌++◌, map, ◌≡◌, refl}
+use Rattle.std.specs.Prelude.{ℕ, zero, suc, ◌+◌, ◌-◌, ◌*◌, ◌/◌, ◌%◌, ◌^◌, ◌<◌, Bool, true, cond, ◌&&◌, List, [], ◌∷◌, ◌++◌, map, ◌≡◌, refl, Some}
+use Rattle.std.proofs.lemmas.Option.{same_Some, none-some}
 use Rattle.std.proofs.Common.{true≢false, sym, ap, ap₂, ◌∙◌, subst, mod-eq_of_lt, mod-lt, one-add, arith, pow_pos}
-use Rattle.std.proofs.Math.Option.{some, some-injective, none-ne-some}
 use Rattle.std.proofs.lemmas.Nat.{mod-pow-add}
 use Rattle.word.specs.BoolLaws.{and_left, and_right}
 use Rattle.isa.specs.Format.{Range, bits, Fixed, ◌≔◌, Format, matches}
@@ -18,7 +18,7 @@ blanks rs = map (λ r. r ≔ 0) rs
 
 -- A written word has zeros in the bits that its format leaves without a meaning.
 placed_blank : (w : ℕ) (ps : List Fixed) (rs : List Range) (ns : List ℕ) (us : List Range) → tidy (ranges_of (ps ++ filled rs ns)) ≡ true
-    → placed (some 0) (ps ++ filled rs ns) ≡ some w
+    → placed (Some 0) (ps ++ filled rs ns) ≡ Some w
     → all (λ r. in_word r && all (apart r) (ranges_of ps ++ rs)) us ≡ true → matches (blanks us) w ≡ true
 placed_blank w ps rs ns [] t p a = refl
 placed_blank w ps rs ns (u ∷ us) t p a = let h = and_left (in_word u && all (apart u) (ranges_of ps ++ rs)) _ a in
@@ -33,10 +33,10 @@ unused_blank fs outer t w s i = let f = i.form in
     placed_blank w (outer ++ f.fixed) f.fields t.numbers f.unused d i.whole h.spared
 
 pub unused_zero : {A : Type 0} (fs : List (Format A)) (outer : List Fixed) (t : Fields) (w : ℕ) (f : Format A)
-    → all (is_sound outer) (map shape fs) ≡ true → writing fs (placed (some 0) outer) t ≡ some w → at fs t.format ≡ some f
+    → all (is_sound outer) (map shape fs) ≡ true → writing fs (placed (Some 0) outer) t ≡ Some w → at fs t.format ≡ Some f
     → matches (blanks f.unused) w ≡ true
 unused_zero {A} fs outer t w f s q k = let i = in_format_lem fs outer t w s q in
-    subst (λ (g : Format A). matches (blanks g.unused) w ≡ true) (some-injective i.form f (sym i.found ∙ k))
+    subst (λ (g : Format A). matches (blanks g.unused) w ≡ true) (same_Some i.form f (sym i.found ∙ k))
     (unused_blank fs outer t w s i)
 
 -- Two words with the same numbers in ranges that have all 32 bits are the same word.
@@ -90,10 +90,10 @@ matched_fits (p ∷ ps) w m =
 pub whole_word : {A : Type 0} (P : A → ℕ → List ℕ → Type 0) (fs : List (Format A)) (outer : List Fixed) (w : ℕ) (a : A)
     → all (is_sound outer) (map shape fs) ≡ true → (g : Found P fs w a)
     → matches outer w ≡ true → matches (blanks g.form.unused) w ≡ true → w < 2 ^ 32
-    → writing fs (placed (some 0) outer) (g.place ⟨ numbers_in g.form.fields w ⟩) ≡ some w
+    → writing fs (placed (Some 0) outer) (g.place ⟨ numbers_in g.form.fields w ⟩) ≡ Some w
 whole_word {A} P fs outer w a s g m u h = let v = read_write P fs outer w a s (matched_fits outer w m) g in
     let i = in_format_lem fs outer (g.place ⟨ numbers_in g.form.fields w ⟩) v.0 s v.1 in
-    v.1 ∙ ap some (go v.0 i (subst Has (some-injective g.form i.form (sym g.found ∙ i.found)) (g.inside, u, refl)))
+    v.1 ∙ ap Some (go v.0 i (subst Has (same_Some g.form i.form (sym g.found ∙ i.found)) (g.inside, u, refl)))
   where
     Has : Format A → Type 0
     Has f =
@@ -122,11 +122,11 @@ bare_none [] s w d m = refl
 bare_none (f ∷ fs) s w d m = rw (unmatched (shape f) s w (and_left _ _ d) m) (bare_none fs s w (and_right (differ (shape f) s) _ d) m)
 
 bare_at : {A : Type 0} (fs : List (Format A)) (k : ℕ) (f : Format A) (w : ℕ)
-    → all_differ (map shape fs) ≡ true → at fs k ≡ some f → matches f.fixed w ≡ true → bare fs w ≡ matches (blanks f.unused) w
+    → all_differ (map shape fs) ≡ true → at fs k ≡ Some f → matches f.fixed w ≡ true → bare fs w ≡ matches (blanks f.unused) w
 unfolding bare
-bare_at [] k f w d e m = absurd (none-ne-some f e)
+bare_at [] k f w d e m = absurd (none-some f e)
 bare_at {A} (h ∷ fs) zero f w d e m =
-    subst (λ (g : Format A). matches g.fixed w ≡ true → bare (h ∷ fs) w ≡ matches (blanks g.unused) w) (some-injective h f e)
+    subst (λ (g : Format A). matches g.fixed w ≡ true → bare (h ∷ fs) w ≡ matches (blanks g.unused) w) (same_Some h f e)
     (λ n. rw n refl) m
 bare_at (h ∷ fs) (suc k) f w d e m =
     rw (unmatched (shape h) (shape f) w (at_all (differ (shape h)) fs k f (and_left _ _ d) e) m)
@@ -146,6 +146,6 @@ other_bare gs fs outer t w d i = bare_none gs (shape i.form) w
 pub read_whole : {A : Type 0} (P : A → ℕ → List ℕ → Type 0) (fs : List (Format A)) (outer : List Fixed) (w : ℕ) (a : A)
     → all_differ (map shape fs) ≡ true → all (is_sound outer) (map shape fs) ≡ true
     → (g : Found P fs w a) → matches outer w ≡ true → bare fs w ≡ true → w < 2 ^ 32
-    → writing fs (placed (some 0) outer) (g.place ⟨ numbers_in g.form.fields w ⟩) ≡ some w
+    → writing fs (placed (Some 0) outer) (g.place ⟨ numbers_in g.form.fields w ⟩) ≡ Some w
 read_whole P fs outer w a d s g m b h = whole_word P fs outer w a s g m
     (sym (bare_at fs g.place g.form w d g.found g.inside) ∙ b) h

@@ -1,6 +1,5 @@
 -- The codes and the tables: a code's row is its own.
-use Rattle.std.specs.Prelude.{Bool, true, false, ◌≡◌, refl}
-use Rattle.std.proofs.Math.Option.{Option}
+use Rattle.std.specs.Prelude.{Bool, true, false, ◌≡◌, refl, Option}
 use Rattle.isa.specs.Format.{row}
 use Rattle.isa.specs.Formats.{is_set}
 use Rattle.isa.specs.Tables.{alu_table, multiply_table, compare_table, predicate_table, special_table, kind_table, load_table, store_table}

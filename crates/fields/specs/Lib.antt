@@ -1,7 +1,6 @@
 -- Open first: Fields.antt, then Place.antt.
 pub mod Place
 pub mod Fields
-pub mod Readings
 pub mod CodeLaws
 pub mod BranchLaws
 pub mod GrowLaws

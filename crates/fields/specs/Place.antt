@@ -1,6 +1,5 @@
 -- How numbers are put into the bits of a word.
-use Rattle.std.specs.Prelude.{ℕ, zero, suc, ◌-◌, ◌*◌, ◌^◌, cond, List, [], ◌∷◌, ◌++◌, ltb}
-use Rattle.std.proofs.Math.Option.{Option, none, some}
+use Rattle.std.specs.Prelude.{ℕ, zero, suc, ◌-◌, ◌*◌, ◌^◌, cond, List, [], ◌∷◌, ◌++◌, ltb, Option, None, Some}
 use Rattle.word.specs.Word.{add}
 use Rattle.isa.specs.Format.{Range, Fixed, ◌≔◌, Format}
 
@@ -16,14 +15,14 @@ k ⟨ numbers ⟩ = record { format = k; numbers = numbers }
 
 -- The member of a list at a place.
 abbrev pub at : {A : Type 0} → List A → ℕ → Option A
-at [] k = none
-at (a ∷ l) zero = some a
+at [] k = None
+at (a ∷ l) zero = Some a
 at (a ∷ l) (suc k) = at l k
 
 -- A word grown by a number at a place. The number has to be below the limit, so that the place has room for it.
 abbrev pub grown : Option ℕ → ℕ → ℕ → ℕ → Option ℕ
-grown none limit place n = none
-grown (some w) limit place n = cond (ltb n limit) (some (add w (n * place))) none
+grown None limit place n = None
+grown (Some w) limit place n = cond (ltb n limit) (Some (add w (n * place))) None
 
 -- A number put into a range of bits: it has to fit.
 abbrev pub put : Option ℕ → Fixed → Option ℕ
@@ -42,8 +41,8 @@ filled (r ∷ rs) (n ∷ ns) = (r ≔ n) ∷ filled rs ns
 
 -- A format's fixed bits and its fields in the word that a start gives: all other bits stay as they are there.
 abbrev pub in_format : {A : Type 0} → Option ℕ → Option (Format A) → List ℕ → Option ℕ
-in_format start none ns = none
-in_format start (some f) ns = placed start (f.fixed ++ filled f.fields ns)
+in_format start None ns = None
+in_format start (Some f) ns = placed start (f.fixed ++ filled f.fields ns)
 
 -- The word of an instruction in one of the formats of a list. There is none if a number does not fit its field, or if the list has no
 -- such format.

@@ -3,10 +3,3 @@
 
 pub mod codes;
 pub mod place;
-
-// A word, or that there is none.
-#[derive(Clone, Copy)]
-pub enum Word {
-    Nothing,
-    Of(u32),
-}

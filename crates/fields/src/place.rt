@@ -4,9 +4,7 @@ ghost use Rattle.std.specs.Prelude.{◌≡◌, ◌*◌};
 ghost use Rattle.word.specs.Word.{add};
 ghost use Rattle.fields.specs.Place.{grown};
 ghost use Rattle.fields.specs.Fields.{operand_number, twos_complement};
-ghost use Rattle.fields.specs.Readings.{found};
 
-use crate::Word;
 use isa::PredicateOperand;
 use word::sign::unsigned;
 
@@ -16,19 +14,15 @@ fn grow(w: u32, place: u32, n: u32) -> u32
     (((w as u64) + (n as u64) * (place as u64)) % 4294967296) as u32
 }
 
-pub fn put(w: Word, limit: u32, place: u32, n: u32) -> Word
-    ensures { found result ≡ grown (found w) limit place n }
+// Where there is no word none comes about.
+pub fn put(w: Option<u32>, limit: u32, place: u32, n: u32) -> Option<u32>
+    ensures { result ≡ grown w limit place n }
 {
-    match w {
-        Word::Nothing => Word::Nothing,
-        Word::Of(x) => {
-            if n < limit {
-                Word::Of(grow(x, place, n))
-            } else {
-                Word::Nothing
-            }
-        }
+    let x = w?;
+    if n < limit {
+        return Some(grow(x, place, n));
     }
+    None
 }
 
 // The four bits of a predicate operand; 16 for a predicate above 7, which no four bits hold.

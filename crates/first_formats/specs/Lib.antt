@@ -1,3 +1,2 @@
--- Open first: lib.rt, then Readings.antt.
-pub mod Readings
+-- Open first: lib.rt, then FlowLaws.antt.
 pub mod FlowLaws

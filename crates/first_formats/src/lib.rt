@@ -1,36 +1,22 @@
 // The formats that only slot one can hold.
-#![tactic(auto)]
+#![tactic(auto, using(isa::specs::TableLaws::row_unused, isa::specs::TableLaws::row_used), unfolding(isa::specs::Format::reading))]
 
-ghost use Rattle.std.specs.Prelude.{◌≡◌, ◌/◌, ◌%◌, ◌<◌};
-ghost use Rattle.std.proofs.Math.Option.{some};
-ghost use Rattle.isa.specs.Format.{reading, row};
-ghost use Rattle.isa.specs.Tables.{kind_table};
+ghost use Rattle.std.specs.Prelude.{◌≡◌, ◌/◌, ◌%◌, Some};
+ghost use Rattle.isa.specs.Format.{reading};
 ghost use Rattle.isa.specs.Formats.{first_formats};
-ghost use Rattle.first_formats.specs.Readings.{found};
 
-use isa::{
-    AccessKind, LoadWidthRow, MultiplyRow, Operation, SpecialRow, StackAmount, StackOperation,
-    StoreWidthRow, Target,
-};
-
-#[derive(Clone, Copy)]
-pub enum Reading {
-    Nothing,
-    Found(Operation),
-}
+use isa::{Operation, StackAmount, StackOperation, Target};
 
 // ALUm.
-fn read_multiply(w: u32) -> Reading
+fn read_multiply(w: u32) -> Option<Operation>
     requires { w / 4194304 % 32 ≡ 8 }
-    ensures { found result ≡ reading first_formats w }
+    ensures { result ≡ reading first_formats w }
 {
     if w / 16 % 8 != 2 {
-        return Reading::Nothing;
+        return None;
     }
-    let MultiplyRow::Row(function) = isa::tables::multiply_function(w % 16) else {
-        return Reading::Nothing;
-    };
-    Reading::Found(Operation::Multiply {
+    let function = isa::tables::multiply_function(w % 16)?;
+    Some(Operation::Multiply {
         function,
         rs1: w / 4096 % 32,
         rs2: w / 128 % 32,
@@ -38,55 +24,36 @@ fn read_multiply(w: u32) -> Reading
 }
 
 // SPCt and SPCf.
-fn read_special(w: u32) -> Reading
+fn read_special(w: u32) -> Option<Operation>
     requires { w / 4194304 % 32 ≡ 9 }
-    ensures { found result ≡ reading first_formats w }
+    ensures { result ≡ reading first_formats w }
 {
     let opc = w / 16 % 8;
     if opc == 2 {
-        let SpecialRow::Row(special) = isa::tables::special(w % 16) else {
-            return Reading::Nothing;
-        };
-        return Reading::Found(Operation::Mts {
+        let special = isa::tables::special(w % 16)?;
+        return Some(Operation::Mts {
             special,
             rs1: w / 4096 % 32,
         });
     }
     if opc == 3 {
-        let SpecialRow::Row(special) = isa::tables::special(w % 16) else {
-            return Reading::Nothing;
-        };
-        return Reading::Found(Operation::Mfs {
+        let special = isa::tables::special(w % 16)?;
+        return Some(Operation::Mfs {
             rd: w / 131072 % 32,
             special,
         });
     }
-    Reading::Nothing
-}
-
-// Tables 2.5 and 2.6, the memory: all four codes are used.
-fn access_kind(code: u32) -> AccessKind
-    requires { code < 4 }
-    ensures { row kind_table code some ≡ some result }
-{
-    match code {
-        0 => AccessKind::Stack,
-        1 => AccessKind::Local,
-        2 => AccessKind::Cached,
-        _ => AccessKind::Main,
-    }
+    None
 }
 
 // LDT.
-fn read_load(w: u32) -> Reading
+fn read_load(w: u32) -> Option<Operation>
     requires { w / 4194304 % 32 ≡ 10 }
-    ensures { found result ≡ reading first_formats w }
+    ensures { result ≡ reading first_formats w }
 {
-    let LoadWidthRow::Row(width) = isa::tables::load_width(w / 512 % 8) else {
-        return Reading::Nothing;
-    };
-    let kind = access_kind(w / 128 % 4);
-    Reading::Found(Operation::Load {
+    let width = isa::tables::load_width(w / 512 % 8)?;
+    let kind = isa::tables::access_kind(w / 128 % 4)?;
+    Some(Operation::Load {
         kind,
         width,
         rd: w / 131072 % 32,
@@ -96,15 +63,13 @@ fn read_load(w: u32) -> Reading
 }
 
 // STT.
-fn read_store(w: u32) -> Reading
+fn read_store(w: u32) -> Option<Operation>
     requires { w / 4194304 % 32 ≡ 11 }
-    ensures { found result ≡ reading first_formats w }
+    ensures { result ≡ reading first_formats w }
 {
-    let StoreWidthRow::Row(width) = isa::tables::store_width(w / 524288 % 8) else {
-        return Reading::Nothing;
-    };
-    let kind = access_kind(w / 131072 % 4);
-    Reading::Found(Operation::Store {
+    let width = isa::tables::store_width(w / 524288 % 8)?;
+    let kind = isa::tables::access_kind(w / 131072 % 4)?;
+    Some(Operation::Store {
         kind,
         width,
         ra: w / 4096 % 32,
@@ -113,16 +78,17 @@ fn read_store(w: u32) -> Reading
     })
 }
 
-fn stack_control(operation: StackOperation) -> Reading
-    ensures { result ≡ Reading.Found (Operation.StackControl operation) }
+fn stack_control(operation: StackOperation) -> Option<Operation>
+    ensures { result ≡ Some (Operation.StackControl operation) }
 {
-    Reading::Found(Operation::StackControl(operation))
+    Some(Operation::StackControl(operation))
 }
 
 // STCi and STCr.
-fn read_stack_control(w: u32) -> Reading
+#[tactic(auto, unfolding(isa::specs::Format::reading, isa::specs::Format::row))]
+fn read_stack_control(w: u32) -> Option<Operation>
     requires { w / 4194304 % 32 ≡ 12 }
-    ensures { found result ≡ reading first_formats w }
+    ensures { result ≡ reading first_formats w }
 {
     let op = w / 1048576 % 4;
     let form = w / 262144 % 4;
@@ -136,26 +102,27 @@ fn read_stack_control(w: u32) -> Reading
         }
     }
     if form != 1 {
-        return Reading::Nothing;
+        return None;
     }
     let rs = w / 4096 % 32;
     match op {
         1 => stack_control(StackOperation::Sens(StackAmount::Register(rs))),
         3 => stack_control(StackOperation::Sspill(StackAmount::Register(rs))),
-        _ => Reading::Nothing,
+        _ => None,
     }
 }
 
-fn transfer(delayed: bool, target: Target) -> Reading
-    ensures { result ≡ Reading.Found (Operation.Transfer delayed target) }
+fn transfer(delayed: bool, target: Target) -> Option<Operation>
+    ensures { result ≡ Some (Operation.Transfer delayed target) }
 {
-    Reading::Found(Operation::Transfer { delayed, target })
+    Some(Operation::Transfer { delayed, target })
 }
 
 // CFLi.
-fn read_flow(w: u32) -> Reading
+#[tactic(auto, using(crate::specs::FlowLaws::flow_first), unfolding(isa::specs::Format::row))]
+fn read_flow(w: u32) -> Option<Operation>
     requires { w / 33554432 % 4 ≡ 2 }
-    ensures { found result ≡ reading first_formats w }
+    ensures { result ≡ reading first_formats w }
 {
     let op = w / 4194304 % 8;
     let words = w % 4194304;
@@ -166,15 +133,16 @@ fn read_flow(w: u32) -> Reading
         3 => transfer(true, Target::Br(word::sign::signed_field_22(w))),
         4 => transfer(false, Target::Brcf(words)),
         5 => transfer(true, Target::Brcf(words)),
-        6 => Reading::Found(Operation::Trap(words)),
-        _ => Reading::Nothing,
+        6 => Some(Operation::Trap(words)),
+        _ => None,
     }
 }
 
 // CFLri, CFLrs and CFLrt.
-fn read_flow_register(w: u32) -> Reading
+#[tactic(auto, using(crate::specs::FlowLaws::register_first), unfolding(isa::specs::Format::row))]
+fn read_flow_register(w: u32) -> Option<Operation>
     requires { w / 8388608 % 16 ≡ 12 }
-    ensures { found result ≡ reading first_formats w }
+    ensures { result ≡ reading first_formats w }
 {
     let delayed = w / 4194304 % 2 == 1;
     let rs1 = w / 4096 % 32;
@@ -183,29 +151,29 @@ fn read_flow_register(w: u32) -> Reading
     if form == 0 {
         match op {
             0 => return transfer(delayed, Target::Ret),
-            1 => return Reading::Found(Operation::Xret { delayed }),
-            _ => return Reading::Nothing,
+            1 => return Some(Operation::Xret { delayed }),
+            _ => return None,
         }
     }
     if form == 1 {
         match op {
             0 => return transfer(delayed, Target::CallRegister(rs1)),
             1 => return transfer(delayed, Target::BrRegister(rs1)),
-            _ => return Reading::Nothing,
+            _ => return None,
         }
     }
     if form != 2 {
-        return Reading::Nothing;
+        return None;
     }
     if op != 2 {
-        return Reading::Nothing;
+        return None;
     }
     transfer(delayed, Target::BrcfRegister(rs1, w / 128 % 32))
 }
 
 // A word in a format that only slot one can hold, by its opcode.
-pub fn read_first(w: u32) -> Reading
-    ensures { found result ≡ reading first_formats w }
+pub fn read_first(w: u32) -> Option<Operation>
+    ensures { result ≡ reading first_formats w }
 {
     let opcode = w / 4194304 % 32;
     match opcode {
@@ -222,5 +190,5 @@ pub fn read_first(w: u32) -> Reading
     if w / 8388608 % 16 == 12 {
         return read_flow_register(w);
     }
-    Reading::Nothing
+    None
 }

@@ -5,14 +5,21 @@
 ghost use Rattle.std.specs.Prelude.{◌≡◌, [], ◌∷◌};
 ghost use Rattle.isa.specs.Formats.{long_formats, alu_formats, first_formats};
 ghost use Rattle.fields.specs.Place.{at, grown, in_format};
-ghost use Rattle.fields.specs.Readings.{found};
 
-use fields::Word;
 use fields::place::put;
 
 // ALUr, ALUc, ALUp, ALUb and ALUci, which differ in opc and in the limits of three fields.
-pub fn alu(w: Word, opc: u32, limit: u32, a: u32, others: u32, b: u32, c: u32, func: u32) -> Word
-    ensures { found result ≡ grown (grown (grown (grown (grown (grown (found w) 32 4194304 8) 8 16 opc) limit 131072 a) others 4096 b) others 128 c) 16 1 func }
+pub fn alu(
+    w: Option<u32>,
+    opc: u32,
+    limit: u32,
+    a: u32,
+    others: u32,
+    b: u32,
+    c: u32,
+    func: u32,
+) -> Option<u32>
+    ensures { result ≡ grown (grown (grown (grown (grown (grown w 32 4194304 8) 8 16 opc) limit 131072 a) others 4096 b) others 128 c) 16 1 func }
 {
     let w = put(w, 32, 4194304, 8);
     let w = put(w, 8, 16, opc);
@@ -23,8 +30,8 @@ pub fn alu(w: Word, opc: u32, limit: u32, a: u32, others: u32, b: u32, c: u32, f
 }
 
 // ALUi.
-pub fn alu_immediate(w: Word, func: u32, rd: u32, rs1: u32, imm: u32) -> Word
-    ensures { found result ≡ in_format (found w) (at alu_formats 0) (func ∷ rd ∷ rs1 ∷ imm ∷ []) }
+pub fn alu_immediate(w: Option<u32>, func: u32, rd: u32, rs1: u32, imm: u32) -> Option<u32>
+    ensures { result ≡ in_format w (at alu_formats 0) (func ∷ rd ∷ rs1 ∷ imm ∷ []) }
 {
     let w = put(w, 4, 33554432, 0);
     let w = put(w, 8, 4194304, func);
@@ -34,8 +41,8 @@ pub fn alu_immediate(w: Word, func: u32, rd: u32, rs1: u32, imm: u32) -> Word
 }
 
 // ALUl, which sets bit 31 itself.
-pub fn alu_long(w: Word, rd: u32, rs1: u32, func: u32) -> Word
-    ensures { found result ≡ in_format (found w) (at long_formats 0) (rd ∷ rs1 ∷ func ∷ []) }
+pub fn alu_long(w: Option<u32>, rd: u32, rs1: u32, func: u32) -> Option<u32>
+    ensures { result ≡ in_format w (at long_formats 0) (rd ∷ rs1 ∷ func ∷ []) }
 {
     let w = put(w, 2, 2147483648, 1);
     let w = put(w, 32, 4194304, 31);
@@ -46,8 +53,8 @@ pub fn alu_long(w: Word, rd: u32, rs1: u32, func: u32) -> Word
 }
 
 // ALUm.
-pub fn multiply(w: Word, rs1: u32, rs2: u32, func: u32) -> Word
-    ensures { found result ≡ in_format (found w) (at first_formats 0) (rs1 ∷ rs2 ∷ func ∷ []) }
+pub fn multiply(w: Option<u32>, rs1: u32, rs2: u32, func: u32) -> Option<u32>
+    ensures { result ≡ in_format w (at first_formats 0) (rs1 ∷ rs2 ∷ func ∷ []) }
 {
     let w = put(w, 32, 4194304, 8);
     let w = put(w, 8, 16, 2);
@@ -57,8 +64,8 @@ pub fn multiply(w: Word, rs1: u32, rs2: u32, func: u32) -> Word
 }
 
 // SPCt and SPCf, which differ in opc and in the place of their register.
-pub fn special(w: Word, opc: u32, place: u32, n: u32, s: u32) -> Word
-    ensures { found result ≡ grown (grown (grown (grown (found w) 32 4194304 9) 8 16 opc) 32 place n) 16 1 s }
+pub fn special(w: Option<u32>, opc: u32, place: u32, n: u32, s: u32) -> Option<u32>
+    ensures { result ≡ grown (grown (grown (grown w 32 4194304 9) 8 16 opc) 32 place n) 16 1 s }
 {
     let w = put(w, 32, 4194304, 9);
     let w = put(w, 8, 16, opc);
@@ -67,8 +74,8 @@ pub fn special(w: Word, opc: u32, place: u32, n: u32, s: u32) -> Word
 }
 
 // LDT.
-pub fn load(w: Word, rd: u32, ra: u32, width: u32, kind: u32, imm: u32) -> Word
-    ensures { found result ≡ in_format (found w) (at first_formats 3) (rd ∷ ra ∷ width ∷ kind ∷ imm ∷ []) }
+pub fn load(w: Option<u32>, rd: u32, ra: u32, width: u32, kind: u32, imm: u32) -> Option<u32>
+    ensures { result ≡ in_format w (at first_formats 3) (rd ∷ ra ∷ width ∷ kind ∷ imm ∷ []) }
 {
     let w = put(w, 32, 4194304, 10);
     let w = put(w, 32, 131072, rd);
@@ -79,8 +86,8 @@ pub fn load(w: Word, rd: u32, ra: u32, width: u32, kind: u32, imm: u32) -> Word
 }
 
 // STT.
-pub fn store(w: Word, width: u32, kind: u32, ra: u32, rs: u32, imm: u32) -> Word
-    ensures { found result ≡ in_format (found w) (at first_formats 4) (width ∷ kind ∷ ra ∷ rs ∷ imm ∷ []) }
+pub fn store(w: Option<u32>, width: u32, kind: u32, ra: u32, rs: u32, imm: u32) -> Option<u32>
+    ensures { result ≡ in_format w (at first_formats 4) (width ∷ kind ∷ ra ∷ rs ∷ imm ∷ []) }
 {
     let w = put(w, 32, 4194304, 11);
     let w = put(w, 8, 524288, width);
@@ -91,8 +98,8 @@ pub fn store(w: Word, width: u32, kind: u32, ra: u32, rs: u32, imm: u32) -> Word
 }
 
 // STCi and STCr, which differ in bits 19 to 18 and in their operand.
-pub fn stack(w: Word, form: u32, op: u32, limit: u32, place: u32, n: u32) -> Word
-    ensures { found result ≡ grown (grown (grown (grown (found w) 32 4194304 12) 4 262144 form) 4 1048576 op) limit place n }
+pub fn stack(w: Option<u32>, form: u32, op: u32, limit: u32, place: u32, n: u32) -> Option<u32>
+    ensures { result ≡ grown (grown (grown (grown w 32 4194304 12) 4 262144 form) 4 1048576 op) limit place n }
 {
     let w = put(w, 32, 4194304, 12);
     let w = put(w, 4, 262144, form);
@@ -101,8 +108,8 @@ pub fn stack(w: Word, form: u32, op: u32, limit: u32, place: u32, n: u32) -> Wor
 }
 
 // CFLi.
-pub fn flow_immediate(w: Word, op: u32, imm: u32) -> Word
-    ensures { found result ≡ in_format (found w) (at first_formats 7) (op ∷ imm ∷ []) }
+pub fn flow_immediate(w: Option<u32>, op: u32, imm: u32) -> Option<u32>
+    ensures { result ≡ in_format w (at first_formats 7) (op ∷ imm ∷ []) }
 {
     let w = put(w, 4, 33554432, 2);
     let w = put(w, 8, 4194304, op);
@@ -110,8 +117,8 @@ pub fn flow_immediate(w: Word, op: u32, imm: u32) -> Word
 }
 
 // CFLri.
-pub fn flow_implicit(w: Word, d: u32, op: u32) -> Word
-    ensures { found result ≡ in_format (found w) (at first_formats 8) (d ∷ op ∷ []) }
+pub fn flow_implicit(w: Option<u32>, d: u32, op: u32) -> Option<u32>
+    ensures { result ≡ in_format w (at first_formats 8) (d ∷ op ∷ []) }
 {
     let w = put(w, 16, 8388608, 12);
     let w = put(w, 4, 4, 0);
@@ -120,8 +127,8 @@ pub fn flow_implicit(w: Word, d: u32, op: u32) -> Word
 }
 
 // CFLrs.
-pub fn flow_single(w: Word, d: u32, rs: u32, op: u32) -> Word
-    ensures { found result ≡ in_format (found w) (at first_formats 9) (d ∷ rs ∷ op ∷ []) }
+pub fn flow_single(w: Option<u32>, d: u32, rs: u32, op: u32) -> Option<u32>
+    ensures { result ≡ in_format w (at first_formats 9) (d ∷ rs ∷ op ∷ []) }
 {
     let w = put(w, 16, 8388608, 12);
     let w = put(w, 4, 4, 1);
@@ -131,8 +138,8 @@ pub fn flow_single(w: Word, d: u32, rs: u32, op: u32) -> Word
 }
 
 // CFLrt.
-pub fn flow_two(w: Word, d: u32, base: u32, offset: u32, op: u32) -> Word
-    ensures { found result ≡ in_format (found w) (at first_formats 10) (d ∷ base ∷ offset ∷ op ∷ []) }
+pub fn flow_two(w: Option<u32>, d: u32, base: u32, offset: u32, op: u32) -> Option<u32>
+    ensures { result ≡ in_format w (at first_formats 10) (d ∷ base ∷ offset ∷ op ∷ []) }
 {
     let w = put(w, 16, 8388608, 12);
     let w = put(w, 4, 4, 2);

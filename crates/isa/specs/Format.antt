@@ -1,6 +1,5 @@
 -- How an instruction format is laid out, and how a list of formats reads a word.
-use Rattle.std.specs.Prelude.{ℕ, suc, ◌-◌, ◌/◌, ◌%◌, ◌^◌, Bool, true, cond, ◌&&◌, List, [], ◌∷◌, eqb}
-use Rattle.std.proofs.Math.Option.{Option, none}
+use Rattle.std.specs.Prelude.{ℕ, suc, ◌-◌, ◌/◌, ◌%◌, ◌^◌, Bool, true, cond, ◌&&◌, List, [], ◌∷◌, eqb, Option, None}
 
 infix 80 ◌⋯◌
 infix 70 ◌≔◌ ◌⇒◌
@@ -49,7 +48,7 @@ said (f ∷ fs) m w = said fs (m (bits f w)) w
 
 -- A word has the meaning that the format it matches gives to its fields. A word that matches none has no meaning.
 unfoldable pub reading : {A : Type 0} → List (Format A) → ℕ → Option A
-reading [] w = none
+reading [] w = None
 reading (f ∷ fs) w = cond (matches f.fixed w) (said f.fields f.meaning w) (reading fs w)
 
 -- A row of a table of function codes.
@@ -62,5 +61,5 @@ n ⇒ a = record { code = n; value = a }
 
 -- What is made of the row of a code. A code with no row has no meaning.
 unfoldable pub row : {A B : Type 0} → List (Row A) → ℕ → (A → Option B) → Option B
-row [] n make = none
+row [] n make = None
 row (r ∷ rs) n make = cond (eqb n r.code) (make r.value) (row rs n make)

@@ -1,33 +1,35 @@
 -- Laws about rows and fields, by which the functions that read formats are joined.
-use Rattle.std.specs.Prelude.{ℕ, ◌/◌, ◌%◌, Bool, true, false, cond, List, [], ◌∷◌, ◌≡◌, refl, eqb}
-use Rattle.std.proofs.Math.Option.{Option, none, some}
+use Rattle.std.specs.Prelude.{ℕ, ◌/◌, ◌%◌, Bool, true, false, cond, List, [], ◌∷◌, ◌≡◌, refl, eqb, Option, None, Some, option_and_then}
 use Rattle.std.proofs.Common.{arith}
 use Rattle.isa.specs.Format.{Row, row}
 use Rattle.isa.specs.Formats.{applied}
 use Rattle.isa.specs.declared.AluOperation.{AluOperation}
 
-abbrev pub and_then : {A B : Type 0} → Option A → (A → Option B) → Option B
-and_then none k = none
-and_then (some a) k = k a
-
 -- what is made of a row is made of the value found there
-pub row_then : {A B : Type 0} (t : List (Row A)) (n : ℕ) (k : A → Option B) → row t n k ≡ and_then (row t n some) k
+pub row_then : {A B : Type 0} (t : List (Row A)) (n : ℕ) (k : A → Option B) → row t n k ≡ option_and_then k (row t n Some)
 unfolding row
 row_then [] n k = refl
 row_then {A} {B} (r ∷ rs) n k = go (eqb n r.code) (row_then rs n k)
   where
-    go : (t : Bool) → row rs n k ≡ and_then (row rs n some) k
-        → cond t (k r.value) (row rs n k) ≡ and_then (cond t (some r.value) (row rs n some)) k
+    go : (t : Bool) → row rs n k ≡ option_and_then k (row rs n Some)
+        → cond t (k r.value) (row rs n k) ≡ option_and_then k (cond t (Some r.value) (row rs n Some))
     go true e = refl
     go false e = e
 
-pub row_applied : {A : Type 0} (t : List (Row A)) (n : ℕ) (k : A → ℕ → AluOperation) (m : ℕ) → applied (row t n (λ a. some (k a))) m ≡ row t n (λ a. some (k a m))
+-- the same where the table was asked before
+pub row_unused : {A B : Type 0} (t : List (Row A)) (n : ℕ) (k : A → Option B) → row t n Some ≡ None → row t n k ≡ None
+row_unused t n k e = rw (row_then, e)
+
+pub row_used : {A B : Type 0} (t : List (Row A)) (n : ℕ) (k : A → Option B) (a : A) → row t n Some ≡ Some a → row t n k ≡ k a
+row_used t n k a e = rw (row_then, e)
+
+pub row_applied : {A : Type 0} (t : List (Row A)) (n : ℕ) (k : A → ℕ → AluOperation) (m : ℕ) → applied (row t n (λ a. Some (k a))) m ≡ row t n (λ a. Some (k a m))
 unfolding row
 row_applied [] n k m = refl
 row_applied {A} (r ∷ rs) n k m = go (eqb n r.code) (row_applied rs n k m)
   where
-    go : (t : Bool) → applied (row rs n (λ a. some (k a))) m ≡ row rs n (λ a. some (k a m))
-        → applied (cond t (some (k r.value)) (row rs n (λ a. some (k a)))) m ≡ cond t (some (k r.value m)) (row rs n (λ a. some (k a m)))
+    go : (t : Bool) → applied (row rs n (λ a. Some (k a))) m ≡ row rs n (λ a. Some (k a m))
+        → applied (cond t (Some (k r.value)) (row rs n (λ a. Some (k a)))) m ≡ cond t (Some (k r.value m)) (row rs n (λ a. Some (k a m)))
     go true e = refl
     go false e = e
 

@@ -1,6 +1,6 @@
 // The instructions, as the words of sections 2.5 and 2.6 of the handbook tell them apart. An immediate is kept as its
 // field has it, in full width; what it means is left to whoever executes it. Only br's field is a signed number.
-#![tactic(auto)]
+#![tactic(auto, unfolding(crate::specs::Format::row))]
 
 pub mod tables;
 
@@ -14,44 +14,44 @@ pub struct PredicateOperand {
 // Table 2.1.
 #[derive(Clone, Copy)]
 pub enum AluFunction {
-    Add,
-    Sub,
-    Xor,
-    Sl,
-    Sr,
-    Sra,
-    Or,
-    And,
-    Nor,
-    Shadd,
-    Shadd2,
+    Add = 0,
+    Sub = 1,
+    Xor = 2,
+    Sl = 3,
+    Sr = 4,
+    Sra = 5,
+    Or = 6,
+    And = 7,
+    Nor = 11,
+    Shadd = 12,
+    Shadd2 = 13,
 }
 
 // Table 2.2.
 #[derive(Clone, Copy)]
 pub enum MultiplyFunction {
-    Mul,
-    Mulu,
+    Mul = 0,
+    Mulu = 1,
 }
 
 // Table 2.3.
 #[derive(Clone, Copy)]
 pub enum CompareFunction {
-    Cmpeq,
-    Cmpneq,
-    Cmplt,
-    Cmple,
-    Cmpult,
-    Cmpule,
-    Btest,
+    Cmpeq = 0,
+    Cmpneq = 1,
+    Cmplt = 2,
+    Cmple = 3,
+    Cmpult = 4,
+    Cmpule = 5,
+    Btest = 6,
 }
 
 // Table 2.4.
 #[derive(Clone, Copy)]
 pub enum PredicateFunction {
-    Por,
-    Pand,
-    Pxor,
+    Por = 6,
+    Pand = 7,
+    Pxor = 10,
 }
 
 // The second operand of ALU and compare functions: the handbook's Op2.
@@ -94,42 +94,42 @@ pub enum AluOperation {
 // The special registers of figure 2.2 that a program can name.
 #[derive(Clone, Copy)]
 pub enum Special {
-    S0,
-    Sl,
-    Sh,
-    Ss,
-    St,
-    Srb,
-    Sro,
-    Sxb,
-    Sxo,
+    S0 = 0,
+    Sl = 2,
+    Sh = 3,
+    Ss = 5,
+    St = 6,
+    Srb = 7,
+    Sro = 8,
+    Sxb = 9,
+    Sxo = 10,
 }
 
 // Which memory an access goes to.
 #[derive(Clone, Copy)]
 pub enum AccessKind {
-    Stack,
-    Local,
-    Cached,
-    Main,
+    Stack = 0,
+    Local = 1,
+    Cached = 2,
+    Main = 3,
 }
 
 // Table 2.5: the width of a load and how it is extended to a word.
 #[derive(Clone, Copy)]
 pub enum LoadWidth {
-    Word,
-    Half,
-    Byte,
-    HalfUnsigned,
-    ByteUnsigned,
+    Word = 0,
+    Half = 1,
+    Byte = 2,
+    HalfUnsigned = 3,
+    ByteUnsigned = 4,
 }
 
 // Table 2.6: the width of a store.
 #[derive(Clone, Copy)]
 pub enum StoreWidth {
-    Word,
-    Half,
-    Byte,
+    Word = 0,
+    Half = 1,
+    Byte = 2,
 }
 
 // How much sens and sspill move: words by an immediate, bytes by a register.
@@ -223,48 +223,4 @@ pub enum Bundle {
     One(Instruction),
     Two(Instruction, AluInstruction),
     Long(Instruction),
-}
-
-// What a table has at a function code: its row, or that the code is unused.
-
-#[derive(Clone, Copy)]
-pub enum AluRow {
-    Unused,
-    Row(AluFunction),
-}
-
-#[derive(Clone, Copy)]
-pub enum MultiplyRow {
-    Unused,
-    Row(MultiplyFunction),
-}
-
-#[derive(Clone, Copy)]
-pub enum CompareRow {
-    Unused,
-    Row(CompareFunction),
-}
-
-#[derive(Clone, Copy)]
-pub enum PredicateRow {
-    Unused,
-    Row(PredicateFunction),
-}
-
-#[derive(Clone, Copy)]
-pub enum SpecialRow {
-    Unused,
-    Row(Special),
-}
-
-#[derive(Clone, Copy)]
-pub enum LoadWidthRow {
-    Unused,
-    Row(LoadWidth),
-}
-
-#[derive(Clone, Copy)]
-pub enum StoreWidthRow {
-    Unused,
-    Row(StoreWidth),
 }

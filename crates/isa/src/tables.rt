@@ -1,114 +1,126 @@
-// The tables of function codes: the row of a code, or that the code is unused.
-ghost use Rattle.std.specs.Prelude.{◌≡◌};
-ghost use Rattle.std.proofs.Math.Option.{some};
+// The tables of function codes: the row of a code, or none where the code is unused. Each is a match, and not a search by the numbers that the
+// variants stand for: every bundle is decoded by these.
+ghost use Rattle.std.specs.Prelude.{◌≡◌, Some};
 ghost use Rattle.isa.specs.Format.{row};
-ghost use Rattle.isa.specs.Tables.{alu_table, multiply_table, compare_table, predicate_table, special_table, load_table, store_table};
-ghost use Rattle.isa.specs.Readings.{alu_row, multiply_row, compare_row, predicate_row, special_row, load_width_row, store_width_row};
+ghost use Rattle.isa.specs.Tables.{alu_table, multiply_table, compare_table, predicate_table, special_table, kind_table, load_table, store_table};
 
 use crate::{
-    AluFunction, AluRow, CompareFunction, CompareRow, LoadWidth, LoadWidthRow, MultiplyFunction,
-    MultiplyRow, PredicateFunction, PredicateRow, Special, SpecialRow, StoreWidth, StoreWidthRow,
+    AccessKind, AluFunction, CompareFunction, LoadWidth, MultiplyFunction, PredicateFunction,
+    Special, StoreWidth,
 };
 
 // Table 2.1.
-pub fn alu_function(code: u32) -> AluRow
-    ensures { alu_row result ≡ row alu_table code some }
+pub fn alu_function(code: u32) -> Option<AluFunction>
+    ensures { result ≡ row alu_table code Some }
 {
     match code {
-        0 => AluRow::Row(AluFunction::Add),
-        1 => AluRow::Row(AluFunction::Sub),
-        2 => AluRow::Row(AluFunction::Xor),
-        3 => AluRow::Row(AluFunction::Sl),
-        4 => AluRow::Row(AluFunction::Sr),
-        5 => AluRow::Row(AluFunction::Sra),
-        6 => AluRow::Row(AluFunction::Or),
-        7 => AluRow::Row(AluFunction::And),
-        11 => AluRow::Row(AluFunction::Nor),
-        12 => AluRow::Row(AluFunction::Shadd),
-        13 => AluRow::Row(AluFunction::Shadd2),
-        _ => AluRow::Unused,
+        0 => Some(AluFunction::Add),
+        1 => Some(AluFunction::Sub),
+        2 => Some(AluFunction::Xor),
+        3 => Some(AluFunction::Sl),
+        4 => Some(AluFunction::Sr),
+        5 => Some(AluFunction::Sra),
+        6 => Some(AluFunction::Or),
+        7 => Some(AluFunction::And),
+        11 => Some(AluFunction::Nor),
+        12 => Some(AluFunction::Shadd),
+        13 => Some(AluFunction::Shadd2),
+        _ => None, // 8 to 10 too, which table 2.1 calls unused.
     }
 }
 
 // Table 2.2.
-pub fn multiply_function(code: u32) -> MultiplyRow
-    ensures { multiply_row result ≡ row multiply_table code some }
+pub fn multiply_function(code: u32) -> Option<MultiplyFunction>
+    ensures { result ≡ row multiply_table code Some }
 {
     match code {
-        0 => MultiplyRow::Row(MultiplyFunction::Mul),
-        1 => MultiplyRow::Row(MultiplyFunction::Mulu),
-        _ => MultiplyRow::Unused,
+        0 => Some(MultiplyFunction::Mul),
+        1 => Some(MultiplyFunction::Mulu),
+        _ => None,
     }
 }
 
 // Table 2.3.
-pub fn compare_function(code: u32) -> CompareRow
-    ensures { compare_row result ≡ row compare_table code some }
+pub fn compare_function(code: u32) -> Option<CompareFunction>
+    ensures { result ≡ row compare_table code Some }
 {
     match code {
-        0 => CompareRow::Row(CompareFunction::Cmpeq),
-        1 => CompareRow::Row(CompareFunction::Cmpneq),
-        2 => CompareRow::Row(CompareFunction::Cmplt),
-        3 => CompareRow::Row(CompareFunction::Cmple),
-        4 => CompareRow::Row(CompareFunction::Cmpult),
-        5 => CompareRow::Row(CompareFunction::Cmpule),
-        6 => CompareRow::Row(CompareFunction::Btest),
-        _ => CompareRow::Unused,
+        0 => Some(CompareFunction::Cmpeq),
+        1 => Some(CompareFunction::Cmpneq),
+        2 => Some(CompareFunction::Cmplt),
+        3 => Some(CompareFunction::Cmple),
+        4 => Some(CompareFunction::Cmpult),
+        5 => Some(CompareFunction::Cmpule),
+        6 => Some(CompareFunction::Btest),
+        _ => None,
     }
 }
 
 // Table 2.4.
-pub fn predicate_function(code: u32) -> PredicateRow
-    ensures { predicate_row result ≡ row predicate_table code some }
+pub fn predicate_function(code: u32) -> Option<PredicateFunction>
+    ensures { result ≡ row predicate_table code Some }
 {
     match code {
-        6 => PredicateRow::Row(PredicateFunction::Por),
-        7 => PredicateRow::Row(PredicateFunction::Pand),
-        10 => PredicateRow::Row(PredicateFunction::Pxor),
-        _ => PredicateRow::Unused,
+        6 => Some(PredicateFunction::Por),
+        7 => Some(PredicateFunction::Pand),
+        10 => Some(PredicateFunction::Pxor),
+        _ => None,
     }
 }
 
 // Figure 2.2.
-pub fn special(code: u32) -> SpecialRow
-    ensures { special_row result ≡ row special_table code some }
+pub fn special(code: u32) -> Option<Special>
+    ensures { result ≡ row special_table code Some }
 {
     match code {
-        0 => SpecialRow::Row(Special::S0),
-        2 => SpecialRow::Row(Special::Sl),
-        3 => SpecialRow::Row(Special::Sh),
-        5 => SpecialRow::Row(Special::Ss),
-        6 => SpecialRow::Row(Special::St),
-        7 => SpecialRow::Row(Special::Srb),
-        8 => SpecialRow::Row(Special::Sro),
-        9 => SpecialRow::Row(Special::Sxb),
-        10 => SpecialRow::Row(Special::Sxo),
-        _ => SpecialRow::Unused,
+        0 => Some(Special::S0),
+        2 => Some(Special::Sl),
+        3 => Some(Special::Sh),
+        5 => Some(Special::Ss),
+        6 => Some(Special::St),
+        7 => Some(Special::Srb),
+        8 => Some(Special::Sro),
+        9 => Some(Special::Sxb),
+        10 => Some(Special::Sxo),
+        _ => None,
+    }
+}
+
+// Tables 2.5 and 2.6, the memory.
+pub fn access_kind(code: u32) -> Option<AccessKind>
+    ensures { result ≡ row kind_table code Some }
+{
+    match code {
+        0 => Some(AccessKind::Stack),
+        1 => Some(AccessKind::Local),
+        2 => Some(AccessKind::Cached),
+        3 => Some(AccessKind::Main),
+        _ => None,
     }
 }
 
 // Table 2.5, the width.
-pub fn load_width(code: u32) -> LoadWidthRow
-    ensures { load_width_row result ≡ row load_table code some }
+pub fn load_width(code: u32) -> Option<LoadWidth>
+    ensures { result ≡ row load_table code Some }
 {
     match code {
-        0 => LoadWidthRow::Row(LoadWidth::Word),
-        1 => LoadWidthRow::Row(LoadWidth::Half),
-        2 => LoadWidthRow::Row(LoadWidth::Byte),
-        3 => LoadWidthRow::Row(LoadWidth::HalfUnsigned),
-        4 => LoadWidthRow::Row(LoadWidth::ByteUnsigned),
-        _ => LoadWidthRow::Unused,
+        0 => Some(LoadWidth::Word),
+        1 => Some(LoadWidth::Half),
+        2 => Some(LoadWidth::Byte),
+        3 => Some(LoadWidth::HalfUnsigned),
+        4 => Some(LoadWidth::ByteUnsigned),
+        _ => None,
     }
 }
 
 // Table 2.6, the width.
-pub fn store_width(code: u32) -> StoreWidthRow
-    ensures { store_width_row result ≡ row store_table code some }
+pub fn store_width(code: u32) -> Option<StoreWidth>
+    ensures { result ≡ row store_table code Some }
 {
     match code {
-        0 => StoreWidthRow::Row(StoreWidth::Word),
-        1 => StoreWidthRow::Row(StoreWidth::Half),
-        2 => StoreWidthRow::Row(StoreWidth::Byte),
-        _ => StoreWidthRow::Unused,
+        0 => Some(StoreWidth::Word),
+        1 => Some(StoreWidth::Half),
+        2 => Some(StoreWidth::Byte),
+        _ => None,
     }
 }

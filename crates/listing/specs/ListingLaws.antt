@@ -9,23 +9,34 @@ use Rattle.decoder.specs.Decode.{is_two_words, bundle_words}
 use Rattle.fetch.specs.Fetch.{following_at}
 use Rattle.listing.specs.Listing.{line_text, lines_text}
 
--- Where the code ends, or the lines are counted out, none follows.
-pub lines_end : (p : Page) (n : ℕ) (code : List ℕ) (a : ℕ) → length code ≤ a → p ≡ with_text p (lines_text n code a)
+-- Where the code ends no line follows.
+pub lines_over : (n : ℕ) (code : List ℕ) (a : ℕ) → length code ≤ a → lines_text n code a ≡ []
 unfolding lines_text
-lines_end p zero code a h = sym (text_none p)
-lines_end p (suc n) code a h = rw (le-leb (length code) a h) (sym (text_none p))
+lines_over zero code a h = refl
+lines_over (suc n) code a h = rw (le-leb (length code) a h)
 
-pub lines_none : (p : Page) (code : List ℕ) (a : ℕ) → p ≡ with_text p (lines_text 0 code a)
+-- Where the lines are counted out none follows either.
+pub lines_out : (n : ℕ) (code : List ℕ) (a : ℕ) → n ≡ 0 → lines_text n code a ≡ []
 unfolding lines_text
-lines_none p code a = sym (text_none p)
+lines_out n code a e = rw e
 
 -- A line and those behind it.
+pub lines_more : (m n : ℕ) (code : List ℕ) (a b : ℕ) → m ≡ n + 1 → b ≡ following_at code a → a < length code
+    → lines_text m code a ≡ line_text code a ++ lines_text n code b
+unfolding lines_text
+lines_more m n code a b e f h = rw (e, f, add-one n, lt-leb (length code) a h)
+
+-- The same on a page.
+pub lines_end : (p : Page) (n : ℕ) (code : List ℕ) (a : ℕ) → length code ≤ a → p ≡ with_text p (lines_text n code a)
+lines_end p n code a h = rw (lines_over n code a h) (sym (text_none p))
+
+pub lines_none : (p : Page) (code : List ℕ) (a : ℕ) → p ≡ with_text p (lines_text 0 code a)
+lines_none p code a = rw (lines_out 0 code a refl) (sym (text_none p))
+
 pub lines_step : (p q : Page) (m n : ℕ) (code : List ℕ) (a b : ℕ) → m ≡ n + 1 → b ≡ following_at code a → a < length code
     → q ≡ with_text p (line_text code a) → with_text q (lines_text n code b) ≡ with_text p (lines_text m code a)
-unfolding lines_text
 lines_step p q m n code a b e f h g =
-    rw (e, f, add-one n, lt-leb (length code) a h) (ap (λ (x : Page). with_text x (lines_text n code (following_at code a))) g
-    ∙ sym (text_append p (line_text code a) (lines_text n code (following_at code a))))
+    rw (lines_more m n code a b e f h) (ap (λ (x : Page). with_text x (lines_text n code b)) g ∙ sym (text_append p (line_text code a) (lines_text n code b)))
 
 -- A bundle has at least one word, so that a line stands for 4 bytes or more.
 following_later : (code : List ℕ) (a : ℕ) → a + 4 ≤ following_at code a

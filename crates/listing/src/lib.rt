@@ -1,9 +1,9 @@
-// The listing of code, a line for each bundle, and the words of a bundle as text, put into a lent buffer.
-#![tactic(auto)]
+// The listing of code, a line for each bundle, and the words of a bundle as text, put on a page.
+#![tactic(auto, using(text::specs::PageLaws::texts), unfolding(crate::specs::Listing::spaced, crate::specs::Listing::refused_text, crate::specs::Listing::written_text, crate::specs::Listing::fixed_text, crate::specs::Listing::words_text, crate::specs::Listing::line_text))]
 
 ghost use Rattle.std.specs.Prelude.{◌≡◌, ◌++◌, ◌+◌, ◌≤◌};
 ghost use Rattle.text.specs.Number.{decimal_text};
-ghost use Rattle.text.specs.Page.{page, with_text};
+ghost use Rattle.text.specs.Page.{Puts};
 ghost use Rattle.case_words.specs.Names.{bytes};
 ghost use Rattle.fetch.specs.Fetch.{following_at, fetched};
 ghost use Rattle.listing.specs.Listing.{spaced, refused_text, written_text, is_fixed, fixed_text, found_text};
@@ -15,41 +15,40 @@ use disassembler::writing::put_bundle;
 use encoder::Written;
 use encoder::words::write;
 use fetch::{Fetched, fetch};
-use text::page::{put, put_byte, put_decimal, put_word};
+use text::page::Page;
 use word::arithmetic::add;
 
-fn put_spaced(out: &mut [u8], used: usize, w: u32) -> usize
-    ensures { page result out.new ≡ with_text (page used out.old) (spaced w) }
+fn put_spaced(page: &mut Page, w: u32)
+    ensures { Puts page.old page.new (spaced w) }
 {
-    let a = put_byte(&mut *out, used, b' ');
-    put_word(&mut *out, a, w)
+    page.put_byte(b' ');
+    page.put_word(w);
 }
 
-fn put_refused(out: &mut [u8], used: usize, n: u32) -> usize
-    ensures { page result out.new ≡ with_text (page used out.old) (refused_text n) }
+fn put_refused(page: &mut Page, n: u32)
+    ensures { Puts page.old page.new (refused_text n) }
 {
-    let a = put(&mut *out, used, b" refused ");
-    put_decimal(&mut *out, a, n as u64)
+    page.put(b" refused ");
+    page.put_decimal(n as u64);
 }
 
-fn put_words(out: &mut [u8], used: usize, two: bool, first: u32, second: u32) -> usize
-    ensures { page result out.new ≡ with_text (page used out.old) (words_text two first second) }
+fn put_words(page: &mut Page, two: bool, first: u32, second: u32)
+    ensures { Puts page.old page.new (words_text two first second) }
 {
-    let a = put_spaced(&mut *out, used, first);
+    put_spaced(&mut *page, first);
     if two {
-        return put_spaced(&mut *out, a, second);
+        put_spaced(&mut *page, second);
     }
-    a
 }
 
 // What a bundle is written as.
-pub fn put_written(out: &mut [u8], used: usize, w: Written) -> usize
-    ensures { page result out.new ≡ with_text (page used out.old) (written_text w) }
+pub fn put_written(page: &mut Page, w: Written)
+    ensures { Puts page.old page.new (written_text w) }
 {
     match w {
-        Written::One(w) => put_spaced(&mut *out, used, w),
-        Written::Two(w, v) => put_words(&mut *out, used, true, w, v),
-        Written::Refused(n) => put_refused(&mut *out, used, n),
+        Written::One(w) => put_spaced(&mut *page, w),
+        Written::Two(w, v) => put_words(&mut *page, true, w, v),
+        Written::Refused(n) => put_refused(&mut *page, n),
     }
 }
 
@@ -65,34 +64,27 @@ fn is_fixed(w: Written, first: u32, second: u32) -> bool
 }
 
 // The fixed form, where it is another one.
-fn put_fixed(out: &mut [u8], used: usize, first: u32, second: u32, w: Written) -> usize
-    ensures { page result out.new ≡ with_text (page used out.old) (fixed_text first second w) }
+fn put_fixed(page: &mut Page, first: u32, second: u32, w: Written)
+    ensures { Puts page.old page.new (fixed_text first second w) }
 {
     if is_fixed(w, first, second) {
-        return used;
+        return;
     }
-    let a = put(&mut *out, used, b" fixed");
-    put_written(&mut *out, a, w)
+    page.put(b" fixed");
+    put_written(&mut *page, w);
 }
 
 // What is found at an address, behind its words. All that holds a bundle is done here: each function that has one as a local is slow to
 // prove.
-fn put_found(
-    out: &mut [u8],
-    used: usize,
-    first: u32,
-    second: u32,
-    code: &[u8],
-    address: u32,
-) -> usize
-    ensures { page result out.new ≡ with_text (page used out.old) (found_text first second (fetched code.now address)) }
+fn put_found(page: &mut Page, first: u32, second: u32, code: &[u8], address: u32)
+    ensures { Puts page.old page.new (found_text first second (fetched code.now address)) }
 {
     match fetch(code, address) {
-        Err(refusal) => put_refused(&mut *out, used, refusal.number()),
+        Err(refusal) => put_refused(&mut *page, refusal.number()),
         Ok(Fetched { bundle, .. }) => {
-            let a = put_fixed(&mut *out, used, first, second, write(bundle));
-            let b = put_byte(&mut *out, a, b' ');
-            put_bundle(&mut *out, b, bundle)
+            put_fixed(&mut *page, first, second, write(bundle));
+            page.put_byte(b' ');
+            put_bundle(&mut *page, bundle);
         }
     }
 }
@@ -104,23 +96,23 @@ fn has_second(code: &[u8], address: u32) -> bool
     (bundle_words(read_word(code, address)) == 2) & ((address as usize) + 8 <= code.len())
 }
 
-fn put_at(out: &mut [u8], used: usize, address: u32) -> usize
-    ensures { page result out.new ≡ with_text (page used out.old) (bytes "at " ++ decimal_text address) }
+fn put_at(page: &mut Page, address: u32)
+    ensures { Puts page.old page.new (bytes "at " ++ decimal_text address) }
 {
-    let a = put(&mut *out, used, b"at ");
-    put_decimal(&mut *out, a, address as u64)
+    page.put(b"at ");
+    page.put_decimal(address as u64);
 }
 
 // The line of an address.
-fn put_line(out: &mut [u8], used: usize, code: &[u8], address: u32) -> usize
-    ensures { page result out.new ≡ with_text (page used out.old) (line_text code.now address) }
+fn put_line(page: &mut Page, code: &[u8], address: u32)
+    ensures { Puts page.old page.new (line_text code.now address) }
 {
     let first = read_word(code, address);
     let second = read_word(code, add(address, 4));
-    let a = put_at(&mut *out, used, address);
-    let b = put_words(&mut *out, a, has_second(code, address), first, second);
-    let c = put_found(&mut *out, b, first, second, code, address);
-    put_byte(&mut *out, c, b'\n')
+    put_at(&mut *page, address);
+    put_words(&mut *page, has_second(code, address), first, second);
+    put_found(&mut *page, first, second, code, address);
+    page.put_byte(b'\n');
 }
 
 // The address after a bundle, whether it can be read or not.
@@ -134,21 +126,18 @@ fn following(code: &[u8], address: u32) -> u32
     address + 8
 }
 
-// The listing. A proved loop has to end, so the lines are counted down. Their number is such that no address passes 32 bits, however long
-// the code is.
-pub fn put_list(out: &mut [u8], used: usize, code: &[u8]) -> usize
-    ensures { page result out.new ≡ with_text (page used out.old) (list_text code.now) }
+// The listing. Its lines are numbered, as a proved loop has to end. Their number is such that no address passes 32 bits, however long the
+// code is.
+pub fn put_list(page: &mut Page, code: &[u8])
+    ensures { Puts page.old page.new (list_text code.now) }
 {
-    let mut at = put(&mut *out, used, b"list\n");
+    page.put(b"list\n");
     let mut address = 0u32;
-    let mut left = 16384u32;
-    while 0 < left {
-        left -= 1;
+    for _ in 0..16384u32 {
         if code.len() <= (address as usize) {
-            return at;
+            return;
         }
-        at = put_line(&mut *out, at, code, address);
+        put_line(&mut *page, code, address);
         address = following(code, address);
     }
-    at
 }

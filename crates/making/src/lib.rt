@@ -1,26 +1,15 @@
 // The operation that a mnemonic and its operands make, by the places of `forms` (assembly).
-#![tactic(auto)]
+#![tactic(auto, using(isa::specs::TableLaws::row_unused, isa::specs::TableLaws::row_used))]
 
-ghost use Rattle.std.specs.Prelude.{◌≡◌, ◌/◌, ◌%◌};
-ghost use Rattle.std.proofs.Math.Option.{some};
+ghost use Rattle.std.specs.Prelude.{◌≡◌, ◌/◌, ◌%◌, Some};
 ghost use Rattle.isa.specs.Format.{row};
 ghost use Rattle.isa.specs.Tables.{alu_table, multiply_table, compare_table, predicate_table, special_table, kind_table, load_table, store_table};
 ghost use Rattle.assembly.specs.Forms.{predicate as predicateOf, made};
-ghost use Rattle.making.specs.Readings.{made_of, in_forms};
+ghost use Rattle.making.specs.InForms.{in_forms};
 
 use assembly::{Mnemonic, Operand};
-use isa::{
-    AccessKind, AluOperation, AluRow, CompareRow, LoadWidthRow, MultiplyRow, Op2, Operation,
-    PredicateOperand, PredicateRow, SpecialRow, StackAmount, StackOperation, StoreWidthRow, Target,
-};
+use isa::{AluOperation, Op2, Operation, PredicateOperand, StackAmount, StackOperation, Target};
 use word::sign::signed;
-
-// What a name and its operands make. A name that no instruction has makes nothing.
-#[derive(Clone, Copy)]
-pub enum Made {
-    Nothing,
-    Found(Operation),
-}
 
 pub fn predicate_of(o: Operand) -> PredicateOperand
     ensures { result ≡ predicateOf o }
@@ -31,13 +20,11 @@ pub fn predicate_of(o: Operand) -> PredicateOperand
     }
 }
 
-fn arithmetic(func: u32, rd: u32, rs1: u32, op2: Op2) -> Made
-    ensures { made_of result ≡ row alu_table func (λ f. some (Operation.Alu (AluOperation.Arithmetic f rd rs1 op2))) }
+fn arithmetic(func: u32, rd: u32, rs1: u32, op2: Op2) -> Option<Operation>
+    ensures { result ≡ row alu_table func (λ f. Some (Operation.Alu (AluOperation.Arithmetic f rd rs1 op2))) }
 {
-    let AluRow::Row(function) = isa::tables::alu_function(func) else {
-        return Made::Nothing;
-    };
-    Made::Found(Operation::Alu(AluOperation::Arithmetic {
+    let function = isa::tables::alu_function(func)?;
+    Some(Operation::Alu(AluOperation::Arithmetic {
         function,
         rd,
         rs1,
@@ -45,22 +32,18 @@ fn arithmetic(func: u32, rd: u32, rs1: u32, op2: Op2) -> Made
     }))
 }
 
-fn multiply(func: u32, rs1: u32, rs2: u32) -> Made
-    ensures { made_of result ≡ row multiply_table func (λ f. some (Operation.Multiply f rs1 rs2)) }
+fn multiply(func: u32, rs1: u32, rs2: u32) -> Option<Operation>
+    ensures { result ≡ row multiply_table func (λ f. Some (Operation.Multiply f rs1 rs2)) }
 {
-    let MultiplyRow::Row(function) = isa::tables::multiply_function(func) else {
-        return Made::Nothing;
-    };
-    Made::Found(Operation::Multiply { function, rs1, rs2 })
+    let function = isa::tables::multiply_function(func)?;
+    Some(Operation::Multiply { function, rs1, rs2 })
 }
 
-fn compare(func: u32, pd: u32, rs1: u32, op2: Op2) -> Made
-    ensures { made_of result ≡ row compare_table func (λ f. some (Operation.Alu (AluOperation.Compare f pd rs1 op2))) }
+fn compare(func: u32, pd: u32, rs1: u32, op2: Op2) -> Option<Operation>
+    ensures { result ≡ row compare_table func (λ f. Some (Operation.Alu (AluOperation.Compare f pd rs1 op2))) }
 {
-    let CompareRow::Row(function) = isa::tables::compare_function(func) else {
-        return Made::Nothing;
-    };
-    Made::Found(Operation::Alu(AluOperation::Compare {
+    let function = isa::tables::compare_function(func)?;
+    Some(Operation::Alu(AluOperation::Compare {
         function,
         pd,
         rs1,
@@ -68,13 +51,11 @@ fn compare(func: u32, pd: u32, rs1: u32, op2: Op2) -> Made
     }))
 }
 
-fn predicate(func: u32, pd: u32, ps1: PredicateOperand, ps2: PredicateOperand) -> Made
-    ensures { made_of result ≡ row predicate_table func (λ f. some (Operation.Alu (AluOperation.Predicate f pd ps1 ps2))) }
+fn predicate(func: u32, pd: u32, ps1: PredicateOperand, ps2: PredicateOperand) -> Option<Operation>
+    ensures { result ≡ row predicate_table func (λ f. Some (Operation.Alu (AluOperation.Predicate f pd ps1 ps2))) }
 {
-    let PredicateRow::Row(function) = isa::tables::predicate_function(func) else {
-        return Made::Nothing;
-    };
-    Made::Found(Operation::Alu(AluOperation::Predicate {
+    let function = isa::tables::predicate_function(func)?;
+    Some(Operation::Alu(AluOperation::Predicate {
         function,
         pd,
         ps1,
@@ -82,44 +63,27 @@ fn predicate(func: u32, pd: u32, ps1: PredicateOperand, ps2: PredicateOperand) -
     }))
 }
 
-fn to_special(number: u32, rs1: u32) -> Made
-    ensures { made_of result ≡ row special_table number (λ s. some (Operation.Mts s rs1)) }
+fn to_special(number: u32, rs1: u32) -> Option<Operation>
+    ensures { result ≡ row special_table number (λ s. Some (Operation.Mts s rs1)) }
 {
-    let SpecialRow::Row(special) = isa::tables::special(number) else {
-        return Made::Nothing;
-    };
-    Made::Found(Operation::Mts { special, rs1 })
+    let special = isa::tables::special(number)?;
+    Some(Operation::Mts { special, rs1 })
 }
 
-fn from_special(rd: u32, number: u32) -> Made
-    ensures { made_of result ≡ row special_table number (λ s. some (Operation.Mfs rd s)) }
+fn from_special(rd: u32, number: u32) -> Option<Operation>
+    ensures { result ≡ row special_table number (λ s. Some (Operation.Mfs rd s)) }
 {
-    let SpecialRow::Row(special) = isa::tables::special(number) else {
-        return Made::Nothing;
-    };
-    Made::Found(Operation::Mfs { rd, special })
+    let special = isa::tables::special(number)?;
+    Some(Operation::Mfs { rd, special })
 }
 
 // The memory is in the low two bits of a type.
-fn access_kind(func: u32) -> AccessKind
-    ensures { row kind_table (func % 4) some ≡ some result }
+fn load(func: u32, rd: u32, ra: u32, offset: u32) -> Option<Operation>
+    ensures { result ≡ row load_table (func / 4) (λ w. row kind_table (func % 4) (λ k. Some (Operation.Load k w rd ra offset))) }
 {
-    match func % 4 {
-        0 => AccessKind::Stack,
-        1 => AccessKind::Local,
-        2 => AccessKind::Cached,
-        _ => AccessKind::Main,
-    }
-}
-
-fn load(func: u32, rd: u32, ra: u32, offset: u32) -> Made
-    ensures { made_of result ≡ row load_table (func / 4) (λ w. row kind_table (func % 4) (λ k. some (Operation.Load k w rd ra offset))) }
-{
-    let kind = access_kind(func);
-    let LoadWidthRow::Row(width) = isa::tables::load_width(func / 4) else {
-        return Made::Nothing;
-    };
-    Made::Found(Operation::Load {
+    let width = isa::tables::load_width(func / 4)?;
+    let kind = isa::tables::access_kind(func % 4)?;
+    Some(Operation::Load {
         kind,
         width,
         rd,
@@ -128,14 +92,12 @@ fn load(func: u32, rd: u32, ra: u32, offset: u32) -> Made
     })
 }
 
-fn store(func: u32, ra: u32, offset: u32, rs: u32) -> Made
-    ensures { made_of result ≡ row store_table (func / 4) (λ w. row kind_table (func % 4) (λ k. some (Operation.Store k w ra rs offset))) }
+fn store(func: u32, ra: u32, offset: u32, rs: u32) -> Option<Operation>
+    ensures { result ≡ row store_table (func / 4) (λ w. row kind_table (func % 4) (λ k. Some (Operation.Store k w ra rs offset))) }
 {
-    let kind = access_kind(func);
-    let StoreWidthRow::Row(width) = isa::tables::store_width(func / 4) else {
-        return Made::Nothing;
-    };
-    Made::Found(Operation::Store {
+    let width = isa::tables::store_width(func / 4)?;
+    let kind = isa::tables::access_kind(func % 4)?;
+    Some(Operation::Store {
         kind,
         width,
         ra,
@@ -144,21 +106,22 @@ fn store(func: u32, ra: u32, offset: u32, rs: u32) -> Made
     })
 }
 
-fn stack(operation: StackOperation) -> Made
-    ensures { made_of result ≡ some (Operation.StackControl operation) }
+fn stack(operation: StackOperation) -> Option<Operation>
+    ensures { result ≡ Some (Operation.StackControl operation) }
 {
-    Made::Found(Operation::StackControl(operation))
+    Some(Operation::StackControl(operation))
 }
 
-fn transfer(delayed: bool, target: Target) -> Made
-    ensures { made_of result ≡ some (Operation.Transfer delayed target) }
+fn transfer(delayed: bool, target: Target) -> Option<Operation>
+    ensures { result ≡ Some (Operation.Transfer delayed target) }
 {
-    Made::Found(Operation::Transfer { delayed, target })
+    Some(Operation::Transfer { delayed, target })
 }
 
 // The forms of the ALU.
-fn make_alu(m: Mnemonic, a: Operand, b: Operand, c: Operand, d: Operand) -> Made
-    ensures { made_of result ≡ in_forms 0 8 m.form (made m a b c d) }
+#[tactic(auto, using(crate::specs::MakingLaws::not_in_forms), unfolding(assembly::specs::Forms::made, assembly::specs::Forms::forms))]
+fn make_alu(m: Mnemonic, a: Operand, b: Operand, c: Operand, d: Operand) -> Option<Operation>
+    ensures { result ≡ in_forms 0 8 m.form (made m a b c d) }
 {
     let form = m.form;
     let func = m.function;
@@ -173,19 +136,20 @@ fn make_alu(m: Mnemonic, a: Operand, b: Operand, c: Operand, d: Operand) -> Made
         4 => compare(func, x, y, Op2::Register(z)),
         5 => compare(func, x, y, Op2::Immediate(z)),
         6 => predicate(func, x, predicate_of(b), predicate_of(c)),
-        7 => Made::Found(Operation::Alu(AluOperation::BitCopy {
+        7 => Some(Operation::Alu(AluOperation::BitCopy {
             rd: x,
             rs1: y,
             bit: z,
             ps: predicate_of(d),
         })),
-        _ => Made::Nothing,
+        _ => None,
     }
 }
 
 // The forms of the special registers, of the memories and of the stack.
-fn make_access(m: Mnemonic, a: Operand, b: Operand, c: Operand, d: Operand) -> Made
-    ensures { made_of result ≡ in_forms 8 18 m.form (made m a b c d) }
+#[tactic(auto, using(crate::specs::MakingLaws::not_in_forms), unfolding(assembly::specs::Forms::made, assembly::specs::Forms::forms))]
+fn make_access(m: Mnemonic, a: Operand, b: Operand, c: Operand, d: Operand) -> Option<Operation>
+    ensures { result ≡ in_forms 8 18 m.form (made m a b c d) }
 {
     let form = m.form;
     let func = m.function;
@@ -203,13 +167,14 @@ fn make_access(m: Mnemonic, a: Operand, b: Operand, c: Operand, d: Operand) -> M
         15 => stack(StackOperation::Sspill(StackAmount::Words(x))),
         16 => stack(StackOperation::Sens(StackAmount::Register(x))),
         17 => stack(StackOperation::Sspill(StackAmount::Register(x))),
-        _ => Made::Nothing,
+        _ => None,
     }
 }
 
 // The forms of control flow.
-fn make_flow(m: Mnemonic, a: Operand, b: Operand, c: Operand, d: Operand) -> Made
-    ensures { made_of result ≡ in_forms 18 27 m.form (made m a b c d) }
+#[tactic(auto, using(crate::specs::MakingLaws::not_in_forms), unfolding(assembly::specs::Forms::made, assembly::specs::Forms::forms))]
+fn make_flow(m: Mnemonic, a: Operand, b: Operand, c: Operand, d: Operand) -> Option<Operation>
+    ensures { result ≡ in_forms 18 27 m.form (made m a b c d) }
 {
     let form = m.form;
     let delayed = m.function == 1;
@@ -218,18 +183,19 @@ fn make_flow(m: Mnemonic, a: Operand, b: Operand, c: Operand, d: Operand) -> Mad
         18 => transfer(delayed, Target::Call(x)),
         19 => transfer(delayed, Target::Br(signed(x))),
         20 => transfer(delayed, Target::Brcf(x)),
-        21 => Made::Found(Operation::Trap(x)),
+        21 => Some(Operation::Trap(x)),
         22 => transfer(delayed, Target::Ret),
-        23 => Made::Found(Operation::Xret { delayed }),
+        23 => Some(Operation::Xret { delayed }),
         24 => transfer(delayed, Target::CallRegister(x)),
         25 => transfer(delayed, Target::BrRegister(x)),
         26 => transfer(delayed, Target::BrcfRegister(x, b.number)),
-        _ => Made::Nothing,
+        _ => None,
     }
 }
 
-pub fn make(m: Mnemonic, a: Operand, b: Operand, c: Operand, d: Operand) -> Made
-    ensures { made_of result ≡ made m a b c d }
+#[tactic(auto, using(crate::specs::MakingLaws::made_within, crate::specs::MakingLaws::made_last))]
+pub fn make(m: Mnemonic, a: Operand, b: Operand, c: Operand, d: Operand) -> Option<Operation>
+    ensures { result ≡ made m a b c d }
 {
     if m.form < 8 {
         return make_alu(m, a, b, c, d);

@@ -48,6 +48,7 @@ impl Marking {
     }
 
     // The store that an access goes to.
+    #[tactic(auto, unfolding(crate::specs::Marking::private_store))]
     pub fn private_store(self, kind: AccessKind) -> bool
         ensures { result ≡ private_store self kind }
     {
@@ -73,6 +74,7 @@ impl Marking {
     }
 
     // A special register as an operand. s0 reads all predicates.
+    #[tactic(auto, unfolding(crate::specs::Marking::some))]
     pub fn private_special(self, special: Special) -> bool
         ensures { result ≡ private_special self special }
     {
@@ -91,6 +93,7 @@ impl Marking {
     }
 
     // A special register as a destination. s0 writes p1 to p7.
+    #[tactic(auto, unfolding(crate::specs::Marking::some))]
     pub fn public_special(self, special: Special) -> bool
         ensures { result ≡ public_special self special }
     {
@@ -109,6 +112,7 @@ impl Marking {
     }
 
     // Whether refusal 1 lets the marking pass.
+    #[tactic(auto, unfolding(crate::specs::Marking::marking_ok))]
     pub fn is_ok(self) -> bool
         ensures { result ≡ marking_ok self }
     {

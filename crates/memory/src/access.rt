@@ -14,8 +14,8 @@ fn load_bytes(s: &[u8], width: LoadWidth, a: u32) -> u32
 {
     match width {
         LoadWidth::Word => big_endian::read_word(s, a),
-        LoadWidth::Half => sign::sign_extend_16(big_endian::read_half(s, a)),
-        LoadWidth::Byte => sign::sign_extend_8(big_endian::read_byte(s, a)),
+        LoadWidth::Half => sign::sign_extend::<16>(big_endian::read_half(s, a)),
+        LoadWidth::Byte => sign::sign_extend::<8>(big_endian::read_byte(s, a)),
         LoadWidth::HalfUnsigned => big_endian::read_half(s, a),
         LoadWidth::ByteUnsigned => big_endian::read_byte(s, a),
     }
@@ -26,8 +26,8 @@ fn load_cache(cache: &[u32], width: LoadWidth, a: u32) -> u32
 {
     match width {
         LoadWidth::Word => access::load_word(cache, a),
-        LoadWidth::Half => sign::sign_extend_16(access::load_half(cache, a)),
-        LoadWidth::Byte => sign::sign_extend_8(access::load_byte(cache, a)),
+        LoadWidth::Half => sign::sign_extend::<16>(access::load_half(cache, a)),
+        LoadWidth::Byte => sign::sign_extend::<8>(access::load_byte(cache, a)),
         LoadWidth::HalfUnsigned => access::load_half(cache, a),
         LoadWidth::ByteUnsigned => access::load_byte(cache, a),
     }

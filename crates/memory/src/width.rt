@@ -31,21 +31,11 @@ pub fn store_scale(w: StoreWidth) -> u32
 pub fn load_size(w: LoadWidth) -> u32
     ensures { (result ≡ 2 ^ load_scale w) × (0 < result) }
 {
-    match w {
-        LoadWidth::Word => 4,
-        LoadWidth::Half => 2,
-        LoadWidth::Byte => 1,
-        LoadWidth::HalfUnsigned => 2,
-        LoadWidth::ByteUnsigned => 1,
-    }
+    1 << load_scale(w)
 }
 
 pub fn store_size(w: StoreWidth) -> u32
     ensures { (result ≡ 2 ^ store_scale w) × (0 < result) }
 {
-    match w {
-        StoreWidth::Word => 4,
-        StoreWidth::Half => 2,
-        StoreWidth::Byte => 1,
-    }
+    1 << store_scale(w)
 }

@@ -42,12 +42,10 @@ fn is_held(held: &[u32; 17], from: u32, base: u32) -> bool
     ensures { (result ≡ is_held base (drop from (held_in held.now))) × (length held.now ≡ 17) }
 {
     let n = held_count(held);
-    let mut i = from;
-    while i < n {
+    for i in from..n {
         if base == held_base(held, i) {
             return true;
         }
-        i = i + 1;
     }
     false
 }
@@ -56,12 +54,11 @@ fn is_held(held: &[u32; 17], from: u32, base: u32) -> bool
 fn bytes_held(code: &[u8], held: &[u32; 17]) -> u64
     ensures { (result ≡ bytes_held code.now (held_in held.now)) × (result ≤ 68719476720) }
 {
+    let n = held_count(held);
     let mut sum: u64 = 0;
-    let mut i = held_count(held);
-    while 0 < i {
-        i = i - 1;
+    for i in 0..n {
         let size = size_at(code, held_base(held, i));
-        sum = sum + (size as u64);
+        sum += size as u64;
     }
     sum
 }
@@ -72,16 +69,14 @@ fn evicted(method: Method, code: &[u8], held: &[u32; 17], size: u32) -> u32
 {
     let n = held_count(held);
     let mut bytes = bytes_held(code, held);
-    let mut k = 0;
-    while k < n {
+    for k in 0..n {
         if (n - k + 1 <= method.blocks) & (bytes + (size as u64) <= method.bytes as u64) {
             return k;
         }
         let gone = size_at(code, held_base(held, k));
-        bytes = bytes - (gone as u64);
-        k = k + 1;
+        bytes -= gone as u64;
     }
-    k
+    n
 }
 
 // Whether no block held is one that 13 describes, or held again behind it.
@@ -89,13 +84,11 @@ fn all_good(method: Method, code: &[u8], held: &[u32; 17]) -> bool
     ensures { result ≡ held_good method code.now (held_in held.now) }
 {
     let n = held_count(held);
-    let mut i = 0;
-    while i < n {
+    for i in 0..n {
         let base = held_base(held, i);
         if is_bad(method, code, base) | is_held(held, i + 1, base) {
             return false;
         }
-        i = i + 1;
     }
     true
 }

@@ -50,11 +50,9 @@ pub(crate) fn settle(held: &mut [u32; 17], from: u32, more: bool, base: u32)
     ensures { (held.new ≡ held_words (kept_from from more base (held_in held.old))) × (length held.old ≡ 17) }
 {
     let stay = held_count(&*held) - from;
-    let mut i = 0;
-    while i < 16 {
+    for i in 0..16 {
         let w = word_at(&*held, i, from, stay, more, base);
         held[i as usize + 1] = w;
-        i = i + 1;
     }
     if more {
         held[0] = stay + 1;

@@ -16,6 +16,7 @@ fn no_product() -> Product
     }
 }
 
+#[tactic(auto, unfolding(crate::specs::Words::product_words))]
 fn nothing() -> ProductWords
     ensures { result ≡ product_words Products.Nothing }
 {
@@ -26,6 +27,7 @@ fn nothing() -> ProductWords
     }
 }
 
+#[tactic(auto, unfolding(crate::specs::Words::product_words))]
 fn one(first: Product) -> ProductWords
     ensures { result ≡ product_words (Products.One first) }
 {
@@ -36,6 +38,7 @@ fn one(first: Product) -> ProductWords
     }
 }
 
+#[tactic(auto, unfolding(crate::specs::Words::product_words))]
 fn two(first: Product, second: Product) -> ProductWords
     ensures { result ≡ product_words (Products.Two first second) }
 {
@@ -56,6 +59,7 @@ pub fn product_words(p: Products) -> ProductWords
     }
 }
 
+#[tactic(auto, using(crate::specs::Words::says_nothing, crate::specs::Words::says_one, crate::specs::Words::says_two))]
 pub fn products_in(w: ProductWords) -> Products
     ensures { result ≡ products_in w }
 {
@@ -71,6 +75,7 @@ pub fn products_in(w: ProductWords) -> Products
 }
 
 // Whether refusal 11 does not describe them.
+#[tactic(auto, using(crate::specs::Words::says_nothing, crate::specs::Words::says_one, crate::specs::Words::says_two), unfolding(crate::specs::Products::products_ok))]
 pub fn products_ok(w: ProductWords) -> bool
     ensures { result ≡ products_ok (products_in w) }
 {
@@ -86,6 +91,7 @@ pub fn products_ok(w: ProductWords) -> bool
 }
 
 // Whether the first falls due in this bundle.
+#[tactic(auto, using(crate::specs::Words::says_nothing, crate::specs::Words::due_first), unfolding(crate::specs::Products::due_product))]
 pub fn is_due(w: ProductWords) -> bool
     ensures { due_product (products_in w) ≡ cond result (some w.first) none }
 {
@@ -107,6 +113,7 @@ fn sooner(p: Product) -> Product
 }
 
 // What is still under way after this bundle.
+#[tactic(auto, using(crate::specs::Words::says_one, crate::specs::Words::says_two), unfolding(crate::specs::Words::nearer_product_words, crate::specs::Products::nearer_products))]
 pub fn nearer_products(w: ProductWords) -> ProductWords
     ensures { result ≡ nearer_product_words w }
 {
@@ -128,6 +135,7 @@ pub fn nearer_products(w: ProductWords) -> ProductWords
 }
 
 // A product more, which lands at the end of the second bundle after this one.
+#[tactic(auto, using(crate::specs::Words::says_nothing, crate::specs::Words::says_one, crate::specs::Words::says_two), unfolding(crate::specs::Products::with_one_more))]
 pub fn one_more(w: ProductWords, low: u32, high: u32) -> ProductWords
     ensures { result ≡ more_product_words w low high }
 {

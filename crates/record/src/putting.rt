@@ -21,11 +21,9 @@ pub(crate) fn put_section(out: &mut [u8], at: u32, words: &[u32]) -> u32
 {
     write_word(&mut *out, at, words.len() as u32);
     let mut next = at + 4;
-    let mut i = 0;
-    while i < words.len() {
-        write_word(&mut *out, next, words[i]);
-        next = next + 4;
-        i += 1;
+    for word in words {
+        write_word(&mut *out, next, *word);
+        next += 4;
     }
     next
 }

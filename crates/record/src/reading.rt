@@ -21,11 +21,8 @@ fn copy_words(part: &[u8], to: &mut [u32])
     requires { length (words_in part.now) ≤ length to.old }
     ensures { to.new ≡ over to.old (words_in part.now) }
 {
-    let n = part.len() / 4;
-    let mut i = 0;
-    while i < n {
+    for i in 0..part.len() / 4 {
         to[i] = word_at(part, i);
-        i += 1;
     }
 }
 

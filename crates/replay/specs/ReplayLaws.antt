@@ -4,7 +4,7 @@ use Rattle.std.proofs.Math.Nat.{sub-zero}
 use Rattle.std.proofs.Math.Bool.{true, false, not}
 use Rattle.std.proofs.Math.Path.{refl, ap}
 use Rattle.std.proofs.Common.{sym, ◌∙◌, arith, add-one}
-use borrow.Author.Tests.{le-leb, lt-ltb, ltb-true, ltb-false, leb-true, leb-false}
+use borrow.Author.Tests.{le-leb, lt-ltb, ltb-true, ltb-false, leb-true}
 use Rattle.std.proofs.Math.Dec.{ltb, leb}
 use Rattle.replay.specs.declared.Replay.{Replay}
 use Rattle.replay.specs.Replay.{records, number_of, vector_of, greatest_vector, records_ok, replay_ok, due_in}

@@ -21,15 +21,13 @@ fn records_ok(list: &[u8]) -> bool
 {
     let n = list.len() / 8;
     let mut least = 0;
-    let mut i = 0;
-    while i < n {
+    for i in 0..n {
         let number = word_at(list, 2 * i);
         let vector = word_at(list, 2 * i + 1);
         if (31 < vector) | (number < least) {
             return false;
         }
         least = number;
-        i = i + 1;
     }
     true
 }

@@ -1,16 +1,17 @@
 -- Where sections are found in bytes.
 use Prim.Native.Nat.{ℕ, zero, suc, ◌+◌, ◌-◌, ◌*◌, ◌/◌, ◌%◌, ◌<◌, ◌≤◌}
-use Rattle.std.specs.Prelude.{Bool, true, false, ◌&&◌, ◌≡◌, refl, leb, ltb, get_or, take}
+use Rattle.std.specs.Prelude.{Bool, true, false, cond, Some, None, ◌&&◌, ◌≡◌, refl, leb, ltb, get_or, take}
 use mathlib.Core.List.{List, [], ◌∷◌}
 use Rattle.std.proofs.Math.Path.{sym, ap}
-use Rattle.std.proofs.Common.{◌∙◌, ltb-true, ltb-false, drop_of_length-le, length-take-le, drop-drop}
+use Rattle.std.proofs.lemmas.Bool.{false≢true}
+use Rattle.std.proofs.Common.{◌∙◌, ltb-true, ltb-false, leb-true, leb-false, drop_of_length-le, length-take-le, drop-drop}
 use native.Mathlib.Omega.{arith}
 use Rattle.std.proofs.Math.ListN.{length, drop, length-drop, get_or-eq_default}
 use Rattle.std.proofs.Math.Seq.{take_all, drop-length}
 use Rattle.big_endian.specs.Bytes.{word_at}
 use Rattle.sections.specs.Words.{words_from, words_in}
 use Rattle.sections.specs.WordLaws.{words_length, word_at_lem, word_drop, words_drop, words_take}
-use Rattle.sections.specs.Sections.{is_cut, behind, has_first, words_of_first}
+use Rattle.sections.specs.Sections.{is_cut, behind, has_first, first_end, words_of_first}
 use Rattle.sections.specs.SectionLaws.{behind_none}
 
 -- A part of whole words behind the count.
@@ -44,6 +45,9 @@ first_word l p = split (words_in l) (omega (arith, words_length l, p)) ∙ ap (�
     split : (w : List ℕ) → 1 ≤ length w → w ≡ get_or w 0 0 ∷ drop 1 w
     split [] q = absurd (omega arith)
     split (n ∷ w) q = refl
+
+pub nothing_left : (l : List ℕ) → words_in (drop (length l) l) ≡ []
+nothing_left l = ap words_in (drop-length l) ∙ no_word [] (omega arith)
 
 -- The section at the beginning, whose count is n: whether it is whole, its words, and what is behind it.
 module _ (l : List ℕ) (few : length l < 4) where
@@ -102,6 +106,62 @@ module _ (l : List ℕ) (n : ℕ) (some : 4 ≤ length l) (count : n ≡ get_or 
       let e : 1 + n ≡ suc n = omega arith in
       words_drop (1 + n) l (omega (arith, p, some)) ∙ ap (λ (k : ℕ). drop k (words_in l)) e ∙ ap (drop (suc n)) here ∙ sym (ap (behind 1) here)
 
+-- What it says that the section at the beginning ends, or that none is whole there.
+some_is : (t : Bool) (a e : ℕ) → Some e ≡ cond t (Some a) None → (t ≡ true) × (e ≡ a)
+some_is true a e h = (refl, cc)
+some_is false a e h = absurd cc
+
+none_is : (t : Bool) (a : ℕ) → None ≡ cond t (Some a) None → t ≡ false
+none_is true a h = absurd cc
+none_is false a h = refl
+
+module _ (l : List ℕ) where
+  fits : has_first (words_in l) ≡ true → (4 ≤ length l) × (get_or (words_in l) 0 0 ≤ length l / 4 - 1)
+  fits h = go (ltb (length l) 4) refl
+    where
+      go : (t : Bool) → ltb (length l) 4 ≡ t → (4 ≤ length l) × (get_or (words_in l) 0 0 ≤ length l / 4 - 1)
+      go true e = absurd (false≢true (sym (none_first l (ltb-true (length l) 4 e)) ∙ h))
+      go false e =
+          let some = ltb-false (length l) 4 e in
+          (some, leb-true _ _ (first_whole l (get_or (words_in l) 0 0) some refl ∙ h))
+
+  module _ (e : ℕ) (is : Some e ≡ first_end (words_in l)) where
+    end_is : e ≡ 4 * (1 + get_or (words_in l) 0 0)
+    end_is = (some_is (has_first (words_in l)) _ e is).1
+
+    pub end_whole : has_first (words_in l) ≡ true
+    end_whole = (some_is (has_first (words_in l)) (4 * (1 + get_or (words_in l) 0 0)) e is).0
+
+    pub end_fits : (4 ≤ e) × (e ≤ length l)
+    end_fits = (omega (arith, end_is), omega (arith, end_is, (fits end_whole).0, (fits end_whole).1))
+
+    pub end_words : (words_in (take (e - 4) (drop 4 l)) ≡ words_of_first (words_in l)) × (length (take (e - 4) (drop 4 l)) % 4 ≡ 0)
+    end_words =
+        let n = get_or (words_in l) 0 0 in
+        let f = fits end_whole in
+        rw end_is (whole_words l n f.0 refl f.1, whole_part l (1 + n) (omega arith) (omega (arith, f.0, f.1)))
+
+    pub end_behind : words_in (drop e l) ≡ behind 1 (words_in l)
+    end_behind =
+        let f = fits end_whole in
+        rw end_is (whole_behind l (get_or (words_in l) 0 0) f.0 refl f.1)
+
+  module _ (is : None ≡ first_end (words_in l)) where
+    pub past_whole : has_first (words_in l) ≡ false
+    past_whole = none_is (has_first (words_in l)) (4 * (1 + get_or (words_in l) 0 0)) is
+
+    pub past_fits : 4 ≤ length l → length l / 4 - 1 < get_or (words_in l) 0 0
+    past_fits some = leb-false _ _ (first_whole l (get_or (words_in l) 0 0) some refl ∙ past_whole)
+
+    pub past_none : words_in (drop (length l) l) ≡ behind 1 (words_in l)
+    past_none = go (ltb (length l) 4) refl
+      where
+        go : (t : Bool) → ltb (length l) 4 ≡ t → words_in (drop (length l) l) ≡ behind 1 (words_in l)
+        go true e = none_behind l (ltb-true (length l) 4 e)
+        go false e =
+            let some = ltb-false (length l) 4 e in
+            past_behind l (get_or (words_in l) 0 0) some refl (past_fits some)
+
 -- One section further, from the part that begins at an address.
 pub further_on : (l : List ℕ) (at n : ℕ) (part : List ℕ) → part ≡ take (length l - at) (drop at l) → words_in (drop n part) ≡ behind 1 (words_in part)
     → words_in (drop (at + n) l) ≡ behind 1 (words_in (drop at l))
@@ -109,20 +169,18 @@ further_on l at n part e h =
     let p = e ∙ tail_part l at in
     ap words_in (sym (drop-drop n at l)) ∙ ap (λ (q : List ℕ). words_in (drop n q)) (sym p) ∙ h ∙ ap (λ (q : List ℕ). behind 1 (words_in q)) p
 
--- Sections counted down, and the last of them.
-less : (k : ℕ) → suc k - 1 ≡ k
-less k = omega arith
-
-pub behind_next : (k : ℕ) (l : List ℕ) → 0 < k → behind k l ≡ behind (k - 1) (behind 1 l)
+-- Sections counted up to k, those left counted down, and the last of them.
+pub behind_next : (k i : ℕ) (l : List ℕ) → i < k → behind (k - i) l ≡ behind (k - (i + 1)) (behind 1 l)
 unfolding behind
-behind_next zero l p = absurd (omega arith)
-behind_next (suc k) [] p = sym (behind_none (suc k - 1))
-behind_next (suc k) (n ∷ l) p = ap (λ (j : ℕ). behind j (drop n l)) (sym (less k))
+behind_next k i l p = let e : k - i ≡ suc (k - (i + 1)) = omega arith in rw e (go (k - (i + 1)) l)
+  where
+    go : (j : ℕ) (l : List ℕ) → behind (suc j) l ≡ behind j (behind 1 l)
+    go j [] = sym (behind_none j)
+    go j (n ∷ l) = refl
 
-pub cut_next : (k : ℕ) (l : List ℕ) → 0 < k → is_cut k l ≡ has_first l && is_cut (k - 1) (behind 1 l)
+pub cut_next : (k i : ℕ) (l : List ℕ) → i < k → is_cut (k - i) l ≡ has_first l && is_cut (k - (i + 1)) (behind 1 l)
 unfolding is_cut
-cut_next zero l p = absurd (omega arith)
-cut_next (suc k) l p = ap (λ (j : ℕ). has_first l && is_cut j (behind 1 l)) (sym (less k))
+cut_next k i l p = let e : k - i ≡ suc (k - (i + 1)) = omega arith in rw e refl
 
 pub cut_end : (k : ℕ) (l : List ℕ) → k ≤ 0 → is_cut k (words_in l) ≡ ltb (length l) 4
 unfolding is_cut
@@ -137,3 +195,13 @@ pub behind_end : (k : ℕ) (l : List ℕ) → k ≤ 0 → behind k l ≡ l
 unfolding behind
 behind_end zero l p = refl
 behind_end (suc k) l p = absurd (omega arith)
+
+-- Behind sections of which one is not whole there is nothing.
+pub past_all : (k i : ℕ) (l : List ℕ) → i < k → None ≡ first_end (words_in l) → behind (k - i) (words_in l) ≡ []
+past_all k i l p is =
+    behind_next k i (words_in l) p
+    ∙ ap (behind (k - (i + 1))) (sym (past_none l is) ∙ nothing_left l)
+    ∙ behind_none (k - (i + 1))
+
+pub first_part : (l : List ℕ) (a : ℕ) → first_end (words_in (take (length l - a) (drop a l))) ≡ first_end (words_in (drop a l))
+first_part l a = ap (λ (m : List ℕ). first_end (words_in m)) (tail_part l a)

@@ -1,5 +1,5 @@
 -- Sections: lists of words, each after its count of words, one behind the other.
-use Rattle.std.specs.Prelude.{ℕ, zero, suc, Bool, true, false, ◌&&◌, List, [], ◌∷◌, ◌++◌, leb, length, take, drop}
+use Rattle.std.specs.Prelude.{ℕ, zero, suc, ◌+◌, ◌*◌, Bool, true, false, cond, ◌&&◌, Option, Some, None, List, [], ◌∷◌, ◌++◌, leb, length, get_or, take, drop}
 
 abbrev pub section : List ℕ → List ℕ
 section ws = length ws ∷ ws
@@ -26,6 +26,10 @@ section_at k l = words_of_first (behind k l)
 abbrev pub has_first : List ℕ → Bool
 has_first [] = false
 has_first (n ∷ l) = leb n (length l)
+
+-- Where it ends, in bytes, if it is whole.
+abbrev pub first_end : List ℕ → Option ℕ
+first_end ws = cond (has_first ws) (Some (4 * (1 + get_or ws 0 0))) None
 
 unfoldable pub is_cut : ℕ → List ℕ → Bool
 is_cut zero [] = true

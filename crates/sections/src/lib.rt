@@ -3,7 +3,7 @@
 
 ghost use Rattle.std.specs.Prelude.{◌≡◌, ◌≤◌, ◌%◌, length, get_or, drop};
 ghost use Rattle.sections.specs.Words.{words_in};
-ghost use Rattle.sections.specs.Sections.{is_cut, behind, has_first, words_of_first, section_at};
+ghost use Rattle.sections.specs.Sections.{is_cut, behind, first_end, words_of_first, section_at};
 
 use big_endian::read_word;
 
@@ -17,55 +17,44 @@ pub fn word_at(bytes: &[u8], i: usize) -> u32
     0
 }
 
-// Whether a section stands at the beginning, whole.
-fn has_first(bytes: &[u8]) -> bool
-    ensures { result ≡ has_first (words_in bytes.now) }
+// Where the section at the beginning ends, in bytes, if a whole one stands there.
+fn first_end(bytes: &[u8]) -> Option<usize>
+    ensures { result ≡ first_end (words_in bytes.now) }
 {
     if bytes.len() < 4 {
-        return false;
-    }
-    let n = word_at(bytes, 0) as usize;
-    n <= bytes.len() / 4 - 1
-}
-
-// Its length with its count, in bytes; all bytes where it is not whole.
-fn first_length(bytes: &[u8]) -> usize
-    ensures { (result ≤ length bytes.now) × (words_in (drop result bytes.now) ≡ behind 1 (words_in bytes.now)) }
-{
-    if bytes.len() < 4 {
-        return bytes.len();
+        return None;
     }
     let n = word_at(bytes, 0) as usize;
     if bytes.len() / 4 - 1 < n {
-        return bytes.len();
+        return None;
     }
-    4 * (1 + n)
+    Some(4 * (1 + n))
 }
 
-// Its words; where it is not whole, those that there are. What is given is whole words, so that its bytes are fixed by them.
+// The words of the section at the beginning; where it is not whole, those that there are. What is given is whole words, so that its
+// bytes are fixed by them.
 fn first_words(bytes: &[u8]) -> &[u8]
     ensures { (words_in result.now ≡ words_of_first (words_in bytes.now)) × (length result.now % 4 ≡ 0) }
 {
     if bytes.len() < 4 {
         return &bytes[0..0];
     }
-    let n = word_at(bytes, 0) as usize;
-    if bytes.len() / 4 - 1 < n {
+    let Some(end) = first_end(bytes) else {
         return &bytes[4..4 * (bytes.len() / 4)];
-    }
-    &bytes[4..4 * (1 + n)]
+    };
+    &bytes[4..end]
 }
 
-// Where the first k sections end.
+// Where the first k sections end: at the end of all bytes, where one is not whole.
 fn end_of(bytes: &[u8], k: u32) -> usize
     ensures { (result ≤ length bytes.now) × (words_in (drop result bytes.now) ≡ behind k (words_in bytes.now)) }
 {
     let mut at = 0;
-    let mut left = k;
-    while 0 < left {
-        let n = first_length(&bytes[at..]);
-        at = at + n;
-        left = left - 1;
+    for _ in 0..k {
+        let Some(end) = first_end(&bytes[at..]) else {
+            return bytes.len();
+        };
+        at += end;
     }
     at
 }
@@ -74,8 +63,7 @@ fn end_of(bytes: &[u8], k: u32) -> usize
 pub fn section_at(bytes: &[u8], k: u32) -> &[u8]
     ensures { (words_in result.now ≡ section_at k (words_in bytes.now)) × (length result.now % 4 ≡ 0) }
 {
-    let at = end_of(bytes, k);
-    first_words(&bytes[at..])
+    first_words(&bytes[end_of(bytes, k)..])
 }
 
 // Whether the words are k sections, and no word is behind them.
@@ -83,14 +71,11 @@ pub fn is_cut(bytes: &[u8], k: u32) -> bool
     ensures { result ≡ is_cut k (words_in bytes.now) }
 {
     let mut at = 0;
-    let mut left = k;
-    while 0 < left {
-        if !has_first(&bytes[at..]) {
+    for _ in 0..k {
+        let Some(end) = first_end(&bytes[at..]) else {
             return false;
-        }
-        let n = first_length(&bytes[at..]);
-        at = at + n;
-        left = left - 1;
+        };
+        at += end;
     }
     bytes.len() - at < 4
 }

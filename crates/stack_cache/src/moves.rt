@@ -11,12 +11,10 @@ pub fn spill(area: &mut [u8], cache: &[u32], lo: u32, ss: u32, words: u32)
     ensures { area.new ≡ spilled cache.now lo area.old (below words ss) }
 {
     let mut end = ss;
-    let mut left = words;
-    while 0 < left {
+    for _ in 0..words {
         let a = sub(end, 4);
         write_word(&mut *area, sub(a, lo), cache_word(cache, a));
         end = a;
-        left = left - 1;
     }
 }
 
@@ -25,10 +23,8 @@ pub fn fill(area: &[u8], cache: &mut [u32], lo: u32, ss: u32, words: u32)
     ensures { cache.new ≡ filled area.now lo cache.old (above words ss) }
 {
     let mut a = ss;
-    let mut left = words;
-    while 0 < left {
+    for _ in 0..words {
         put_cache_word(&mut *cache, a, read_word(area, sub(a, lo)));
         a = add(a, 4);
-        left = left - 1;
     }
 }

@@ -1,7 +1,7 @@
 // What a stack instruction is to move, judged before anything moves. W may be any number here.
 #![tactic(auto)]
 
-ghost use Rattle.std.specs.Prelude.{◌≡◌, ◌-◌, min};
+ghost use Rattle.std.specs.Prelude.{◌≡◌};
 ghost use Rattle.stack_cache.specs.Stack.{planned};
 ghost use Rattle.stack_cache.specs.Count.{Window, inside};
 ghost use Rattle.stack_cache.specs.declared.StackControl.TheVariants.{Sres, Sens, Sfree, Sspill};
@@ -20,39 +20,6 @@ fn inside(lo: u32, hi: u32, from: u32, words: u32) -> bool
     (lo <= from) & ((from as u64) + 4 * (words as u64) <= (hi as u64))
 }
 
-// Whether the words that a stack instruction spills may be spilled, and whether those that it fills may be filled.
-fn spill_open(lo: u32, hi: u32, from: u32, words: u32) -> bool
-    ensures { result ≡ inside lo hi from words }
-{
-    inside(lo, hi, from, words)
-}
-
-fn fill_open(lo: u32, hi: u32, from: u32, words: u32) -> bool
-    ensures { result ≡ inside lo hi from words }
-{
-    inside(lo, hi, from, words)
-}
-
-// a - b, or 0 where b is greater.
-fn saturating_sub(a: u32, b: u64) -> u32
-    ensures { result ≡ a - b }
-{
-    let wide = a as u64;
-    if wide <= b {
-        return 0;
-    }
-    (wide - b) as u32
-}
-
-fn min(a: u32, b: u32) -> u32
-    ensures { result ≡ min a b }
-{
-    if b < a {
-        return b;
-    }
-    a
-}
-
 // sres: all between the new st and ss that is more than W words is spilled.
 fn sres(w: u32, lo: u32, hi: u32, st: u32, ss: u32, n: u32) -> Result<Plan, Refusal>
     requires { Window w st ss }
@@ -65,9 +32,9 @@ fn sres(w: u32, lo: u32, hi: u32, st: u32, ss: u32, n: u32) -> Result<Plan, Refu
         return Err(Refusal::Window);
     }
     let top = st - 4 * n;
-    let spilled = saturating_sub(ss - top, 4 * (w as u64)) / 4;
+    let spilled = ((ss - top) as u64).saturating_sub(4 * (w as u64)) as u32 / 4;
     let end = ss - 4 * spilled;
-    if spill_open(lo, hi, end, spilled) {
+    if inside(lo, hi, end, spilled) {
         return Ok(Plan {
             st: top,
             ss: end,
@@ -86,8 +53,8 @@ fn sens(w: u32, lo: u32, hi: u32, st: u32, ss: u32, n: u32) -> Result<Plan, Refu
     if w < n {
         return Err(Refusal::Window);
     }
-    let filled = saturating_sub(n, ((ss - st) / 4) as u64);
-    if fill_open(lo, hi, ss, filled) {
+    let filled = n.saturating_sub((ss - st) / 4);
+    if inside(lo, hi, ss, filled) {
         return Ok(Plan {
             st,
             ss: ss + 4 * filled,
@@ -129,9 +96,9 @@ fn sspill(w: u32, lo: u32, hi: u32, st: u32, ss: u32, n: u32) -> Result<Plan, Re
     requires { Window w st ss }
     ensures { result ≡ planned Sspill w lo hi st ss n }
 {
-    let spilled = min(n, (ss - st) / 4);
+    let spilled = n.min((ss - st) / 4);
     let end = ss - 4 * spilled;
-    if spill_open(lo, hi, end, spilled) {
+    if inside(lo, hi, end, spilled) {
         return Ok(Plan {
             st,
             ss: end,

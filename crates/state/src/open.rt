@@ -1,5 +1,5 @@
 // The one way to a fresh state.
-ghost use Rattle.std.specs.Prelude.{◌≡◌, length, replicate};
+ghost use Rattle.std.specs.Prelude.{◌≡◌};
 ghost use Rattle.method_cache.specs.Words.{FixedHeld};
 ghost use Rattle.core_state.specs.State.{fresh, blank};
 ghost use Rattle.settings.specs.Setup.{setup, buffers};
@@ -13,16 +13,6 @@ use core_state::{WaitingLoad, WaitingTransfer};
 use products::Products;
 use replay::Replay;
 use settings::Config;
-
-fn clear(cache: &mut [u32])
-    ensures { cache.new ≡ replicate (length cache.old) 0 }
-{
-    let mut i = 0;
-    while i < cache.len() {
-        cache[i] = 0;
-        i += 1;
-    }
-}
 
 impl State {
     // The state that is all zero, p0 too. It stands where there is no state to hand back; every step and run refuses it.
@@ -97,7 +87,7 @@ impl State {
                 state: State::blank(),
             };
         }
-        clear(&mut *cache);
+        cache.fill(0);
         Opened {
             answer: Ok(()),
             state: State::fresh(code.len() as u32, config.hi, entry),

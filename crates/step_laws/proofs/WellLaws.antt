@@ -1,7 +1,6 @@
 -- A bundle of any code keeps a state well formed: the register of a load is one of 32 by its field alone.
-use Rattle.std.specs.Prelude.{ℕ, Bool, cond, ◌≡◌, Ok, Err}
+use Rattle.std.specs.Prelude.{ℕ, Bool, cond, ◌≡◌, Option, None, Some, Ok, Err}
 use Rattle.std.proofs.Math.Bool.{true, false}
-use Rattle.std.proofs.Math.Option.{Option, none, some}
 use Rattle.std.proofs.Math.Path.{refl}
 use Rattle.std.proofs.Common.{sym, subst, arith}
 use borrow.Author.Tests.{le-leb}
@@ -76,12 +75,12 @@ module _ (b : Buffers) (s : Start) where
     where
       go : (t : Bool) (l : Option AluOperation) (o : Option Operation) (a : Option AluOperation) → IfSome OperationInRange o
           → load_ok (load_begun b (slot_one s (cond t (long (guard_of first) l (two (guard_of first) o (guard_of second) a)) (one (guard_of first) o)))) ≡ true
-      go true (some l) o a p = long_ok (guard_of first) l
-      go true none (some o) (some a) p = instruction_ok (guard_of first) o p
-      go true none (some o) none p = refl
-      go true none none a p = refl
-      go false l (some o) a p = instruction_ok (guard_of first) o p
-      go false l none a p = refl
+      go true (Some l) o a p = long_ok (guard_of first) l
+      go true None (Some o) (Some a) p = instruction_ok (guard_of first) o p
+      go true None (Some o) None p = refl
+      go true None None a p = refl
+      go false l (Some o) a p = instruction_ok (guard_of first) o p
+      go false l None a p = refl
 
 -- A bundle, whatever it answers, keeps a state well formed: its parts by what is written, the blocks held since 13 describes no lookup.
 pub bundle_well_formed : (g : Settings) (x : Setup) (s : State) (b : Buffers) → capacity_ok x.method ≡ true → well_formed x s ≡ true → well_formed x (bundle g x s b).state ≡ true

@@ -1,5 +1,6 @@
 -- A lent buffer of which the bytes at its front are used, and texts put behind them.
-use Rattle.std.specs.Prelude.{ℕ, ◌+◌, cond, List, [], ◌∷◌, length, set, ltb}
+use Rattle.std.specs.Prelude.{ℕ, ◌+◌, ◌≡◌, cond, List, [], ◌∷◌, length, set, ltb}
+use Rattle.text.specs.declared.page.Page.{Page as Lent}
 
 -- How many bytes are used, and the whole buffer.
 pub record Page : Type 0 where
@@ -17,3 +18,12 @@ with_byte p b = cond (ltb p.used (length p.bytes)) (page (p.used + 1) (set p.byt
 unfoldable pub with_text : Page → List ℕ → Page
 with_text p [] = p
 with_text p (b ∷ s) = with_text (with_byte p b) s
+
+-- The page that a lent buffer holds.
+abbrev pub shown : Lent → Page
+shown p = page p.used p.out.now
+
+-- A text is put, and the buffer is still the same one.
+pub record Puts (before after : Lent) (text : List ℕ) : Type 0 where
+  pub same : after.out.ghost_name ≡ before.out.ghost_name
+  pub put : shown after ≡ with_text (shown before) text

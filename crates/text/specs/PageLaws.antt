@@ -1,7 +1,9 @@
 -- Laws of a page: what it holds where a text fits and where nothing does, and texts put one after the other.
 use Rattle.std.specs.Prelude.{ℕ, suc, ◌+◌, ◌≤◌, ◌<◌, ◌≡◌, refl, List, [], ◌∷◌, ◌++◌, length, take, drop, get_or, set}
 use Rattle.std.proofs.Common.{sym, ap, ◌∙◌, append_assoc, add-one, arith, add-zero, length-set, drop_of_length-le, take-append-drop, drop-cons, take-suc-set, drop-set-lt, lt-ltb, le-ltb}
-use Rattle.text.specs.Page.{Page, page, with_byte, with_text}
+use Rattle.std.proofs.Math.Seq.{take-suc}
+use Rattle.text.specs.declared.page.Page.{Page as Lent}
+use Rattle.text.specs.Page.{Page, page, with_byte, with_text, shown, Puts}
 
 -- A text that fits stands behind what was used, and the rest of the buffer is as it was.
 pub text_fits : (used : ℕ) (bytes s : List ℕ) → used + length s ≤ length bytes
@@ -34,6 +36,9 @@ text_append p (b ∷ s) t = text_append (with_byte p b) s t
 pub text_then : (p q r : Page) (s t : List ℕ) → q ≡ with_text p s → r ≡ with_text q t → r ≡ with_text p (s ++ t)
 text_then p q r s t e f = f ∙ ap (λ (x : Page). with_text x t) e ∙ sym (text_append p s t)
 
+pub text_both : (p : Page) (s t : List ℕ) → with_text (with_text p s) t ≡ with_text p (s ++ t)
+text_both p s t = sym (text_append p s t)
+
 pub text_none : (p : Page) → with_text p [] ≡ p
 unfolding with_text
 text_none p = refl
@@ -49,3 +54,38 @@ text_step p s i h = rw (drop-cons s i 0 h, add-one i)
 pub text_end : (p : Page) (s : List ℕ) (i : ℕ) → length s ≤ i → p ≡ with_text p (drop i s)
 unfolding with_text
 text_end p s i h = rw (drop_of_length-le s {i = i} h)
+
+-- What a proof that texts were put on a page one after the other wants: `#[tactic(auto, using(text::specs::PageLaws::texts))]`.
+pub ruleset texts = (text_both, text_none)
+
+-- The same of a lent page.
+pub puts_none : (p : Lent) → Puts p p []
+unfolding with_text
+puts_none p = record { same = refl; put = refl }
+
+pub puts_then : (p q r : Lent) (s t : List ℕ) → Puts p q s → Puts q r t → Puts p r (s ++ t)
+puts_then p q r s t h k = record { same = k.same ∙ h.same; put = text_then (shown p) (shown q) (shown r) s t h.put k.put }
+
+-- The next byte of a text is put.
+pub puts_step : (p q r : Lent) (s : List ℕ) (i : ℕ) → i < length s → Puts p q (take i s) → Puts q r (get_or s i 0 ∷ []) → Puts p r (take (i + 1) s)
+puts_step p q r s i h k l = rw (add-one i, take-suc s i 0 h) (puts_then p q r (take i s) (get_or s i 0 ∷ []) k l)
+
+-- What is left to put on a page, of a text that was to be put on it before.
+pub record Leaves (before now : Lent) (rest text : List ℕ) : Type 0 where
+  pub same : now.out.ghost_name ≡ before.out.ghost_name
+  pub left : with_text (shown now) rest ≡ with_text (shown before) text
+
+pub leaves_all : (p : Lent) (s : List ℕ) → Leaves p p s s
+leaves_all p s = record { same = refl; left = refl }
+
+pub leaves_less : (p q r : Lent) (whole s t rest : List ℕ) → Leaves p q t whole → t ≡ s ++ rest → Puts q r s → Leaves p r rest whole
+leaves_less p q r whole s t rest h e k = record {
+  same = k.same ∙ h.same;
+  left = ap (λ (x : Page). with_text x rest) k.put ∙ sym (text_append (shown q) s rest) ∙ ap (with_text (shown q)) (sym e) ∙ h.left;
+}
+
+pub leaves_equal : (p q : Lent) (whole t rest : List ℕ) → Leaves p q t whole → t ≡ rest → Leaves p q rest whole
+leaves_equal p q whole t rest h e = rw (← e) h
+
+pub leaves_none : (p q : Lent) (whole t : List ℕ) → Leaves p q t whole → t ≡ [] → Puts p q whole
+leaves_none p q whole t h e = record { same = h.same; put = sym (text_none (shown q)) ∙ ap (with_text (shown q)) (sym e) ∙ h.left }

@@ -111,6 +111,11 @@ row_next t (suc row) i h e z =
     rw (drop-cons t i 0 h, add-one i, e, less)
 
 -- Any other byte is one of the row, or passed over.
+pub row_more : (t : List ℕ) (row i : ℕ) → i < length t → (get_or t i 0 ≡ 10 → ⊥) → row ≡ 0
+    → row_text (drop i t) row ≡ (get_or t i 0 ∷ []) ++ row_text (drop (i + 1) t) row
+unfolding row_text
+row_more t row i h e z = rw (z, drop-cons t i 0 h, add-one i, ne_eqb (get_or t i 0) 10 e)
+
 pub row_byte : (p : Page) (t : List ℕ) (row i : ℕ) → i < length t → (get_or t i 0 ≡ 10 → ⊥) → row ≡ 0
     → with_text (with_byte p (get_or t i 0)) (row_text (drop (i + 1) t) row) ≡ with_text p (row_text (drop i t) row)
 unfolding row_text with_text

@@ -1,56 +1,76 @@
-// Texts put into a lent buffer, behind the bytes of it that are used. Each function answers how many are used then. What the
-// buffer has no room for is left out.
-ghost use Rattle.std.specs.Prelude.{◌≡◌};
+// A lent buffer of which the bytes at its front are used, and texts put behind them. What the buffer has no room for is left out.
+ghost use Rattle.std.specs.Prelude.{◌≡◌, [], ◌∷◌, take};
 ghost use Rattle.text.specs.Number.{decimal_text, word_text, byte_text};
-ghost use Rattle.text.specs.Page.{page, with_byte, with_text};
+ghost use Rattle.text.specs.Page.{Puts, page, shown};
 
 use crate::digits::put_hex;
 
-pub fn put_byte(out: &mut [u8], used: usize, b: u8) -> usize
-    ensures { page result out.new ≡ with_byte (page used out.old) b }
-{
-    if used < out.len() {
-        out[used] = b;
-        return used + 1;
+#[derive(Drop)]
+pub struct Page<'a> {
+    pub out: &'a mut [u8],
+    pub used: usize,
+}
+
+impl<'a> Page<'a> {
+    // An empty page.
+    pub fn new(out: &'a mut [u8]) -> Page<'a>
+        ensures same { result.out.ghost_name ≡ out.entry.ghost_name }
+        ensures empty { shown result ≡ page 0 out.old }
+    {
+        Page { out, used: 0 }
     }
-    used
-}
 
-pub fn put(out: &mut [u8], used: usize, s: &[u8]) -> usize
-    ensures { page result out.new ≡ with_text (page used out.old) s.now }
-{
-    let mut at = used;
-    let mut i = 0;
-    while i < s.len() {
-        at = put_byte(&mut *out, at, s[i]);
-        i += 1;
+    // What stands on the page.
+    pub fn text(&self) -> &[u8]
+        ensures { result.now ≡ take self.now.used self.now.out.now }
+    {
+        let end = self.used.min(self.out.len());
+        &self.out[..end]
     }
-    at
-}
 
-// A number in decimal.
-pub fn put_decimal(out: &mut [u8], used: usize, n: u64) -> usize
-    ensures { page result out.new ≡ with_text (page used out.old) (decimal_text n) }
-{
-    let mut digits = [0u8; 20];
-    let k = io::decimal(n, &mut digits);
-    put(&mut *out, used, &digits[..k])
-}
+    pub fn put_byte(&mut self, b: u8)
+        ensures { Puts self.old self.new (b ∷ []) }
+    {
+        if self.used < self.out.len() {
+            let at = self.used;
+            self.out[at] = b;
+            self.used = at + 1;
+        }
+    }
 
-// A word as eight hexadecimal digits.
-pub fn put_word(out: &mut [u8], used: usize, w: u32) -> usize
-    ensures { page result out.new ≡ with_text (page used out.old) (word_text w) }
-{
-    let mut digits = [0u8; 8];
-    put_hex(w, &mut digits);
-    put(&mut *out, used, &digits)
-}
+    pub fn put(&mut self, s: &[u8])
+        ensures { Puts self.old self.new s.now }
+    {
+        for b in s {
+            self.put_byte(*b);
+        }
+    }
 
-// A byte as two hexadecimal digits.
-pub fn put_two_digits(out: &mut [u8], used: usize, b: u8) -> usize
-    ensures { page result out.new ≡ with_text (page used out.old) (byte_text b) }
-{
-    let mut digits = [0u8; 2];
-    put_hex(b as u32, &mut digits);
-    put(&mut *out, used, &digits)
+    // A number in decimal.
+    #[tactic(auto, using(crate::specs::DecimalLaws::decimal_text_lem))]
+    pub fn put_decimal(&mut self, n: u64)
+        ensures { Puts self.old self.new (decimal_text n) }
+    {
+        let mut digits = [0u8; 20];
+        let k = io::decimal(n, &mut digits);
+        self.put(&digits[..k]);
+    }
+
+    // A word as eight hexadecimal digits.
+    pub fn put_word(&mut self, w: u32)
+        ensures { Puts self.old self.new (word_text w) }
+    {
+        let mut digits = [0u8; 8];
+        put_hex(w, &mut digits);
+        self.put(&digits);
+    }
+
+    // A byte as two hexadecimal digits.
+    pub fn put_two_digits(&mut self, b: u8)
+        ensures { Puts self.old self.new (byte_text b) }
+    {
+        let mut digits = [0u8; 2];
+        put_hex(b as u32, &mut digits);
+        self.put(&digits);
+    }
 }

@@ -1,30 +1,27 @@
 // Tables of texts: rows that each end with a line end.
 ghost use Rattle.std.specs.Prelude.{◌≡◌};
-ghost use Rattle.text.specs.Page.{page, with_text};
+ghost use Rattle.text.specs.Page.{Puts};
 ghost use Rattle.text.specs.Table.{row_text, row_of, met_to};
 
-use crate::page::put_byte;
+use crate::page::Page;
 
-// The row of a number; nothing where there is none.
-pub fn put_row(out: &mut [u8], used: usize, table: &[u8], row: usize) -> usize
-    ensures { page result out.new ≡ with_text (page used out.old) (row_text table.now row) }
-{
-    let mut at = used;
-    let mut left = row;
-    let mut i = 0;
-    while i < table.len() {
-        let b = table[i];
-        if b == b'\n' {
-            if left == 0 {
-                return at;
+impl<'a> Page<'a> {
+    // Puts the row of a number; nothing where there is none.
+    pub fn put_row(&mut self, table: &[u8], row: usize)
+        ensures { Puts self.old self.new (row_text table.now row) }
+    {
+        let mut left = row;
+        for b in table {
+            if *b == b'\n' {
+                if left == 0 {
+                    return;
+                }
+                left -= 1;
+            } else if left == 0 {
+                self.put_byte(*b);
             }
-            left -= 1;
-        } else if left == 0 {
-            at = put_byte(&mut *out, at, b);
         }
-        i += 1;
     }
-    at
 }
 
 // How many bytes of a text are met with one byte more of a row: one more than it has where they differ.

@@ -7,13 +7,13 @@ use crate::sign::{signed, unsigned};
 pub fn shift_left(a: u32, n: u32) -> u32
     ensures { result ≡ shift_left a n }
 {
-    a << (n % 32)
+    a.wrapping_shl(n)
 }
 
 pub fn shift_right(a: u32, n: u32) -> u32
     ensures { result ≡ shift_right a n }
 {
-    a >> (n % 32)
+    a.wrapping_shr(n)
 }
 
 // The shift that copies the sign.
@@ -44,7 +44,7 @@ pub fn xor(a: u32, b: u32) -> u32
 pub fn nor(a: u32, b: u32) -> u32
     ensures { result ≡ nor a b }
 {
-    u32::MAX - (a | b)
+    !(a | b)
 }
 
 // Whether bit n of a is set.

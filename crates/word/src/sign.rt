@@ -19,17 +19,14 @@ fn reading(n: u32, half: u32) -> i32
 pub fn signed(a: u32) -> i32
     ensures { result ≡ signed 32 a }
 {
-    reading(a, 0x8000_0000)
+    a.cast_signed()
 }
 
-// The word that is the number z in two's complement. A negative z cannot be cast, but its complement can.
+// The word that is the number z in two's complement.
 pub fn unsigned(z: i32) -> u32
     ensures { result ≡ of_z w32 z }
 {
-    if z < 0 {
-        return !((!z) as u32);
-    }
-    z as u32
+    z.cast_unsigned()
 }
 
 // The low 22 bits of n, read as signed: the field of a branch.
@@ -53,16 +50,16 @@ pub fn less_equal_signed(a: u32, b: u32) -> bool
     signed(a) <= signed(b)
 }
 
-// The low 8 bits of n, extended to a word by their sign.
-pub fn sign_extend_8(n: u32) -> u32
-    ensures { result ≡ sign_extend 8 n }
+// The low BITS bits of n, extended to a word by their sign. No bits are 0, and of 32 or more the word is what it was.
+pub fn sign_extend<const BITS: u32>(n: u32) -> u32
+    ensures { result ≡ sign_extend BITS n }
 {
-    unsigned(reading(n % 256, 128))
-}
-
-// The low 16 bits of n, extended to a word by their sign.
-pub fn sign_extend_16(n: u32) -> u32
-    ensures { result ≡ sign_extend 16 n }
-{
-    unsigned(reading(n % 65536, 32768))
+    if BITS == 0 {
+        return 0;
+    }
+    if 32 <= BITS {
+        return n;
+    }
+    let half = 1 << (BITS - 1);
+    unsigned(reading(n % (half + half), half))
 }

@@ -1,7 +1,6 @@
 use Prim.Native.Nat.{◌%◌}
 use mathlib.Core.Path.{sym}
 use lib.Seq.{set_out}
-use borrow.Author.Rules.{rules}
 use Rattle.big_endian.proofs.put.Goals as goal
 
 pub returns-else-i-s : goal.returns-else-i-s

@@ -1,5 +1,4 @@
 use Rattle.replay.specs.Replay.{handler_at}
-use borrow.Author.Rules.{rules}
 use Rattle.replay.proofs.handler_at.Goals as goal
 
 pub returns : goal.returns

@@ -1,6 +1,5 @@
 use mathlib.Core.Path.{ap, ◌∙◌}
 use Rattle.replay.specs.Replay.{handler_at}
-use borrow.Author.Rules.{rules}
 use Rattle.replay.proofs.handler_of.Goals as goal
 
 pub returns : goal.returns

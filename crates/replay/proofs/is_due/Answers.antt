@@ -1,6 +1,5 @@
 use mathlib.Core.Path.{sym}
 use Rattle.replay.specs.ReplayLaws.{due_end, due_before}
-use borrow.Author.Rules.{rules}
 use Rattle.replay.proofs.is_due.Goals as goal
 
 pub returns-then-list-replay : goal.returns-then-list-replay

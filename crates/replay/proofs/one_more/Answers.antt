@@ -3,7 +3,6 @@ use mathlib.Core.Bool.{Bool, cond}
 use mathlib.Core.Path.{sym, ap}
 use borrow.Author.Tests.{lt-ltb, le-ltb}
 use Rattle.replay.specs.Replay.{one_more}
-use borrow.Author.Rules.{rules}
 use Rattle.replay.proofs.one_more.Goals as goal
 
 pub returns-then-done-lt4294967295 : goal.returns-then-done-lt4294967295

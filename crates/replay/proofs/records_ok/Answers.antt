@@ -1,8 +1,4 @@
-use Prim.Native.Nat.{◌-◌}
-use mathlib.Core.Path.{◌≡◌, sym, ◌∙◌}
-use native.Mathlib.Omega.{arith}
-use borrow.Author.Rules.{rules}
-use Rattle.replay.specs.Replay.{records_ok}
+use mathlib.Core.Path.{sym, ◌∙◌}
 use Rattle.replay.specs.ReplayLaws.{records_wrong, records_right, records_end, records_all}
 use Rattle.replay.proofs.records_ok.Goals as goal
 
@@ -13,9 +9,6 @@ pub returns-then-vector-number : goal.returns-then-vector-number
 returns-then-vector-number c =
     let l = c.loop-i in
     sym (sym l.invariant ∙ records_wrong _ _ l.i l.least _ _ c.word_at-number.ensures c.word_at-vector.ensures c.loop-i-test.true c.if-vector-number.true)
-
-pub loop-i-smaller : goal.loop-i-smaller
-loop-i-smaller c = omega (arith, c.loop-i-test.true)
 
 pub loop-i-preserved : goal.loop-i-preserved
 loop-i-preserved c =

@@ -1,4 +1,3 @@
-use borrow.Author.Rules.{rules}
 use Rattle.replay.specs.ReplayLaws.{replay_judged}
 use Rattle.replay.proofs.replay_ok.Goals as goal
 

@@ -1,6 +1,5 @@
 use mathlib.Core.Path.{◌∙◌}
 use Rattle.sections.specs.FoundLaws.{word_found, word_past}
-use borrow.Author.Rules.{rules}
 use Rattle.sections.proofs.word_at.Goals as goal
 
 pub returns-then-i-bytes : goal.returns-then-i-bytes

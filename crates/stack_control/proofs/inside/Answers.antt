@@ -1,5 +1,4 @@
 use borrow.Author.Tests.{eq-eqb, ne_eqb}
-use borrow.Author.Rules.{rules}
 use Rattle.stack_control.proofs.inside.Goals as goal
 
 pub returns-then-words-eq0 : goal.returns-then-words-eq0

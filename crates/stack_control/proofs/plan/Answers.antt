@@ -1,7 +1,6 @@
 use mathlib.Core.Path.{sym, ◌∙◌}
 use Rattle.stack_cache.specs.Stack.{planned}
 use Rattle.stack_control.specs.PlanLaws.{window}
-use borrow.Author.Rules.{rules}
 use Rattle.stack_control.proofs.plan.Goals as goal
 
 pub returns-then-bad_window : goal.returns-then-bad_window

@@ -5,7 +5,6 @@ use native.Mathlib.Nat.{le_of_lt, max-eq_left, max-eq_right}
 use Rattle.stack_cache.specs.Stack.{bad_amount, planned, top_after}
 use Rattle.stack_cache.specs.Count.{spill_count, fill_count, ss_after}
 use Rattle.stack_control.specs.PlanLaws.{window_good, accept_sfree, planned_moves}
-use borrow.Author.Rules.{rules}
 use Rattle.stack_control.proofs.sfree.Goals as goal
 
 pub returns-then-sum-ge4294967296 : goal.returns-then-sum-ge4294967296

@@ -3,16 +3,15 @@ use Rattle.stack_cache.specs.declared.StackControl.TheVariants.{Sspill}
 use Rattle.stack_cache.specs.Stack.{top_after}
 use Rattle.stack_cache.specs.Count.{spill_count, fill_count, ss_after}
 use Rattle.stack_control.specs.PlanLaws.{accept_sspill, planned_moves, planned_outside}
-use borrow.Author.Rules.{rules}
 use Rattle.stack_control.proofs.sspill.Goals as goal
 
-pub returns-then-spill_open : goal.returns-then-spill_open
+pub returns-then-inside : goal.returns-then-inside
 unfolding spill_count fill_count ss_after top_after
-returns-then-spill_open c =
+returns-then-inside c =
     let a = c.args in
     let g = accept_sspill a.w a.st a.ss a.n c.requires in
     let r = c.min-spilled.ensures in
-    let f = rw r at (sym c.spill_open.ensures ∙ c.if-spill_open.true) in
+    let f = rw r at (sym c.inside.ensures ∙ c.if-inside.true) in
     rw r (sym (planned_moves Sspill a.w a.lo a.hi a.st a.ss a.n g c.ranges.ss.fits c.ranges.hi.fits f refl))
 
 pub returns : goal.returns
@@ -21,5 +20,5 @@ returns c =
     let a = c.args in
     let g = accept_sspill a.w a.st a.ss a.n c.requires in
     let r = c.min-spilled.ensures in
-    let f = rw r at (sym c.spill_open.ensures ∙ c.if-spill_open.false) in
+    let f = rw r at (sym c.inside.ensures ∙ c.if-inside.false) in
     sym (planned_outside Sspill a.w a.lo a.hi a.st a.ss a.n g c.ranges.ss.fits c.ranges.hi.fits (rw f))

@@ -2,7 +2,6 @@ use lib.ListN.{get_or-eq_default}
 use mathlib.Core.Path.{sym}
 use mathlib.Core.Bool.{false}
 use Rattle.alu_effects.specs.AluEffectLaws.{not_beq_false}
-use borrow.Author.Rules.{rules}
 use Rattle.alu_effects.proofs.either_slot.operand.Goals as goal
 
 pub returns : goal.returns

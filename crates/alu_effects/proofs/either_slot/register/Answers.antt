@@ -1,6 +1,5 @@
 use lib.ListN.{get_or-eq_default}
 use mathlib.Core.Path.{sym}
-use borrow.Author.Rules.{rules}
 use Rattle.alu_effects.proofs.either_slot.register.Goals as goal
 
 pub returns : goal.returns

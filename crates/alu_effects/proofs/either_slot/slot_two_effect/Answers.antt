@@ -4,7 +4,7 @@ use Rattle.alu_effects.proofs.either_slot.slot_two_effect.Goals as goal
 
 pub returns-then-operand : goal.returns-then-operand
 unfolding slot_two_effect
-returns-then-operand c = rw (sym c.operand.ensures ∙ c.if-operand.true) c.second_effect.ensures
+returns-then-operand c = rw (sym c.operand.ensures ∙ c.if-operand.true) c.alu_effect.ensures
 
 pub returns : goal.returns
 unfolding slot_two_effect

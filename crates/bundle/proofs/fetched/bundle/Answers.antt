@@ -32,7 +32,7 @@ returns-in-Ok c =
     let e = c.execute.ensures in
     let x = setup_of a.code.now a.g in
     record {
-      given = λ list. handed_read a.g (replaying list a.table.now x) a.registers.now a.predicates.now a.core a.held.now a.counts.now _ _ _ _ _ (sym c.fetch.ensures ∙ c.in-Ok.is) c.slot_one-one.ensures (c.slot_two-two.ensures a.core.specials a.core.fetch a.table.now)
+      given = λ list. handed_read a.g (replaying list a.table.now x) a.registers.now a.predicates.now a.core a.held.now a.counts.now _ _ _ _ _ (sym c.fetch.ensures ∙ c.in-Ok.is) c.slot_one-one.ensures c.slot_two-two.ensures
           (e.given ∙ ap (counted (counts_in a.counts.now)) (executed_replay list a.table.now a.g x _ _ _ _ _));
       canonical = e.canonical;
       held = e.held;

@@ -1,33 +1,17 @@
-use native.Mathlib.Omega.{arith}
-use Prim.Native.Nat.{ℕ, min}
-use mathlib.Core.Path.{◌≡◌, refl, ap, ◌∙◌}
-use Rattle.text.specs.Page.{page, with_text}
-use Rattle.case_report.specs.Changes.{texts, cache_change, cache_changes}
-use Rattle.case_report.specs.ChangesLaws.{texts_none, texts_more}
+use Rattle.std.specs.Prelude.{◌≡◌, min}
+use Rattle.std.proofs.Common.{arith}
+use Rattle.case_report.specs.Changes.{cache_changes}
+use Rattle.case_report.specs.ChangesLaws.{puts_no_texts, puts_texts}
 use Rattle.case_report.proofs.changes.put_cache.Goals as goal
 
 pub loop-k-init : goal.loop-k-init
-loop-k-init c = (refl, omega arith, texts_none _ _)
-
-pub put_cache_word-at-requires : goal.put_cache_word-at-requires
-put_cache_word-at-requires c = omega (arith, c.least-end.ensures.1)
-
-pub overflow_add-k : goal.overflow_add-k
-overflow_add-k c = omega arith
-
-pub loop-k-smaller : goal.loop-k-smaller
-loop-k-smaller c = omega arith
+loop-k-init c = puts_no_texts _ _
 
 pub loop-k-preserved : goal.loop-k-preserved
-loop-k-preserved c = let l = c.loop-k in
-    (c.put_cache_word-at.auto.out ∙ l.invariant.0, omega arith, texts_more _ _ _ _ l.k l.invariant.2 c.put_cache_word-at.ensures)
-
-pub shape_of-out : goal.shape_of-out
-shape_of-out c = c.loop-k.invariant.0
+loop-k-preserved c = let l = c.loop-k in puts_texts _ _ _ _ l.k l.invariant c.put_cache_word.ensures
 
 pub returns : goal.returns
 unfolding cache_changes
 returns c = let l = c.loop-k in
-    let a = c.args in
-    let e : l.k ≡ min a.n 513 = omega (arith, c.least-end.ensures.2) in
-    l.invariant.2 ∙ ap (λ (k : ℕ). with_text (page a.used a.out.now) (texts k (cache_change a.cache.now))) e
+    let e : l.k ≡ min c.args.n 513 = omega (arith, c.least-end.ensures.2) in
+    rw e at l.invariant

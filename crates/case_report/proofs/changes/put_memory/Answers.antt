@@ -1,18 +1,11 @@
-use native.Mathlib.Omega.{arith}
-use Prim.Native.Nat.{ℕ, ◌+◌, ◌-◌, min}
-use mathlib.Core.Path.{◌≡◌, ap, ◌∙◌}
-use lib.ListN.{take, drop}
-use Rattle.text.specs.Page.{page, with_text}
-use Rattle.case_report.specs.Changes.{word_changes, memory_changes}
+use Rattle.std.specs.Prelude.{◌≡◌, ◌+◌, ◌-◌, min}
+use Rattle.std.proofs.Common.{arith}
+use Rattle.case_report.specs.Changes.{memory_changes}
 use Rattle.case_report.proofs.changes.put_memory.Goals as goal
 
 pub returns : goal.returns
 unfolding memory_changes
-returns c = let a = c.args in
-    let p = page a.used a.out.now in
-    let l = c.least-end in
-    let f : l.result - 0 ≡ min a.n 65536 = omega (arith, l.ensures.2) in
-    let g : 65536 + l.result - 65536 ≡ min a.n 65536 = omega (arith, l.ensures.2) in
-    c.put_words.ensures
-    ∙ ap (λ (k : ℕ). with_text p (word_changes a.label.now (take k a.memory.now) (take (65536 + l.result - 65536) (drop 65536 a.memory.now)))) f
-    ∙ ap (λ (k : ℕ). with_text p (word_changes a.label.now (take (min a.n 65536) a.memory.now) (take k (drop 65536 a.memory.now)))) g
+returns c = let l = c.least-end in
+    let f : l.result - 0 ≡ min c.args.n 65536 = omega (arith, l.ensures.2) in
+    let g : 65536 + l.result - 65536 ≡ min c.args.n 65536 = omega (arith, l.ensures.2) in
+    rw (f, g) at c.put_words.ensures

@@ -1,37 +1,17 @@
-use native.Mathlib.Omega.{arith}
-use Prim.Native.Nat.{ℕ, ◌+◌, ◌/◌}
-use mathlib.Core.Path.{◌≡◌, refl, ap, ◌∙◌}
-use lib.ListN.{length}
-use Rattle.text.specs.Page.{page, with_text}
-use Rattle.case_report.specs.Changes.{texts, change_at, word_changes}
-use Rattle.case_report.specs.ChangesLaws.{texts_none, texts_more}
+use Rattle.std.specs.Prelude.{◌≡◌, ◌+◌, ◌/◌, length}
+use Rattle.std.proofs.Common.{arith}
+use Rattle.case_report.specs.Changes.{word_changes}
+use Rattle.case_report.specs.ChangesLaws.{puts_no_texts, puts_texts}
 use Rattle.case_report.proofs.changes.put_words.Goals as goal
 
-pub overflow_add-words : goal.overflow_add-words
-overflow_add-words c = omega arith
-
 pub loop-k-init : goal.loop-k-init
-loop-k-init c = (refl, omega arith, texts_none _ _)
-
-pub put_if_changed-at-requires : goal.put_if_changed-at-requires
-put_if_changed-at-requires c = (omega arith, c.requires)
-
-pub overflow_add-k : goal.overflow_add-k
-overflow_add-k c = omega arith
-
-pub loop-k-smaller : goal.loop-k-smaller
-loop-k-smaller c = omega arith
+loop-k-init c = puts_no_texts _ _
 
 pub loop-k-preserved : goal.loop-k-preserved
-loop-k-preserved c = let l = c.loop-k in
-    (c.put_if_changed-at.auto.out ∙ l.invariant.0, omega arith, texts_more _ _ _ _ l.k l.invariant.2 c.put_if_changed-at.ensures)
-
-pub shape_of-out : goal.shape_of-out
-shape_of-out c = c.loop-k.invariant.0
+loop-k-preserved c = let l = c.loop-k in puts_texts _ _ _ _ l.k l.invariant c.put_if_changed.ensures
 
 pub returns : goal.returns
 unfolding word_changes
 returns c = let l = c.loop-k in
-    let a = c.args in
-    let e : l.k ≡ length a.after.now / 4 + 1 = omega arith in
-    l.invariant.2 ∙ ap (λ (k : ℕ). with_text (page a.used a.out.now) (texts k (change_at a.label.now a.after.now a.before.now))) e
+    let e : l.k ≡ length c.args.after.now / 4 + 1 = omega arith in
+    rw e at l.invariant

@@ -14,9 +14,6 @@ loop-i-init c = (omega arith, refl, refl)
 pub bounds-bits-i : goal.bounds-bits-i
 bounds-bits-i c = omega (arith, c.loop-i-test.true, c.loop-i.invariant.1)
 
-pub loop-i-smaller : goal.loop-i-smaller
-loop-i-smaller c = omega arith
-
 pub loop-i-preserved : goal.loop-i-preserved
 loop-i-preserved c =
     let l = c.loop-i in

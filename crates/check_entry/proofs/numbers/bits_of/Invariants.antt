@@ -10,6 +10,3 @@ use Rattle.check_entry.proofs.numbers.bits_of.Given as goal
 
 abbrev pub invariant-loop-i : goal.invariant-loop-i
 invariant-loop-i l = (l.i ≤ 32) × (length l.bits ≡ 32) × (take l.i l.bits ++ predicates_of (32 - l.i) l.rest ≡ predicates_of 32 l.word)
-
-abbrev pub decreases-loop-i : goal.decreases-loop-i
-decreases-loop-i l = 32 - l.i

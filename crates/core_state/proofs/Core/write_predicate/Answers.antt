@@ -8,4 +8,4 @@ use Rattle.core_state.proofs.Core.write_predicate.Goals as goal
 
 pub returns : goal.returns
 unfolding with_predicate
-returns c = record { state = λ rs. ap (λ (l : List Bool). joined rs l c.args.self) c.write_predicate.ensures; transfer = refl; load = refl; products = refl }
+returns c = record { state = λ rs. ap (λ (l : List Bool). joined rs l c.args.self) c.write_later.ensures; transfer = refl; load = refl; products = refl }

@@ -8,4 +8,4 @@ use Rattle.core_state.proofs.Core.write_register.Goals as goal
 
 pub returns : goal.returns
 unfolding with_register
-returns c = record { state = λ ps. ap (λ (l : List ℕ). joined l ps c.args.self) c.write_register.ensures; transfer = refl; load = refl; products = refl }
+returns c = record { state = λ ps. ap (λ (l : List ℕ). joined l ps c.args.self) c.write_later.ensures; transfer = refl; load = refl; products = refl }

@@ -1,6 +1,5 @@
 use Rattle.word.specs.WordLaws.{product_double_word}
 use Rattle.fields.specs.GrowLaws.{grown_fits}
-use borrow.Author.Rules.{rules}
 use Rattle.fields.proofs.place.grow.Goals as goal
 
 pub overflow_mul-result : goal.overflow_mul-result

@@ -7,11 +7,11 @@ returns-in-Word c = rw (c.in-Word.is, ← c.load_word.ensures)
 
 pub returns-in-Half : goal.returns-in-Half
 unfolding load_scale extended
-returns-in-Half c = rw (c.in-Half.is, ← c.load_half.ensures, ← c.sign_extend_16.ensures)
+returns-in-Half c = rw (c.in-Half.is, ← c.load_half.ensures, ← c.sign_extend.ensures)
 
 pub returns-in-Byte : goal.returns-in-Byte
 unfolding load_scale extended
-returns-in-Byte c = rw (c.in-Byte.is, ← c.load_byte.ensures, ← c.sign_extend_8.ensures)
+returns-in-Byte c = rw (c.in-Byte.is, ← c.load_byte.ensures, ← c.sign_extend-in-Byte.ensures)
 
 pub returns-in-HalfUnsigned : goal.returns-in-HalfUnsigned
 unfolding load_scale extended

@@ -1,5 +1,4 @@
 use Rattle.memory.specs.Access.{stored}
-use borrow.Author.Rules.{rules}
 use Rattle.memory.proofs.access.store.Goals as goal
 
 pub returns-in-Stack : goal.returns-in-Stack

@@ -1,5 +1,4 @@
 use Rattle.memory.specs.Access.{store_scale}
-use borrow.Author.Rules.{rules}
 use Rattle.memory.proofs.access.store_bytes.Goals as goal
 
 pub returns-in-Word : goal.returns-in-Word

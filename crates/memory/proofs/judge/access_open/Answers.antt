@@ -1,5 +1,4 @@
 use Rattle.memory.specs.Access.{access_open}
-use borrow.Author.Rules.{rules}
 use Rattle.memory.proofs.judge.access_open.Goals as goal
 
 pub returns-in-Stack : goal.returns-in-Stack

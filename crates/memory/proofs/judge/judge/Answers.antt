@@ -1,6 +1,5 @@
 use borrow.Author.Tests.{ne_eqb}
 use Rattle.answers.specs.Test.{verdict}
-use borrow.Author.Rules.{rules}
 use Rattle.memory.proofs.judge.judge.Goals as goal
 
 pub returns-then-a-n-ne0 : goal.returns-then-a-n-ne0

@@ -1,4 +1,3 @@
-use borrow.Author.Rules.{rules}
 use Rattle.memory.proofs.judge.judge_load.Goals as goal
 
 pub returns : goal.returns

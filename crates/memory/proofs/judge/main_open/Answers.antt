@@ -1,7 +1,6 @@
 use Rattle.settings.specs.Setup.{touches}
 use Rattle.memory.specs.Access.{main_open}
 use mathlib.Core.Path.{refl}
-use borrow.Author.Rules.{rules}
 use Rattle.memory.proofs.judge.main_open.Goals as goal
 
 pub returns : goal.returns

@@ -1,24 +1,9 @@
-use Rattle.memory.specs.Access.{load_scale}
-use mathlib.Core.Path.{refl}
-use native.Mathlib.Omega.{arith}
+use Rattle.std.proofs.Common.{arith}
+use Rattle.memory.proofs.Scales.{load_few, shifted}
 use Rattle.memory.proofs.width.load_size.Goals as goal
 
-pub returns-in-Word : goal.returns-in-Word
-unfolding load_scale
-returns-in-Word c = rw c.in-Word.is (refl, omega arith)
+pub overflow_shl-result : goal.overflow_shl-result
+overflow_shl-result c = omega (arith, c.load_scale.ensures, load_few c.args.w)
 
-pub returns-in-Half : goal.returns-in-Half
-unfolding load_scale
-returns-in-Half c = rw c.in-Half.is (refl, omega arith)
-
-pub returns-in-Byte : goal.returns-in-Byte
-unfolding load_scale
-returns-in-Byte c = rw c.in-Byte.is (refl, omega arith)
-
-pub returns-in-HalfUnsigned : goal.returns-in-HalfUnsigned
-unfolding load_scale
-returns-in-HalfUnsigned c = rw c.in-HalfUnsigned.is (refl, omega arith)
-
-pub returns-in-ByteUnsigned : goal.returns-in-ByteUnsigned
-unfolding load_scale
-returns-in-ByteUnsigned c = rw c.in-ByteUnsigned.is (refl, omega arith)
+pub returns : goal.returns
+returns c = shifted _ _ c.load_scale.ensures (load_few c.args.w)

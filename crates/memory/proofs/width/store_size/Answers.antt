@@ -1,16 +1,9 @@
-use Rattle.memory.specs.Access.{store_scale}
-use mathlib.Core.Path.{refl}
-use native.Mathlib.Omega.{arith}
+use Rattle.std.proofs.Common.{arith}
+use Rattle.memory.proofs.Scales.{store_few, shifted}
 use Rattle.memory.proofs.width.store_size.Goals as goal
 
-pub returns-in-Word : goal.returns-in-Word
-unfolding store_scale
-returns-in-Word c = rw c.in-Word.is (refl, omega arith)
+pub overflow_shl-result : goal.overflow_shl-result
+overflow_shl-result c = omega (arith, c.store_scale.ensures, store_few c.args.w)
 
-pub returns-in-Half : goal.returns-in-Half
-unfolding store_scale
-returns-in-Half c = rw c.in-Half.is (refl, omega arith)
-
-pub returns-in-Byte : goal.returns-in-Byte
-unfolding store_scale
-returns-in-Byte c = rw c.in-Byte.is (refl, omega arith)
+pub returns : goal.returns
+returns c = shifted _ _ c.store_scale.ensures (store_few c.args.w)

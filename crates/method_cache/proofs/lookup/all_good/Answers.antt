@@ -1,7 +1,6 @@
-use mathlib.Core.Path.{◌≡◌, refl, sym, ap, ◌∙◌}
+use mathlib.Core.Path.{refl, sym, ap, ◌∙◌}
 use native.Mathlib.Omega.{arith}
-use Prim.Native.Nat.{◌+◌, ◌-◌}
-use lib.ListN.{drop}
+use Prim.Native.Nat.{◌+◌}
 use Rattle.method_cache.specs.MethodCache.{held_good}
 use Rattle.method_cache.specs.Words.{held_in}
 use Rattle.method_cache.specs.LoopLaws.{good_bad, good_next, past_end}
@@ -21,12 +20,6 @@ returns-then-is_bad-is_held c =
     let n = c.held_count-n.ensures.0 in
     let p = c.loop-i-test.true in
     sym (sym l.invariant ∙ good_bad h l.i (l.i + 1) refl (omega (arith, p, n)) a.method a.code.now _ _ _ c.held_base-base.ensures c.is_bad.ensures c.is_held.ensures.0 c.if-is_bad-is_held.true)
-
-pub overflow_add-i-in-loop-i : goal.overflow_add-i-in-loop-i
-overflow_add-i-in-loop-i c = omega (arith, c.loop-i-test.true)
-
-pub loop-i-smaller : goal.loop-i-smaller
-loop-i-smaller c = omega (arith, c.loop-i-test.true)
 
 pub loop-i-preserved : goal.loop-i-preserved
 loop-i-preserved c =

@@ -1,10 +1,10 @@
 use mathlib.Core.Path.{◌≡◌, refl, sym, ap, ◌∙◌}
 use mathlib.Core.Bool.{Bool, cond}
 use native.Mathlib.Omega.{arith}
-use Prim.Native.Nat.{◌+◌, ◌-◌, ◌≤◌}
-use lib.ListN.{length, drop}
+use Prim.Native.Nat.{◌+◌}
+use lib.ListN.{drop}
 use borrow.Author.Rules.{rules}
-use Rattle.method_cache.specs.MethodCache.{size_at, bytes_held, room_for}
+use Rattle.method_cache.specs.MethodCache.{size_at, room_for}
 use Rattle.method_cache.specs.Words.{held_in}
 use Rattle.method_cache.specs.LoopLaws.{bytes_step, room_step, room_judged, past_end}
 use Rattle.method_cache.proofs.WordLaws.{held_few}
@@ -42,12 +42,6 @@ overflow_sub-bytes c =
     let size = c.size_at-gone.ensures ∙ ap (size_at a.code.now) c.held_base.ensures in
     omega (arith, l.invariant.1, size, bytes_step h l.k (l.k + 1) refl (omega (arith, p, n)) a.code.now)
 
-pub overflow_add-k : goal.overflow_add-k
-overflow_add-k c = omega (arith, c.loop-k-test.true)
-
-pub loop-k-smaller : goal.loop-k-smaller
-loop-k-smaller c = omega (arith, c.loop-k-test.true)
-
 pub loop-k-preserved : goal.loop-k-preserved
 loop-k-preserved c =
     let l = c.loop-k in
@@ -68,4 +62,5 @@ returns c =
     let h = held_in a.held.now in
     let n = c.held_count-n.ensures.0 in
     let z = past_end h l.k (omega (arith, c.loop-k-test.false, n)) in
-    (sym l.invariant.3 ∙ ap (room_for a.method a.code.now a.size) z ∙ sym z, l.invariant.0)
+    let all = past_end h c.held_count-n.result (omega (arith, n)) in
+    (sym l.invariant.3 ∙ ap (room_for a.method a.code.now a.size) z ∙ sym all, omega (arith, n))

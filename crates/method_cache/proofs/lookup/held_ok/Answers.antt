@@ -1,5 +1,4 @@
 use Rattle.method_cache.specs.LoopLaws.{ok_off, ok_on}
-use borrow.Author.Rules.{rules}
 use Rattle.method_cache.proofs.lookup.held_ok.Goals as goal
 
 pub returns-then-not-method : goal.returns-then-not-method

@@ -1,6 +1,5 @@
 use mathlib.Core.Path.{refl}
 use Rattle.method_cache.specs.MethodCache.{bad_block}
-use borrow.Author.Rules.{rules}
 use Rattle.method_cache.proofs.lookup.is_bad.Goals as goal
 
 pub returns : goal.returns

@@ -1,7 +1,5 @@
-use mathlib.Core.Path.{◌≡◌, refl, sym, ap, ◌∙◌}
+use mathlib.Core.Path.{refl, sym, ap, ◌∙◌}
 use native.Mathlib.Omega.{arith}
-use Prim.Native.Nat.{◌-◌}
-use lib.ListN.{drop}
 use borrow.Author.Tests.{eq-eqb, ne_eqb}
 use Rattle.method_cache.specs.MethodCache.{is_held}
 use Rattle.method_cache.specs.Words.{held_in}
@@ -17,12 +15,6 @@ returns-then-base-held_base c =
     let h = held_in c.args.held.now in
     let p = c.loop-i-test.true in
     (sym (sym l.invariant ∙ held_step h l.i _ refl (omega (arith, p, c.held_count-n.ensures.0)) _ ∙ rw (eq-eqb _ _ (c.if-base-held_base.true ∙ c.held_base.ensures)) refl), c.held_count-n.ensures.1)
-
-pub overflow_add-i : goal.overflow_add-i
-overflow_add-i c = omega (arith, c.loop-i-test.true)
-
-pub loop-i-smaller : goal.loop-i-smaller
-loop-i-smaller c = omega (arith, c.loop-i-test.true)
 
 pub loop-i-preserved : goal.loop-i-preserved
 loop-i-preserved c =

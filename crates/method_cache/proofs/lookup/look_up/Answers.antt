@@ -1,7 +1,6 @@
 use mathlib.Core.Path.{refl, sym, ◌∙◌}
 use Rattle.method_cache.specs.MethodCache.{looked}
 use Rattle.method_cache.specs.Words.{looked_words, looked_count}
-use borrow.Author.Rules.{rules}
 use Rattle.method_cache.proofs.lookup.look_up.Goals as goal
 
 pub returns-then-is_held : goal.returns-then-is_held

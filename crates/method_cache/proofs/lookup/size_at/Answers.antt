@@ -3,7 +3,6 @@ use Prim.Native.Nat.{◌-◌}
 use mathlib.Core.Path.{◌≡◌, ap, ◌∙◌}
 use Rattle.big_endian.specs.Bytes.{word_at}
 use Rattle.method_cache.specs.MethodCache.{size_at}
-use borrow.Author.Rules.{rules}
 use Rattle.method_cache.proofs.lookup.size_at.Goals as goal
 
 pub returns-then-base-lt4 : goal.returns-then-base-lt4

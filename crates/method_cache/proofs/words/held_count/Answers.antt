@@ -1,6 +1,5 @@
 use native.Mathlib.Omega.{arith}
 use Rattle.method_cache.proofs.WordLaws.{held_length}
-use borrow.Author.Rules.{rules}
 use Rattle.method_cache.proofs.words.held_count.Goals as goal
 
 pub returns-then-n-gt16 : goal.returns-then-n-gt16

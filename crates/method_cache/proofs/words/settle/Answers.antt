@@ -1,11 +1,7 @@
-use mathlib.Core.Path.{◌≡◌, refl, sym}
+use mathlib.Core.Path.{refl, sym}
 use native.Mathlib.Omega.{arith}
 use native.Mathlib.Nat.{add-zero}
-use Prim.Native.Nat.{◌+◌, ◌-◌}
-use lib.ListN.{length}
-use borrow.Author.Rules.{rules}
-use Rattle.method_cache.specs.Words.{held_in}
-use Rattle.method_cache.proofs.WordLaws.{held_few, Settling, settling_none, settling_more, settling_all}
+use Rattle.method_cache.proofs.WordLaws.{held_few, settling_none, settling_more, settling_all}
 use Rattle.method_cache.proofs.words.settle.Goals as goal
 
 pub overflow_sub-stay : goal.overflow_sub-stay
@@ -19,12 +15,6 @@ word_at-w-requires c = omega (arith, c.loop-i.invariant.0, held_few c.before.bef
 
 pub bounds-held-i : goal.bounds-held-i
 bounds-held-i c = omega (arith, c.loop-i-test.true)
-
-pub overflow_add-i : goal.overflow_add-i
-overflow_add-i c = omega (arith, c.loop-i-test.true)
-
-pub loop-i-smaller : goal.loop-i-smaller
-loop-i-smaller c = omega (arith, c.loop-i-test.true)
 
 pub loop-i-preserved : goal.loop-i-preserved
 loop-i-preserved c = let l = c.loop-i in (l.invariant.0, settling_more _ _ _ _ _ l.invariant.0 l.held l.i _ _ l.invariant.1 c.loop-i-test.true refl c.word_at-w.ensures)

@@ -4,7 +4,6 @@ use native.Mathlib.Numerals.{add-one}
 use Prim.Native.Nat.{ℕ, ◌+◌}
 use lib.ListN.{get_or}
 use borrow.Author.Tests.{lt-ltb, le-ltb}
-use borrow.Author.Rules.{rules}
 use Rattle.method_cache.proofs.words.word_at.Goals as goal
 
 pub overflow_add-result : goal.overflow_add-result

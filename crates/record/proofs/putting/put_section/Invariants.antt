@@ -12,6 +12,3 @@ use Rattle.record.proofs.putting.put_section.Given as goal
 abbrev pub invariant-loop-i : goal.invariant-loop-i
 invariant-loop-i l =
     (l.i ≤ length l.words) × (l.next ≡ l.initial.next + 4 * l.i) × (length l.out ≡ length l.initial.out) × (put_words l.out l.next (drop l.i l.words) ≡ put_words l.initial.out l.initial.next l.words)
-
-abbrev pub decreases-loop-i : goal.decreases-loop-i
-decreases-loop-i l = length l.words - l.i

@@ -14,9 +14,6 @@ loop-i-init c = (omega arith, refl, refl)
 pub bounds-to-i : goal.bounds-to-i
 bounds-to-i c = omega (arith, c.loop-i-test.true, c.loop-i.invariant.1, c.requires, words_length c.args.part.now)
 
-pub loop-i-smaller : goal.loop-i-smaller
-loop-i-smaller c = omega arith
-
 pub loop-i-preserved : goal.loop-i-preserved
 loop-i-preserved c =
     let l = c.loop-i in

@@ -1,7 +1,6 @@
 use native.Mathlib.Omega.{arith}
 use Prim.Native.Nat.{◌-◌, ◌*◌, ◌%◌}
 use Rattle.stack_cache.specs.StackLaws.{shift_unit}
-use borrow.Author.Rules.{rules}
 use Rattle.stack_cache.proofs.access.byte_shift.Goals as goal
 
 pub returns : goal.returns

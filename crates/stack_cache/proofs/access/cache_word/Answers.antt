@@ -5,7 +5,6 @@ use native.Mathlib.Nat.{mod-lt}
 use lib.ListN.{length, get_or-eq_default}
 use Prim.Native.Nat.{◌/◌}
 use Rattle.stack_cache.specs.Stack.{cache_word}
-use borrow.Author.Rules.{rules}
 use Rattle.stack_cache.proofs.access.cache_word.Goals as goal
 
 pub returns-then-cache-eq0 : goal.returns-then-cache-eq0

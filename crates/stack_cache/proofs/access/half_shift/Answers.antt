@@ -1,7 +1,6 @@
 use native.Mathlib.Omega.{arith}
 use Prim.Native.Nat.{◌-◌, ◌*◌, ◌%◌}
 use Rattle.stack_cache.specs.StackLaws.{shift_unit}
-use borrow.Author.Rules.{rules}
 use Rattle.stack_cache.proofs.access.half_shift.Goals as goal
 
 pub returns-then-place-eq3 : goal.returns-then-place-eq3

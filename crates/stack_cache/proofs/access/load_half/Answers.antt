@@ -1,5 +1,4 @@
 use Rattle.stack_cache.specs.Stack.{part_of, cache_number}
-use borrow.Author.Rules.{rules}
 use Rattle.stack_cache.proofs.access.load_half.Goals as goal
 
 pub returns : goal.returns

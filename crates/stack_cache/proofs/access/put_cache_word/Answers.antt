@@ -5,7 +5,6 @@ use lib.ListN.{length}
 use lib.Seq.{set_out}
 use Prim.Native.Nat.{◌/◌}
 use Rattle.stack_cache.specs.Stack.{put_cache_word}
-use borrow.Author.Rules.{rules}
 use Rattle.stack_cache.proofs.access.put_cache_word.Goals as goal
 
 pub returns-then-cache-eq0 : goal.returns-then-cache-eq0

@@ -1,7 +1,6 @@
 use native.Mathlib.Omega.{arith}
 use Rattle.stack_cache.specs.Stack.{part_of, put_part, put_cache_number}
 use Rattle.stack_cache.specs.StackLaws.{put_part_word}
-use borrow.Author.Rules.{rules}
 use Rattle.stack_cache.proofs.access.store_half.Goals as goal
 
 pub with_part-w-requires : goal.with_part-w-requires

@@ -2,7 +2,6 @@ use Prim.Native.Nat.{◌/◌, ◌%◌}
 use lib.ListN.{length}
 use Rattle.stack_cache.specs.Stack.{cache_word, put_cache_number}
 use Rattle.stack_cache.specs.StackLaws.{put_part_4}
-use borrow.Author.Rules.{rules}
 use Rattle.stack_cache.proofs.access.store_word.Goals as goal
 
 pub returns : goal.returns

@@ -2,7 +2,6 @@ use native.Mathlib.Omega.{arith}
 use native.Mathlib.Nat.{mod-le, le_trans}
 use Prim.Native.Nat.{◌^◌}
 use Rattle.stack_cache.specs.StackLaws.{part_le}
-use borrow.Author.Rules.{rules}
 use Rattle.stack_cache.proofs.access.with_part.Goals as goal
 
 pub overflow_sub-result : goal.overflow_sub-result

@@ -1,12 +1,8 @@
-use native.Mathlib.Omega.{arith}
-use mathlib.Core.Path.{◌≡◌, refl, sym, ap, ◌∙◌}
+use Prim.Native.Nat.{◌-◌}
+use mathlib.Core.Path.{◌≡◌}
 use lib.ListN.{length}
 use Rattle.stack_cache.specs.Stack.{above, filled}
-use Rattle.stack_cache.specs.StackLaws.{length_put_cache_word, filled_step, filled_none}
 use Rattle.stack_cache.proofs.moves.fill.Given as goal
 
-abbrev pub invariant-loop-left : goal.invariant-loop-left
-invariant-loop-left l = (length l.cache ≡ length l.initial.cache) × (filled l.area l.lo l.cache (above l.left l.a) ≡ filled l.area l.lo l.initial.cache (above l.words l.ss))
-
-abbrev pub decreases-loop-left : goal.decreases-loop-left
-decreases-loop-left l = l.left
+abbrev pub invariant-loop : goal.invariant-loop
+invariant-loop l = (length l.cache ≡ length l.initial.cache) × (filled l.area l.lo l.cache (above (l.words - l.counter) l.a) ≡ filled l.area l.lo l.initial.cache (above l.words l.ss))

@@ -1,27 +1,20 @@
 use native.Mathlib.Omega.{arith}
-use mathlib.Core.Path.{◌≡◌, refl, sym, ap, ◌∙◌}
+use Prim.Native.Nat.{◌-◌, ◌+◌}
+use mathlib.Core.Path.{◌≡◌, sym, ap, ◌∙◌}
 use lib.ListN.{length}
 use Rattle.big_endian.specs.BytesLaws.{length_put_number}
-use Rattle.stack_cache.specs.Stack.{below, spilled}
 use Rattle.stack_cache.specs.StackLaws.{spilled_step, spilled_none}
 use Rattle.stack_cache.proofs.moves.spill.Goals as goal
 
-pub loop-left-init : goal.loop-left-init
-loop-left-init c = (refl, refl)
-
-pub overflow_sub-left : goal.overflow_sub-left
-overflow_sub-left c = omega arith
-
-pub loop-left-smaller : goal.loop-left-smaller
-loop-left-smaller c = omega arith
-
-pub loop-left-preserved : goal.loop-left-preserved
-loop-left-preserved c = let inv = c.loop-left.invariant in
+pub loop-preserved : goal.loop-preserved
+loop-preserved c = let inv = c.loop.invariant in
+    let left = c.args.words - c.loop.counter in
+    let one_less : c.args.words - (c.loop.counter + 1) ≡ left - 1 = omega arith in
     let e = rw (c.sub.ensures, c.cache_word.ensures) at c.write_word.ensures in
-    (ap length e ∙ length_put_number 4 _ _ _ ∙ inv.0, spilled_step _ _ _ _ _ _ _ c.loop-left-test.true c.sub-a.ensures e ∙ inv.1)
+    (ap length e ∙ length_put_number 4 _ _ _ ∙ inv.0, rw one_less (spilled_step _ _ _ _ left _ _ (omega (arith, c.loop-test.true)) c.sub-a.ensures e ∙ inv.1))
 
 pub shape_of-area : goal.shape_of-area
-shape_of-area c = c.loop-left.invariant.0
+shape_of-area c = c.loop.invariant.0
 
 pub returns : goal.returns
-returns c = sym (spilled_none _ _ _ _ _ c.loop-left-test.false) ∙ c.loop-left.invariant.1
+returns c = let left = c.args.words - c.loop.counter in sym (spilled_none _ _ _ left _ (omega (arith, c.loop-test.false))) ∙ c.loop.invariant.1

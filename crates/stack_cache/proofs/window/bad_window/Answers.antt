@@ -2,7 +2,6 @@ use Prim.Native.Nat.{◌-◌}
 use Rattle.stack_cache.specs.StackLaws.{more_words}
 use borrow.Author.Tests.{eq-eqb, ne_eqb, lt-ltb, le-ltb}
 use Rattle.stack_cache.specs.Stack.{bad_window}
-use borrow.Author.Rules.{rules}
 use Rattle.stack_cache.proofs.window.bad_window.Goals as goal
 
 pub returns-then-ss-ne0 : goal.returns-then-ss-ne0

@@ -1,4 +1,4 @@
-use Rattle.std.proofs.Common.{◌≡◌, ℕ, ◌*◌, ◌%◌, ◌^◌, sym, arith, rules}
+use Rattle.std.proofs.Common.{◌≡◌, ℕ, ◌*◌, ◌%◌, ◌^◌, sym, arith}
 use lib.Bits.{bit_and, or_zero_r}
 use Rattle.word.specs.Word.{copy_bit}
 use Rattle.word.specs.WordLaws.{bit_word}

@@ -1,4 +1,4 @@
-use Rattle.std.proofs.Common.{◌%◌, ◌^◌, lt_of_le_of_lt, rules}
+use Rattle.std.proofs.Common.{◌%◌, ◌^◌, lt_of_le_of_lt}
 use lib.Signed.{mag_shr}
 use Rattle.word.specs.Word.{shift_right_signed}
 use Rattle.word.proofs.Signs.{reread}

@@ -1,4 +1,4 @@
-use Rattle.std.proofs.Common.{◌≡◌, suc, ◌+◌, ◌-◌, arith, w32, rules, le-ltb, lt-ltb}
+use Rattle.std.proofs.Common.{◌≡◌, suc, ◌+◌, ◌-◌, arith, w32, le-ltb, lt-ltb}
 use mir.ValLaws.{to_z_pos, to_z-neg}
 use Rattle.word.proofs.sign.reading.Goals as goal
 

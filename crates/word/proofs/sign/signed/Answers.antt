@@ -1,8 +1,6 @@
-use Rattle.std.proofs.Common.{◌∙◌, rules}
-use Rattle.word.specs.Word.{signed}
-use Rattle.word.proofs.Signs.{reread}
+use Rattle.std.proofs.Common.{◌∙◌}
+use Rattle.word.proofs.Signs.{signed_cast, reread}
 use Rattle.word.proofs.sign.signed.Goals as goal
 
 pub returns : goal.returns
-unfolding signed
-returns c = reread _ c.reading.type_inv ∙ c.reading.ensures
+returns c = reread _ c.cast_signed.type_inv ∙ c.cast_signed.ensures ∙ signed_cast c.args.a c.ranges.a.fits

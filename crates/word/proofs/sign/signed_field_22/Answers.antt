@@ -1,4 +1,4 @@
-use Rattle.std.proofs.Common.{◌∙◌, rules}
+use Rattle.std.proofs.Common.{◌∙◌}
 use Rattle.word.specs.Word.{signed}
 use Rattle.word.proofs.Signs.{reread}
 use Rattle.word.proofs.sign.signed_field_22.Goals as goal

@@ -1,2 +1,0 @@
--- Open first: lib.rt, then Readings.antt.
-pub mod Readings

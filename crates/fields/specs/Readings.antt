@@ -1,9 +1,0 @@
--- What the functions of this crate return, as the options of the definitions.
-use Rattle.std.specs.Prelude.{ℕ}
-use Rattle.std.proofs.Math.Option.{Option, none, some}
-use Rattle.fields.specs.declared.Word.{Word}
-use Rattle.fields.specs.declared.Word.TheVariants.{Nothing, Of}
-
-abbrev pub found : Word → Option ℕ
-found Nothing = none
-found (Of w) = some w
