@@ -40,5 +40,5 @@ pub fine_both : (ts us : List Test) → verdict (ts ++ us) ≡ Ok tt → (verdic
 fine_both ts us e = go (verdict ts) (rw (verdict_append ts us) at e)
   where
     go : (v : Verdict) → and_then v (verdict us) ≡ Ok tt → (v ≡ Ok tt) × (verdict us ≡ Ok tt)
-    go (Ok tt) f = (refl, f)
+    go (Ok u) f = (refl, f)
     go (Err r) f = (cc, cc)

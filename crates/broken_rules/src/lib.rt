@@ -3,42 +3,35 @@
 
 ghost use Rattle.std.specs.Prelude.{true, ◌≡◌};
 ghost use Rattle.marking_rules.specs.Rules.{asked, operation_breaks, instruction_breaks, breaks};
-ghost use Rattle.broken_rules.specs.Found.{right, slot_two_breaks, first_found};
+ghost use Rattle.broken_rules.specs.Found.{right, slot_two_breaks};
 
 use isa::{AluInstruction, Bundle, Instruction, Operation};
 use marking::Marking;
 use marking_rules::{Asked, Rule, asked_of, asked_of_alu};
 
-// No rule is broken, or one is.
-#[derive(Clone, Copy)]
-pub enum Found {
-    Nothing,
-    Breaks(Rule),
-}
-
 // The first rule that an operation breaks, of which `row` says what the rules ask.
-fn first_rule(m: Marking, guard: bool, row: Asked) -> Found
+fn first_rule(m: Marking, guard: bool, row: Asked) -> Option<Rule>
     ensures { (o : Operation) → row ≡ asked m o → right (operation_breaks m guard o) result ≡ true }
 {
     if guard & row.control {
-        return Found::Breaks(Rule::A);
+        return Some(Rule::A);
     }
     if row.destination & (guard | row.source) {
-        return Found::Breaks(Rule::B);
+        return Some(Rule::B);
     }
     if row.base {
-        return Found::Breaks(Rule::C);
+        return Some(Rule::C);
     }
     if row.store & (guard | row.value) {
-        return Found::Breaks(Rule::D);
+        return Some(Rule::D);
     }
     if row.operand {
-        return Found::Breaks(Rule::E);
+        return Some(Rule::E);
     }
-    Found::Nothing
+    None
 }
 
-fn instruction_rule(m: Marking, i: Instruction) -> Found
+fn instruction_rule(m: Marking, i: Instruction) -> Option<Rule>
     ensures { right (instruction_breaks m i) result ≡ true }
 {
     let guard = i.guard;
@@ -46,7 +39,7 @@ fn instruction_rule(m: Marking, i: Instruction) -> Found
     first_rule(m, m.private_operand(guard), asked_of(m, operation))
 }
 
-fn slot_two_rule(m: Marking, j: AluInstruction) -> Found
+fn slot_two_rule(m: Marking, j: AluInstruction) -> Option<Rule>
     ensures { right (slot_two_breaks m j) result ≡ true }
 {
     let guard = j.guard;
@@ -54,29 +47,20 @@ fn slot_two_rule(m: Marking, j: AluInstruction) -> Found
     first_rule(m, m.private_operand(guard), asked_of_alu(m, operation))
 }
 
-fn first_found(one: Found, two: Found) -> Found
-    ensures { result ≡ first_found one two }
-{
-    match one {
-        Found::Nothing => two,
-        Found::Breaks(rule) => Found::Breaks(rule),
-    }
-}
-
-fn pair_rule(m: Marking, i: Instruction, j: AluInstruction) -> Found
+fn pair_rule(m: Marking, i: Instruction, j: AluInstruction) -> Option<Rule>
     ensures { right (breaks m (Bundle.Two i j)) result ≡ true }
 {
     let one = instruction_rule(m, i);
     let two = slot_two_rule(m, j);
-    first_found(one, two)
+    one.or(two)
 }
 
 // A rule that a bundle breaks. One that cannot be decoded has nothing that could break one.
-pub fn judge(m: Marking, b: Bundle) -> Found
+pub fn judge(m: Marking, b: Bundle) -> Option<Rule>
     ensures { right (breaks m b) result ≡ true }
 {
     match b {
-        Bundle::Undecodable => Found::Nothing,
+        Bundle::Undecodable => None,
         Bundle::One(i) | Bundle::Long(i) => instruction_rule(m, i),
         Bundle::Two(i, j) => pair_rule(m, i, j),
     }

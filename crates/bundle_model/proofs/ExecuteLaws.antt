@@ -155,7 +155,7 @@ module _ (g : Settings) (x : Setup) (t : State) (h : List ℕ) (one : Effect) (t
 
   -- The carried-out slot tells how the bundle was judged.
   refused_verdict : (n : Refusal) (v : Verdict) → carried_as (Err n) b' ≡ unless_refused v b (carried_as done_as (buffers_after g x s one b)) → (v ≡ Err n) × (b ≡ b')
-  refused_verdict n (Ok tt) e =
+  refused_verdict n (Ok u) e =
       let p : Err n ≡ done_as = ap (λ (c : CarriedOut). c.carried) e in
       (cc, cc)
   refused_verdict n (Err m) e =
@@ -174,7 +174,7 @@ module _ (g : Settings) (x : Setup) (t : State) (h : List ℕ) (one : Effect) (t
 
   done_verdict : (l st ss : ℕ) (v : Verdict) → carried_as (Ok (carrying l st ss)) b' ≡ unless_refused v b (carried_as done_as (buffers_after g x s one b))
       → (v ≡ Ok tt) × (l ≡ loaded_by b one) × (st ≡ top_by s one) × (ss ≡ spill_by g s one) × (b' ≡ buffers_after g x s one b)
-  done_verdict l st ss (Ok tt) e =
+  done_verdict l st ss (Ok u) e =
       let p : Ok (carrying l st ss) ≡ done_as = ap (λ (c : CarriedOut). c.carried) e in
       let q : carrying l st ss ≡ carrying (loaded_by b one) (top_by s one) (spill_by g s one) = cc in
       (refl, ap (λ (c : Carried). c.value) q, ap (λ (c : Carried). c.st) q, ap (λ (c : Carried). c.ss) q, ap (λ (c : CarriedOut). c.buffers) e)

@@ -138,7 +138,7 @@ full r b = outcome (returned r.answer) r.state r.counts b
 
 -- A refused bundle leaves all as it was, and counts nothing.
 abbrev pub refused_or : Verdict → State → Buffers → Outcome → Outcome
-refused_or (Ok tt) s b other = other
+refused_or (Ok u) s b other = other
 refused_or (Err r) s b other = outcome (refused (number r)) s no_counts b
 
 -- The bundle at the fetch address done or refused.

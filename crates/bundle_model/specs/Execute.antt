@@ -81,7 +81,7 @@ abbrev pub carried_as : Result Carried Refusal → Buffers → CarriedOut
 carried_as c b = record { carried = c; buffers = b }
 
 abbrev pub unless_refused : Verdict → Buffers → CarriedOut → CarriedOut
-unless_refused (Ok tt) b other = other
+unless_refused (Ok u) b other = other
 unless_refused (Err r) b other = carried_as (Err r) b
 
 -- What it loads, and where it leaves st and ss.

@@ -27,7 +27,7 @@ use Rattle.bundle_writes.specs.Lookup.{LookedUp}
 
 -- It writes no store: what it is carried out as is its verdict, with nothing to tell.
 abbrev pub judged_as : Verdict → Result Carried Refusal
-judged_as (Ok tt) = plainly
+judged_as (Ok u) = plainly
 judged_as (Err r) = Err r
 
 pub transfer_carried : (g : Settings) (x : Setup) (s : State) (delayed : Bool) (t : Transfer) (b : Buffers) (v : Verdict)
@@ -37,7 +37,7 @@ unfolding carried_out buffers_after slot_tests
 transfer_carried g x s delayed t b v e = go v ∙ ap (λ (y : Verdict). unless_refused y b (carried_as plainly b)) e
   where
     go : (v : Verdict) → carried_as (judged_as v) b ≡ unless_refused v b (carried_as plainly b)
-    go (Ok tt) = refl
+    go (Ok u) = refl
     go (Err r) = refl
 
 -- What it counts: its cycles beside the one of its bundle, and what the lookup counts.

@@ -24,8 +24,8 @@ fn row_of(r: Reply) -> usize {
 pub(crate) fn put_reply(page: &mut Page, operation: usize, r: Reply) {
     page.put_row(b"step \nrun \nrestep \nresume \n", operation);
     page.put_row(b"done\nended\nspent\nrefused \n", row_of(r));
-    if let Reply::Refused(n) = r {
-        page.put_decimal(n as u64);
+    if let Reply::Refused(refusal) = r {
+        page.put_decimal(refusal.number() as u64);
     }
 }
 

@@ -1,5 +1,6 @@
 // The check of a case's code under its marking.
 use crate::kept_state::config_of;
+use answers::Refusal;
 use case_kept::buffers::{Bytes, least};
 use case_kept::extent::extents_of;
 use case_kept::kept::Kept;
@@ -19,14 +20,14 @@ fn letter(r: Rule) -> u8 {
 }
 
 // Refusal 1 is one of the marking, and has no address.
-fn put_refused(page: &mut Page, number: u32, address: u32) {
-    if number == 1 {
+fn put_refused(page: &mut Page, refusal: Refusal, address: u32) {
+    if refusal == Refusal::Limits {
         page.put(b"check refused 1\n");
     } else {
         say(
             page,
             b"check refused % at %\n",
-            &[number as u64, address as u64],
+            &[refusal.number() as u64, address as u64],
         );
     }
 }
@@ -42,7 +43,7 @@ fn put_broken(page: &mut Page, address: u32, letter: u8) {
 fn put_checked(page: &mut Page, c: Checked) {
     match c {
         Checked::Accepted => page.put(b"check accepted\n"),
-        Checked::Refused { number, address } => put_refused(page, number, address),
+        Checked::Refused { refusal, address } => put_refused(page, refusal, address),
         Checked::Broken { address, rule } => put_broken(page, address, letter(rule)),
     }
 }

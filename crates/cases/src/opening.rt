@@ -2,7 +2,6 @@
 ghost use Rattle.std.specs.Prelude.{◌≤◌, length};
 
 use crate::kept_state::config_of;
-use answers::Verdict;
 use case_file::Reason;
 use case_kept::buffers::{Bytes, Cache, Memory};
 use case_kept::clearing::{clear_cache_copy, clear_memory, copy_memory, fill_cache};
@@ -111,11 +110,11 @@ fn keep_fresh(kept: &mut Kept, o: Opened) {
 fn keep_opened(o: Opened, kept: &mut Kept, page: &mut Page) {
     let answer = o.answer;
     match answer {
-        Verdict::Refused(n) => {
+        Err(refusal) => {
             kept[PHASE] = REFUSED;
-            say(page, b"open refused %\n", &[n as u64]);
+            say(page, b"open refused %\n", &[refusal.number() as u64]);
         }
-        Verdict::Fine => keep_fresh(kept, o),
+        Ok(()) => keep_fresh(kept, o),
     }
 }
 

@@ -22,7 +22,7 @@ fn step_reply(a: Answer) -> Reply {
     match a {
         Answer::Done => Reply::Done,
         Answer::Ended => Reply::Ended,
-        Answer::Refused(n) => Reply::Refused(n),
+        Answer::Refused(refusal) => Reply::Refused(refusal),
     }
 }
 
@@ -30,7 +30,7 @@ fn run_reply(a: RunAnswer) -> Reply {
     match a {
         RunAnswer::Ended => Reply::Ended,
         RunAnswer::Spent => Reply::Spent,
-        RunAnswer::Refused(n) => Reply::Refused(n),
+        RunAnswer::Refused(refusal) => Reply::Refused(refusal),
     }
 }
 

@@ -6,6 +6,7 @@ ghost use Rattle.single_path.specs.Check.{returned, letter_broken};
 ghost use Rattle.check_entry.specs.CheckEntry.{marking_of, letter_of, Told};
 
 use crate::CheckedCode;
+use answers::Refusal;
 use marking::Marking;
 use record_parts::reading::predicates_in;
 use single_path::{Checked, Rule};
@@ -61,13 +62,13 @@ pub(crate) fn told(c: Checked) -> CheckedCode
             address: 0,
             rule: 0,
         },
-        Checked::Refused { number, address } => CheckedCode {
-            answer: number,
+        Checked::Refused { refusal, address } => CheckedCode {
+            answer: refusal.number(),
             address,
             rule: 0,
         },
         Checked::Broken { address, rule } => CheckedCode {
-            answer: 9,
+            answer: Refusal::BrokenRule.number(),
             address,
             rule: letter_of(rule),
         },

@@ -25,6 +25,6 @@ pub(crate) fn number_of(a: Reply) -> u32
         Reply::Done => 0,
         Reply::Ended => 256,
         Reply::Spent => 257,
-        Reply::Refused(n) => n,
+        Reply::Refused(refusal) => refusal.number(),
     }
 }

@@ -147,7 +147,7 @@ module _ {m : Marking} (g : Settings) (x : Setup) (ordered : x.lo ≤ x.hi) {s�
 
       go : (v : Verdict) → verdict_of (entry_tests x s₁) ≡ v → out v v
       go (Err n) e = record { answer = refl; counts = refl; contents = a }
-      go (Ok tt) e =
+      go (Ok u) e =
           finished_alike x a _ _ _ _ (counted_same x a.state)
           (bundle_alike g x ordered (record { state = same; buffers = a.buffers }) inside (taken_grounded x s₁ w₁) (taken_grounded x s₂ w₂) f
           (free s₁ b₁ f e n₁) (free s₂ b₂ (subst (Fine m x.code) same.fetch f) (sym (ap verdict_of (entry_same x a.state)) ∙ e) n₂))

@@ -3,6 +3,7 @@
 use Rattle.std.specs.Prelude.{ℕ, ◌≤◌, Bool, true, false, ◌≡◌, refl, length, get_or, Ok, Err}
 use Rattle.std.proofs.lemmas.Bool.{false≢true}
 use Rattle.std.proofs.Common.{sym, ap, subst, ◌∙◌}
+use Rattle.answers.specs.Refusal.{number}
 use Rattle.isa.specs.declared.Bundle.{Bundle}
 use Rattle.settings.specs.declared.Settings.{Settings}
 use Rattle.answers.specs.Answer.{Returned, done, refused}
@@ -54,12 +55,12 @@ unfolding slot_tests
 slot_passed g x s e p = (fine_both (effect_tests g x s e) (lookup_tests x.method x.code (lookups x e)) p).0
 
 abbrev is_fine : Verdict → Bool
-is_fine (Ok tt) = true
+is_fine (Ok u) = true
 is_fine (Err n) = false
 
 abbrev number_of : Verdict → ℕ
-number_of (Ok tt) = 0
-number_of (Err n) = n
+number_of (Ok u) = 0
+number_of (Err r) = number r
 
 -- The predicates of a well-formed state.
 pub record Grounded (s : State) : Type 0 where
@@ -100,16 +101,16 @@ module _ {m : Marking} (g : Settings) (x : Setup) (ordered : x.lo ≤ x.hi) {s�
         out z y = SameOutcome m x (refused_or z s₁ b₁ (done_of g x i following s₁ b₁)) (refused_or y s₂ b₂ (done_of g x i following s₂ b₂))
 
         judged : AlikeEffect m (slot_one (start_of x.table s₁) i) (slot_one (start_of x.table s₂) i) → (z y : Verdict) → v₁ ≡ z → v₂ ≡ y → z ≡ y → out z y
-        judged h (Ok tt) (Ok tt) p q e = done_both h p q
-        judged h (Ok tt) (Err n) p q e = absurd (false≢true (sym (ap is_fine e)))
-        judged h (Err n) (Ok tt) p q e = absurd (false≢true (ap is_fine e))
+        judged h (Ok u) (Ok u') p q e = done_both h p q
+        judged h (Ok u) (Err n) p q e = absurd (false≢true (sym (ap is_fine e)))
+        judged h (Err n) (Ok u) p q e = absurd (false≢true (ap is_fine e))
         judged h (Err n) (Err k) p q e = record { answer = ap refused (ap number_of e); counts = refl; contents = a }
 
         passes : (s : State) (b : Buffers) (v : Verdict) (access : Bool) → has_private_access m i ≡ access → (access ≡ false → v ≡ Ok tt)
             → (has_private_access m i ≡ true → (n : ℕ) → (refused_or v s b (done_of g x i following s b)).answer ≡ refused n → ⊥) → v ≡ Ok tt
         passes s b v false e f h = f refl
-        passes s b (Ok tt) true e f h = refl
-        passes s b (Err n) true e f h = absurd (h e n refl)
+        passes s b (Ok u) true e f h = refl
+        passes s b (Err r) true e f h = absurd (h e (number r) refl)
 
         go : SlotCase m g x s₁ s₂ (has_private_access m i) (slot_one (start_of x.table s₁) i) (slot_one (start_of x.table s₂) i) → out v₁ v₂
         go (public_slot h) = judged (same_effect h) v₁ v₂ refl refl (slot_both x g a.state h)

@@ -3,6 +3,8 @@ use Rattle.std.specs.Prelude.{ℕ, ◌%◌, ◌^◌, Bool, not, cond, ◌≡◌,
 use Rattle.std.proofs.Math.Bool.{true, false}
 use Rattle.std.proofs.lemmas.Bool.{false≢true}
 use Rattle.std.proofs.Common.{sym, ap, subst, ◌∙◌}
+use Rattle.answers.specs.declared.Refusal.{Refusal}
+use Rattle.answers.specs.Refusal.{number}
 use Rattle.isa.specs.declared.AccessKind.{AccessKind}
 use Rattle.isa.specs.declared.Operation.{Operation}
 use Rattle.isa.specs.declared.Operation.TheVariants.{Alu, Multiply, Mts, Mfs, Load, Store, StackControl, Transfer, Trap, Xret}
@@ -36,28 +38,28 @@ use Rattle.answers.specs.Test.{Verdict, verdict as verdict_of}
 use Rattle.fetch.specs.Fetch.{bundle_at, following_at}
 
 abbrev number_of : ℕ → Verdict → ℕ
-number_of n (Ok tt) = n
-number_of n (Err k) = k
+number_of n (Ok u) = n
+number_of n (Err r) = number r
 
 abbrev is_refusal : Verdict → Bool
-is_refusal (Ok tt) = false
-is_refusal (Err n) = true
+is_refusal (Ok u) = false
+is_refusal (Err r) = true
 
-module _ (g : Settings) (x : Setup) (s : State) (n : ℕ) where
+module _ (g : Settings) (x : Setup) (s : State) (r : Refusal) where
   -- The three tests of an access.
-  three : (u y z : Bool) → cond u (Err refusal.Misaligned) (cond y (Err refusal.Window) (cond z (Err refusal.AccessOutside) (Ok tt))) ≡ Err n → of_access n ≡ true
-  three true y z e = subst (λ (k : ℕ). of_access k ≡ true) (ap (number_of n) e) refl
-  three false true z e = subst (λ (k : ℕ). of_access k ≡ true) (ap (number_of n) e) refl
-  three false false true e = subst (λ (k : ℕ). of_access k ≡ true) (ap (number_of n) e) refl
+  three : (u y z : Bool) → ◌≡◌ {A = Verdict} (cond u (Err refusal.Misaligned) (cond y (Err refusal.Window) (cond z (Err refusal.AccessOutside) (Ok tt)))) (Err r) → of_access (number r) ≡ true
+  three true y z e = subst (λ (k : ℕ). of_access k ≡ true) (ap (number_of (number r)) e) refl
+  three false true z e = subst (λ (k : ℕ). of_access k ≡ true) (ap (number_of (number r)) e) refl
+  three false false true e = subst (λ (k : ℕ). of_access k ≡ true) (ap (number_of (number r)) e) refl
   three false false false e = absurd (false≢true (ap is_refusal e))
 
-  tests_number : (main : Bool) (k : AccessKind) (a u : ℕ) → verdict_of (access_tests main g s.specials.st s.specials.ss k a u) ≡ Err n
-      → of_access n ≡ true
+  tests_number : (main : Bool) (k : AccessKind) (a u : ℕ) → verdict_of (access_tests main g s.specials.st s.specials.ss k a u) ≡ Err r
+      → of_access (number r) ≡ true
   unfolding verdict_of
   tests_number main k a u = three (not (eqb (a % u) 0)) (bad_access g s.specials.st s.specials.ss k) (not (access_open main g s.specials.st s.specials.ss k a u))
 
   access_number : (m : Marking) (o : Operation) → (asked m o).access ≡ true
-      → verdict_of (slot_tests g x s (effect_of (start_of x.table s) o)) ≡ Err n → of_access n ≡ true
+      → verdict_of (slot_tests g x s (effect_of (start_of x.table s) o)) ≡ Err r → of_access (number r) ≡ true
   unfolding asked effect_of verdict_of
   access_number m (Alu o) h e = absurd (false≢true (sym (ap (λ (u : Asked). u.access) (alu_row_lem m o)) ∙ h))
   access_number m (Multiply f u y) h e = absurd (false≢true h)
@@ -74,17 +76,17 @@ module _ (g : Settings) (x : Setup) (s : State) (n : ℕ) where
   access_number m (Trap k) h e = absurd (false≢true h)
   access_number m (Xret d) h e = absurd (false≢true h)
 
-  slot_number : (m : Marking) (i : Instruction) → private_access m i ≡ true → verdict_of (slot_tests g x s (slot_one_effect (start_of x.table s) i)) ≡ Err n
-      → of_access n ≡ true
+  slot_number : (m : Marking) (i : Instruction) → private_access m i ≡ true → verdict_of (slot_tests g x s (slot_one_effect (start_of x.table s) i)) ≡ Err r
+      → of_access (number r) ≡ true
   unfolding slot_one_effect verdict_of slot_tests lookup_tests
   slot_number m i h = go (holds s.predicates i.guard)
     where
-      go : (t : Bool) → verdict_of (slot_tests g x s (cond t (effect_of (start_of x.table s) i.operation) (effect.Alu alu.Nothing))) ≡ Err n → of_access n ≡ true
+      go : (t : Bool) → verdict_of (slot_tests g x s (cond t (effect_of (start_of x.table s) i.operation) (effect.Alu alu.Nothing))) ≡ Err r → of_access (number r) ≡ true
       go true e = access_number m i.operation (and_right (private_guard m i.guard) _ h) e
       go false e = absurd (false≢true (ap is_refusal e))
 
-  bundle_number : (m : Marking) (i : Bundle) → has_private_access m i ≡ true → verdict_of (slot_tests g x s (slot_one (start_of x.table s) i)) ≡ Err n
-      → of_access n ≡ true
+  bundle_number : (m : Marking) (i : Bundle) → has_private_access m i ≡ true → verdict_of (slot_tests g x s (slot_one (start_of x.table s) i)) ≡ Err r
+      → of_access (number r) ≡ true
   unfolding has_private_access
   bundle_number m Undecodable h e = absurd (false≢true h)
   bundle_number m (One i) h e = slot_number m i h e
@@ -117,5 +119,5 @@ refused_for_access {m} g x s b n f h e =
 
     go : (v : Verdict) → verdict_of (slot_tests g x s (slot_one (start_of x.table s) i)) ≡ v
         → (refused_or v s b (done_of g x i (following_at x.code s.fetch) s b)).answer ≡ refused n → of_access n ≡ true
-    go (Ok tt) p q = absurd (false≢true (ap is_refused q))
-    go (Err k) p q = bundle_number g x s n m i h (p ∙ ap Err (ap answer_number q))
+    go (Ok u) p q = absurd (false≢true (ap is_refused q))
+    go (Err r) p q = subst (λ (k : ℕ). of_access k ≡ true) (ap answer_number q) (bundle_number g x s r m i h p)

@@ -36,7 +36,7 @@ abbrev pub fetching : Bundle → ℕ → Fetched
 fetching b following = record { bundle = b; following = following }
 
 abbrev pub fetched_unless : Verdict → Bundle → ℕ → Result Fetched Refusal
-fetched_unless (Ok tt) b following = Ok (fetching b following)
+fetched_unless (Ok u) b following = Ok (fetching b following)
 fetched_unless (Err r) b following = Err r
 
 unfoldable pub fetched : List ℕ → ℕ → Result Fetched Refusal

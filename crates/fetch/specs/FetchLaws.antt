@@ -39,7 +39,7 @@ module _ (code : List ℕ) (a : ℕ) where
   refused_verdict r = go (verdict (fetch_tests code a))
     where
       go : (v : Verdict) → fetched_unless v (bundle_at code a) (following_at code a) ≡ Err r → v ≡ Err r
-      go (Ok tt) e = cc
+      go (Ok u) e = cc
       go (Err m) e = let k : m ≡ r = cc in ap Err k
 
   -- What is found passed both tests, and is the bundle there with the address that follows.
@@ -48,7 +48,7 @@ module _ (code : List ℕ) (a : ℕ) where
   found_verdict f = go (verdict (fetch_tests code a))
     where
       go : (v : Verdict) → fetched_unless v (bundle_at code a) (following_at code a) ≡ Ok f → v ≡ Ok tt
-      go (Ok tt) e = refl
+      go (Ok u) e = refl
       go (Err m) e = cc
 
   pub found_bundle : (f : Fetched) → fetched code a ≡ Ok f → (bundle_at code a ≡ f.bundle) × (following_at code a ≡ f.following)
@@ -56,7 +56,7 @@ module _ (code : List ℕ) (a : ℕ) where
   found_bundle f = go (verdict (fetch_tests code a))
     where
       go : (v : Verdict) → fetched_unless v (bundle_at code a) (following_at code a) ≡ Ok f → (bundle_at code a ≡ f.bundle) × (following_at code a ≡ f.following)
-      go (Ok tt) e =
+      go (Ok u) e =
           let same : fetching (bundle_at code a) (following_at code a) ≡ f = cc in
           (ap (λ (y : Fetched). y.bundle) same, ap (λ (y : Fetched). y.following) same)
       go (Err m) e = (cc, cc)

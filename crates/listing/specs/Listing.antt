@@ -1,5 +1,7 @@
 -- What bundles are written as, and the listing of code, as texts of a report (docs/CASES.md, "The report").
-use Rattle.std.specs.Prelude.{ℕ, zero, suc, ◌+◌, Bool, true, cond, ◌&&◌, List, [], ◌++◌, leb, eqb, length}
+use Rattle.std.specs.Prelude.{ℕ, zero, suc, ◌+◌, Bool, true, cond, ◌&&◌, List, [], ◌++◌, leb, eqb, length, Result, Ok, Err}
+use Rattle.answers.specs.declared.Refusal.{Refusal}
+use Rattle.answers.specs.Refusal.{number}
 use Rattle.text.specs.Number.{decimal_text, word_text}
 use Rattle.case_words.specs.Names.{bytes}
 use Rattle.word.specs.Word.{add}
@@ -7,7 +9,6 @@ use Rattle.big_endian.specs.Bytes.{word_at}
 use Rattle.decoder.specs.Decode.{bundle_words}
 use Rattle.fetch.specs.Fetch.{following_at, fetched}
 use Rattle.fetch.specs.declared.Fetched.{Fetched}
-use Rattle.fetch.specs.declared.Fetched.TheVariants as fetch
 use Rattle.encoder.specs.Encode.{written}
 use Rattle.encoder.specs.declared.Written.{Written}
 use Rattle.encoder.specs.declared.Written.TheVariants.{One, Two, Refused}
@@ -37,9 +38,9 @@ unfoldable pub fixed_text : ℕ → ℕ → Written → List ℕ
 fixed_text first second w = cond (is_fixed w first second) [] (bytes " fixed" ++ written_text w)
 
 -- What is found at an address: the bundle's text behind its fixed form, or why there is no bundle.
-abbrev pub found_text : ℕ → ℕ → Fetched → List ℕ
-found_text first second (fetch.Refused n) = refused_text n
-found_text first second (fetch.Found b following) = fixed_text first second (written b) ++ (bytes " " ++ bundle_text b)
+abbrev pub found_text : ℕ → ℕ → Result Fetched Refusal → List ℕ
+found_text first second (Err r) = refused_text (number r)
+found_text first second (Ok f) = fixed_text first second (written f.bundle) ++ (bytes " " ++ bundle_text f.bundle)
 
 -- The words at an address: the second is shown of a bundle of two, if the code has it.
 unfoldable pub has_second : List ℕ → ℕ → Bool

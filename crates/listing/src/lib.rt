@@ -79,8 +79,8 @@ fn put_found(page: &mut Page, first: u32, second: u32, code: &[u8], address: u32
     ensures { Puts page.old page.new (found_text first second (fetched code.now address)) }
 {
     match fetch(code, address) {
-        Fetched::Refused(n) => put_refused(page, n),
-        Fetched::Found { bundle, .. } => {
+        Err(refusal) => put_refused(page, refusal.number()),
+        Ok(Fetched { bundle, .. }) => {
             put_fixed(page, first, second, write(bundle));
             page.put_byte(b' ');
             put_bundle(page, bundle);

@@ -10,6 +10,8 @@ use borrow.Author.Tests.{ltb-true, lt-ltb, le-ltb, le-leb}
 use Rattle.std.proofs.Math.Dec.{leb}
 use Rattle.std.proofs.Math.ListN.{length, drop, length-replicate}
 use Rattle.std.proofs.Math.Seq.{take-append_seam}
+use Rattle.answers.specs.declared.Refusal.{Refusal}
+use Rattle.answers.specs.Refusal.{number}
 use Rattle.stack_cache.specs.Stack.{is_cache_size}
 use Rattle.word.specs.Word.{is_multiple_of4}
 use Rattle.word.specs.BoolLaws.{and_right}
@@ -146,13 +148,13 @@ module _ (x : Setup) (w entry : ℕ) (main local out : List ℕ) where
     unfolding opened_record
     hands = rw (a, le-ltb (length out) (longest w) room) refl
 
-    pub not_opened : (n : ℕ) → r.answer ≡ Err n → called_of n main local out ≡ called given
+    pub not_opened : (n : Refusal) → r.answer ≡ Err n → called_of (number n) main local out ≡ called given
     unfolding answer_number
     not_opened n f = go (entry_ok (length x.code) entry) opens ∙ ap called hands
       where
-        go : (v : Bool) → open_with r l ≡ found v → called_of n main local out ≡ called (handed v)
-        go true h = let z : refused n ≡ accepted = sym (ap returned f) ∙ ap (λ (o : Open). o.answer) h in absurd (false≢true cc)
-        go false h = let z : refused n ≡ refused 2 = sym (ap returned f) ∙ ap (λ (o : Open). o.answer) h in let same : n ≡ 2 = cc in ap (λ (k : ℕ). called_of k main local out) same
+        go : (v : Bool) → open_with r l ≡ found v → called_of (number n) main local out ≡ called (handed v)
+        go true h = let z : refused (number n) ≡ accepted = sym (ap returned f) ∙ ap (λ (o : Open). o.answer) h in absurd (false≢true cc)
+        go false h = let z : refused (number n) ≡ refused 2 = sym (ap returned f) ∙ ap (λ (o : Open). o.answer) h in let same : number n ≡ 2 = cc in ap (λ (k : ℕ). called_of k main local out) same
 
     pub is_opened : (n : ℕ) (after : List ℕ) → r.answer ≡ Ok tt → written_of n after ≡ writing (box (state_of r.state) l no_counts) out → called_of 0 main local after ≡ called given
     unfolding answer_number writing

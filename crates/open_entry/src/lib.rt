@@ -8,7 +8,7 @@ ghost use Rattle.settings.specs.Setup.{setup};
 ghost use Rattle.entries.specs.Entries.{config_of, called_of, called};
 ghost use Rattle.open_entry.specs.OpenEntry.{opened_record};
 
-use answers::Verdict;
+use answers::Refusal;
 use bundle_model::outcome::no_counts;
 use entries::numbers::config_of;
 use record::writing::{longest, write_record};
@@ -35,18 +35,18 @@ pub extern "C" fn laqemdit_open(
     let w = words as usize;
     let g = config.settings(code, main.len(), local.len(), w);
     if !g.admits() {
-        return 1;
+        return Refusal::Limits.number();
     }
     if out.len() < longest(w) {
-        return 14;
+        return Refusal::Record.number();
     }
     let mut cache = [0u32; 512];
     let opened = State::open(code, main, local, &mut cache[0..w], config, entry);
     let answer = opened.answer;
     let state = opened.state;
     match answer {
-        Verdict::Refused(n) => n,
-        Verdict::Fine => {
+        Err(refusal) => refusal.number(),
+        Ok(()) => {
             write_record(state, no_counts(), &cache[0..w], &mut *out);
             0
         }

@@ -9,7 +9,7 @@ use crate::putting::{put_registers, put_section, put_waiting};
 use bundle_model::Counts;
 use record_parts::writing::{count_words, replay_words};
 use replay::Replay;
-use stack_cache::{Made, StackCache};
+use stack_cache::StackCache;
 use state::State;
 
 // The length of the longest record with W cache words, in bytes; 0 where W is no cache size.
@@ -17,8 +17,8 @@ pub fn longest(words: usize) -> usize
     ensures { result ≡ longest_of words }
 {
     match StackCache::new(words) {
-        Made::Refused(_) => 0,
-        Made::Cache(c) => 4 * (97 + c.words as usize),
+        Err(_) => 0,
+        Ok(c) => 4 * (97 + c.words as usize),
     }
 }
 

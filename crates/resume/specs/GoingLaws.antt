@@ -2,11 +2,14 @@
 use Prim.Native.Nat.{ℕ, ◌-◌, ◌<◌, ◌≤◌}
 use Rattle.std.proofs.Math.Bool.{Bool, true, false, cond}
 use Rattle.std.proofs.lemmas.Bool.{false≢true}
-use Rattle.std.specs.Prelude.{not, ◌&&◌, List, ◌≡◌, length, take, drop}
+use Rattle.std.specs.Prelude.{not, ◌&&◌, List, ◌≡◌, length, take, drop, Ok, Err}
 use Rattle.std.proofs.Math.Path.{refl, ap}
 use Rattle.std.proofs.Common.{sym, ◌∙◌, arith, length-take-le}
 use borrow.Author.Tests.{lt-ltb, le-ltb, le-leb}
 use Rattle.std.proofs.Math.Dec.{leb}
+use Rattle.answers.specs.declared.Refusal.{Refusal}
+use Rattle.answers.specs.declared.Refusal.TheVariants as refusal
+use Rattle.answers.specs.Refusal.{number}
 use Rattle.stack_cache.specs.Stack.{is_cache_size}
 use Rattle.settings.specs.declared.Settings.{Settings}
 use Rattle.settings.specs.Settings.{admits}
@@ -24,13 +27,13 @@ use Rattle.record_model.specs.Record.{box, has_form, read_record, accepts, longe
 use Rattle.record.specs.Written.{longest_of, written_of, writing}
 use Rattle.record.specs.RoomLaws.{size_longest}
 use Rattle.resume_model.specs.Resume.{resumed_of, as_found, box_of, handed_out, from_record, resumed}
-use Rattle.resume.specs.Resumed.{judged_by}
+use Rattle.resume.specs.Resumed.{judged_by, judged_as}
 
 -- What is judged of a state, of what its parts, its blocks held and list and table were judged.
 pub judged_as_lem : (x : Setup) (s : State) (h : List ℕ) (p q r : Bool) → p ≡ parts_ok s → q ≡ held_ok x.method x.code h → r ≡ replay_ok x.list x.table
-    → cond (not (p && q)) 14 (cond (not r) 15 0) ≡ judged_by x (with_held s h)
+    → judged_as (p && q) r ≡ judged_by x (with_held s h)
 unfolding judged_by well_formed parts_ok
-judged_as_lem x s h p q r pp pq pr = λ i. cond (not (pp i && pq i)) 14 (cond (not (pr i)) 15 0)
+judged_as_lem x s h p q r pp pq pr = λ i. judged_as (pp i && pq i) (pr i)
 
 module _ (x : Setup) (budget w : ℕ) (bytes main local out : List ℕ) where
   abbrev judged : Settings
@@ -50,30 +53,27 @@ module _ (x : Setup) (budget w : ℕ) (bytes main local out : List ℕ) where
     unfolding from_record accepts
     no_form e = rw (a, le-ltb (length out) (longest w) room, e)
 
-    pub turned_by : (n : ℕ) → has_form w bytes ≡ true → n ≡ judged_by x (read_record bytes).state → (n ≡ 0 → ⊥) → as_found n main local out ≡ resumed x budget w bytes main local out
+    pub turned_by : (n : Refusal) → has_form w bytes ≡ true → Err n ≡ judged_by x (read_record bytes).state → as_found (number n) main local out ≡ resumed x budget w bytes main local out
     unfolding from_record accepts judged_by
-    turned_by n f e some = rw (a, le-ltb (length out) (longest w) room, f) (go (well_formed x (read_record bytes).state) (replay_ok x.list x.table) e)
+    turned_by n f e = rw (a, le-ltb (length out) (longest w) room, f) (go (well_formed x (read_record bytes).state) (replay_ok x.list x.table) e)
       where
-        go : (y r : Bool) → n ≡ cond (not y) 14 (cond (not r) 15 0)
-            → as_found n main local out ≡ cond (not y) (as_found 14 main local out) (cond (not r) (as_found 15 main local out) (handed_out (run x budget (read_record bytes).state (buffers main local (read_record bytes).cache)) out))
-        go false r h = ap (λ (k : ℕ). as_found k main local out) h
-        go true false h = ap (λ (k : ℕ). as_found k main local out) h
-        go true true h = absurd (some h)
+        go : (y r : Bool) → Err n ≡ judged_as y r
+            → as_found (number n) main local out ≡ cond (not y) (as_found 14 main local out) (cond (not r) (as_found 15 main local out) (handed_out (run x budget (read_record bytes).state (buffers main local (read_record bytes).cache)) out))
+        go false r h = let same : n ≡ refusal.Record = cc in ap (λ (k : Refusal). as_found (number k) main local out) same
+        go true false h = let same : n ≡ refusal.Replay = cc in ap (λ (k : Refusal). as_found (number k) main local out) same
+        go true true h = cc
 
-    passed : judged_by x (read_record bytes).state ≡ 0 → (well_formed x (read_record bytes).state ≡ true) × (replay_ok x.list x.table ≡ true)
+    passed : judged_by x (read_record bytes).state ≡ Ok tt → (well_formed x (read_record bytes).state ≡ true) × (replay_ok x.list x.table ≡ true)
     unfolding judged_by
     passed = go (well_formed x (read_record bytes).state) (replay_ok x.list x.table)
       where
-        number : Bool → Bool → ℕ
-        number y r = cond (not y) 14 (cond (not r) 15 0)
-
-        go : (y r : Bool) → number y r ≡ 0 → (y ≡ true) × (r ≡ true)
-        go false r h = absurd (omega (arith, h))
-        go true false h = absurd (omega (arith, h))
+        go : (y r : Bool) → judged_as y r ≡ Ok tt → (y ≡ true) × (r ≡ true)
+        go false r h = (cc, cc)
+        go true false h = (cc, cc)
         go true true h = (refl, refl)
 
     -- Gone on: the outcome of the run, and its record written.
-    pub gone_on : (o : Outcome) (n : ℕ) (after : List ℕ) → has_form w bytes ≡ true → judged_by x (read_record bytes).state ≡ 0
+    pub gone_on : (o : Outcome) (n : ℕ) (after : List ℕ) → has_form w bytes ≡ true → judged_by x (read_record bytes).state ≡ Ok tt
         → o ≡ run x budget (read_record bytes).state (buffers main local (read_record bytes).cache) → length o.buffers.cache ≡ w
         → written_of n after ≡ writing (box_of o) out
         → resumed_of o.answer o.counts n o.buffers.main o.buffers.local after ≡ resumed x budget w bytes main local out

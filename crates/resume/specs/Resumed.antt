@@ -1,5 +1,8 @@
 -- What the functions that go on from a record give back.
-use Rattle.std.specs.Prelude.{not, cond, List, ℕ}
+use Rattle.std.specs.Prelude.{not, cond, List, ℕ, Ok, Err, Bool}
+use Rattle.answers.specs.Test.{Verdict}
+use Rattle.answers.specs.declared.Refusal.TheVariants as refusal
+use Rattle.answers.specs.Refusal.{number}
 use Rattle.answers.specs.Answer.{Returned, done, ended, spent, refused}
 use Rattle.settings.specs.Setup.{Setup}
 use Rattle.replay.specs.Replay.{replay_ok}
@@ -15,11 +18,14 @@ abbrev pub returned : Reply → Returned
 returned reply.Done = done
 returned reply.Ended = ended
 returned reply.Spent = spent
-returned (reply.Refused n) = refused n
+returned (reply.Refused r) = refused (number r)
 
--- The number by which a record that has the form of one is turned away: 14 for a state that 11 describes, then 15; 0 if it is not.
-unfoldable pub judged_by : Setup → State → ℕ
-judged_by x s = cond (not (well_formed x s)) 14 (cond (not (replay_ok x.list x.table)) 15 0)
+-- Why a record that has the form of one is turned away: 14 for a state that 11 describes, then 15.
+abbrev pub judged_as : Bool → Bool → Verdict
+judged_as formed replays = cond (not formed) (Err refusal.Record) (cond (not replays) (Err refusal.Replay) (Ok tt))
+
+unfoldable pub judged_by : Setup → State → Verdict
+judged_by x s = judged_as (well_formed x s) (replay_ok x.list x.table)
 
 -- With the memories and the output buffer that are left.
 abbrev pub resumed_with : struct.Resumed → List ℕ → List ℕ → List ℕ → Resumed

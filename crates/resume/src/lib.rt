@@ -2,6 +2,7 @@
 #![tactic(auto)]
 
 ghost use Rattle.std.specs.Prelude.{◌≡◌, true, List, ℕ, ◌≤◌, length};
+ghost use Rattle.answers.specs.Refusal.{number};
 ghost use Rattle.settings.specs.Settings.{admits};
 ghost use Rattle.settings.specs.Setup.{replaying, setup, settings};
 ghost use Rattle.state.specs.Whole.{state_of};
@@ -10,6 +11,7 @@ ghost use Rattle.record_model.specs.Record.{longest};
 ghost use Rattle.resume_model.specs.Resume.{as_found, as_step, resumed, restepped};
 ghost use Rattle.resume.specs.Resumed.{returned, judged_by, resumed_with};
 
+use answers::{Refusal, Verdict};
 use bundle_model::Counts;
 use bundle_model::outcome::no_counts;
 use core_state::judged::parts_ok;
@@ -21,13 +23,13 @@ use run::{RunAnswer, run};
 use settings::Config;
 use state::State;
 
-// What a step or a run from a record answers; Refused holds the documents' number.
+// What a step or a run from a record answers: more ways to end than a Result has.
 #[derive(Clone, Copy)]
 pub enum Reply {
     Done,
     Ended,
     Spent,
-    Refused(u32),
+    Refused(Refusal),
 }
 
 // The answer, the counts of this call, and how many bytes of a record were written.
@@ -38,11 +40,11 @@ pub struct Resumed {
     pub written: usize,
 }
 
-fn turned_away(n: u32) -> Resumed
-    ensures { (main local out : List ℕ) → resumed_with result main local out ≡ as_found n main local out }
+fn turned_away(refusal: Refusal) -> Resumed
+    ensures { (main local out : List ℕ) → resumed_with result main local out ≡ as_found (number refusal) main local out }
 {
     Resumed {
-        answer: Reply::Refused(n),
+        answer: Reply::Refused(refusal),
         counts: no_counts(),
         written: 0,
     }
@@ -54,12 +56,12 @@ fn reply_of(a: RunAnswer) -> Reply
     match a {
         RunAnswer::Ended => Reply::Ended,
         RunAnswer::Spent => Reply::Spent,
-        RunAnswer::Refused(n) => Reply::Refused(n),
+        RunAnswer::Refused(refusal) => Reply::Refused(refusal),
     }
 }
 
-// What is judged of a record that was read: the number by which it is turned away, or 0. A state that 11 describes is 14 here.
-fn judged(state: State, code: &[u8], list: &[u8], table: &[u8], config: Config) -> u32
+// What is judged of a record that was read. A state that 11 describes is 14 here.
+fn judged(state: State, code: &[u8], list: &[u8], table: &[u8], config: Config) -> Verdict
     ensures { result ≡ judged_by (replaying list.now table.now (setup code.now config)) (state_of state) }
 {
     let registers = state.registers;
@@ -68,12 +70,12 @@ fn judged(state: State, code: &[u8], list: &[u8], table: &[u8], config: Config) 
     let method = config.method;
     let parts = parts_ok(state.core(), &registers, &predicates);
     if !(parts & held_ok(method, code, &held)) {
-        return 14;
+        return Err(Refusal::Record);
     }
     if !replay_ok(list, table) {
-        return 15;
+        return Err(Refusal::Replay);
     }
-    0
+    Ok(())
 }
 
 // A run from a record where settings and room have been judged. The cache's words are those that are lent, and then those of the record.
@@ -94,12 +96,11 @@ fn go_on(
 {
     let read = read_record(bytes, &mut *cache);
     if !read.formed {
-        return turned_away(14);
+        return turned_away(Refusal::Record);
     }
     let start = read.state;
-    let n = judged(start, code, list, table, config);
-    if n != 0 {
-        return turned_away(n);
+    if let Err(refusal) = judged(start, code, list, table, config) {
+        return turned_away(refusal);
     }
     let r = run(
         start,
@@ -173,10 +174,10 @@ pub fn resume(
 {
     let g = config.settings(code, main.len(), local.len(), words);
     if !g.admits() {
-        return turned_away(1);
+        return turned_away(Refusal::Limits);
     }
     if out.len() < longest(words) {
-        return turned_away(14);
+        return turned_away(Refusal::Record);
     }
     with_cache(
         bytes,

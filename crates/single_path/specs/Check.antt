@@ -1,5 +1,6 @@
 -- The check: the bundles from 0 to the code's end, one after the other, against the marking rules.
 use Rattle.std.specs.Prelude.{ℕ, zero, suc, ◌+◌, ◌/◌, ◌<◌, Bool, true, not, cond, ◌&&◌, List, ◌≡◌, leb, eqb, length, Ok, Err}
+use Rattle.answers.specs.Refusal.{number}
 use Rattle.answers.specs.Test.{Verdict, verdict}
 use Rattle.settings.specs.Setup.{Setup, settings}
 use Rattle.settings.specs.Settings.{admits}
@@ -23,18 +24,18 @@ pub data CheckAnswer : Type 0 where
 -- What each answer of the function returns, but for its letter; and that refusal 9 comes with a letter, which the bundle breaks.
 abbrev pub returned : Checked → CheckAnswer
 returned enum.Accepted = accepted
-returned (enum.Refused n a) = refused n a
+returned (enum.Refused r a) = refused (number r) a
 returned (enum.Broken a r) = refused 9 a
 
 abbrev pub letter_broken : Marking → List ℕ → Checked → Bool
 letter_broken m code enum.Accepted = true
-letter_broken m code (enum.Refused n a) = not (eqb n 9)
+letter_broken m code (enum.Refused r a) = not (eqb (number r) 9)
 letter_broken m code (enum.Broken a r) = breaks m (bundle_at code a) r
 
 -- A bundle that cannot be read is refused at its address.
 abbrev pub refused_at : Verdict → ℕ → CheckAnswer → CheckAnswer
-refused_at (Ok tt) a other = other
-refused_at (Err n) a other = refused n a
+refused_at (Ok u) a other = other
+refused_at (Err r) a other = refused (number r) a
 
 -- The bundles from address a on, `most` at most: the first that fails gives 2, 3 or 9, in that order.
 unfoldable pub walk_from : Marking → List ℕ → ℕ → ℕ → CheckAnswer

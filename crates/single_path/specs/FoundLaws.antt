@@ -1,21 +1,20 @@
 -- What is found of a bundle, in the terms of the check.
-use Rattle.std.specs.Prelude.{Bool, true, false, ◌≡◌, refl}
+use Rattle.std.specs.Prelude.{Bool, true, false, ◌≡◌, refl, Some, None}
 use Rattle.std.proofs.lemmas.Bool.{false≢true}
 use Rattle.std.proofs.Common.{sym, ◌∙◌}
 use Rattle.isa.specs.declared.Bundle.{Bundle}
 use Rattle.marking.specs.declared.Marking.{Marking}
 use Rattle.marking_rules.specs.declared.Rule.{Rule}
-use Rattle.broken_rules.specs.declared.Found.TheVariants.{Nothing, Breaks}
 use Rattle.marking_rules.specs.Rules.{breaks, keeps}
 use Rattle.marking_rules.specs.RuleLaws.{keeps_each}
 use Rattle.broken_rules.specs.Found.{right}
 
 module _ (m : Marking) (b : Bundle) where
-  pub found_keeps : right (breaks m b) Nothing ≡ true → keeps m b ≡ true
+  pub found_keeps : right (breaks m b) None ≡ true → keeps m b ≡ true
   unfolding right keeps
   found_keeps e = e
 
-  pub found_breaks : (r : Rule) → right (breaks m b) (Breaks r) ≡ true → breaks m b r ≡ true
+  pub found_breaks : (r : Rule) → right (breaks m b) (Some r) ≡ true → breaks m b r ≡ true
   unfolding right
   found_breaks r e = e
 

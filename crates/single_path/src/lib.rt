@@ -5,18 +5,19 @@ ghost use Rattle.std.specs.Prelude.{true, ◌≡◌, ◌≤◌, ◌+◌, ◌/◌
 ghost use Rattle.settings.specs.Setup.{setup};
 ghost use Rattle.single_path.specs.Check.{returned, letter_broken, walk_from, checked};
 
-use broken_rules::{Found, judge};
+use answers::Refusal;
+use broken_rules::judge;
 use fetch::{Fetched, fetch};
 pub use marking::Marking;
 pub use marking_rules::Rule;
 use settings::Config;
 
-// What the check answers: Refused holds document 01's number and the address of the bundle (0 for number 1), Broken, which is
-// refusal 9, the address of the bundle and a rule that it breaks.
+// What the check answers: Refused holds the address of the bundle (0 for Limits), Broken, which is refusal 9, that address and a rule that
+// the bundle breaks.
 #[derive(Clone, Copy)]
 pub enum Checked {
     Accepted,
-    Refused { number: u32, address: u32 },
+    Refused { refusal: Refusal, address: u32 },
     Broken { address: u32, rule: Rule },
 }
 
@@ -32,10 +33,10 @@ fn walk(code: &[u8], marking: Marking) -> Checked
             return Checked::Accepted;
         }
         match fetch(code, address) {
-            Fetched::Refused(number) => return Checked::Refused { number, address },
-            Fetched::Found { bundle, following } => {
+            Err(refusal) => return Checked::Refused { refusal, address },
+            Ok(Fetched { bundle, following }) => {
                 let next = following as u32;
-                if let Found::Breaks(rule) = judge(marking, bundle) {
+                if let Some(rule) = judge(marking, bundle) {
                     return Checked::Broken { address, rule };
                 }
                 address = next;
@@ -60,7 +61,7 @@ pub fn check(
         return walk(code, marking);
     }
     Checked::Refused {
-        number: 1,
+        refusal: Refusal::Limits,
         address: 0,
     }
 }

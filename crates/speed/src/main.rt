@@ -5,7 +5,6 @@ ghost use Rattle.std.specs.Prelude.{◌≤◌};
 
 mod workload;
 
-use answers::Verdict;
 use method_cache::Method;
 use run::{Ran, RunAnswer};
 use settings::Config;
@@ -78,7 +77,7 @@ fn print_answer(rt: &HostRuntime, a: RunAnswer) -> Result<()> {
     match a {
         RunAnswer::Ended => print!(rt; " ended"),
         RunAnswer::Spent => print!(rt; " spent"),
-        RunAnswer::Refused(n) => print!(rt; " refused {n}"),
+        RunAnswer::Refused(refusal) => print!(rt; " refused {}", refusal.number()),
     }
 }
 
@@ -124,8 +123,8 @@ fn run_workload(
     let answer = opened.answer;
     let state = opened.state;
     match answer {
-        Verdict::Refused(k) => { println!(rt; " open refused {k}") }
-        Verdict::Fine => {
+        Err(refusal) => { println!(rt; " open refused {}", refusal.number()) }
+        Ok(()) => {
             let r = run::run(
                 state,
                 &*code,

@@ -21,7 +21,7 @@ abbrev pub open_of : Returned → State → List ℕ → Open
 open_of a s c = record { answer = a; state = s; cache = c }
 
 abbrev pub returned : Verdict → Returned
-returned (Ok tt) = accepted
+returned (Ok u) = accepted
 returned (Err r) = refused (number r)
 
 abbrev pub open_with : Opened → List ℕ → Open

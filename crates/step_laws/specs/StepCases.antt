@@ -52,7 +52,7 @@ module _ (g : Settings) (x : Setup) (s : State) (b : Buffers) where
   bundle_cases P ref fine = go (judged g x s) refl
     where
       go : (v : Verdict) → judged g x s ≡ v → P (refused_or v s b (done_outcome g x s b))
-      go (Ok tt) e = fine e
+      go (Ok u) e = fine e
       go (Err r) e = ref r e
 
   -- A bundle that answers Refused changes nothing.
@@ -95,7 +95,7 @@ module _ (g : Settings) (x : Setup) (s : State) (b : Buffers) where
       all = verdict_append (entry_tests x s) (bundle_tests g x (taken x s) (effect_at x (taken x s)))
 
       go : (v : Verdict) → verdict_of (entry_tests x s) ≡ v → P (refused_or v s b (finished s b (entry_counts x s) (bundle g x (taken x s) b)))
-      go (Ok tt) e =
+      go (Ok u) e =
           bundle_cases g x (taken x s) b (λ o. P (finished s b (entry_counts x s) o)) (λ r j. ref r (all ∙ ap inner e ∙ j)) (λ j. fine (record { entry = e; slots = j }))
       go (Err r) e = ref r (all ∙ ap inner e)
 

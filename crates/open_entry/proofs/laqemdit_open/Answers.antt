@@ -15,7 +15,7 @@ use Rattle.bundle_model.specs.Counts.{no_counts}
 use Rattle.record.specs.Written.{written_of, writing}
 use Rattle.record.specs.RoomLaws.{size_longest}
 use Rattle.resume.specs.GoingLaws.{part_long}
-use Rattle.entries.specs.Entries.{called}
+use Rattle.entries.specs.Entries.{called, called_of}
 use Rattle.open_entry.specs.OpenEntry.{opened_record}
 use Rattle.open_entry.specs.OpenLaws.{not_admitted, no_room, not_opened, is_opened, part_again, part_fits}
 use borrow.Author.Rules.{rules}
@@ -28,7 +28,8 @@ returns-then-not-admits c =
     let x = setup a.code.now k in
     let same = c.config_of-config.ensures in
     let judged : admits (settings x (length a.main.now) (length a.local.now) a.words) ≡ c.admits.result = sym (c.admits.ensures ∙ ap admits c.settings-g.ensures) in
-    not_admitted x a.words a.entry a.main.now a.local.now a.out.now (judged ∙ c.if-not-admits.true) ∙ ap (λ (y : Config). called (opened_record (setup a.code.now y) a.words a.entry a.main.now a.local.now a.out.now)) same
+    ap (λ (n : ℕ). called_of n a.main.now a.local.now a.out.now) c.number.ensures
+    ∙ not_admitted x a.words a.entry a.main.now a.local.now a.out.now (judged ∙ c.if-not-admits.true) ∙ ap (λ (y : Config). called (opened_record (setup a.code.now y) a.words a.entry a.main.now a.local.now a.out.now)) same
 
 pub returns-then-out-longest : goal.returns-then-out-longest
 returns-then-out-longest c =
@@ -39,7 +40,8 @@ returns-then-out-longest c =
     let judged : admits (settings x (length a.main.now) (length a.local.now) a.words) ≡ c.admits.result = sym (c.admits.ensures ∙ ap admits c.settings-g.ensures) in
     let yes = judged ∙ c.if-not-admits.false in
     let room : length a.out.now < longest a.words = omega (arith, c.if-out-longest.true, c.longest.ensures, size_longest a.words (size_ok (settings x (length a.main.now) (length a.local.now) a.words) yes)) in
-    no_room x a.words a.entry a.main.now a.local.now a.out.now yes room ∙ ap (λ (y : Config). called (opened_record (setup a.code.now y) a.words a.entry a.main.now a.local.now a.out.now)) same
+    ap (λ (n : ℕ). called_of n a.main.now a.local.now a.out.now) c.number-then-out-longest.ensures
+    ∙ no_room x a.words a.entry a.main.now a.local.now a.out.now yes room ∙ ap (λ (y : Config). called (opened_record (setup a.code.now y) a.words a.entry a.main.now a.local.now a.out.now)) same
 
 pub slice_bounds-cache-end : goal.slice_bounds-cache-end
 slice_bounds-cache-end c =
@@ -64,8 +66,8 @@ slice_bounds-write_record-end c =
     let many : length z ≡ 512 = length-replicate {A = ℕ} 512 0 in
     part_fits o.new.cache _ a.words (o.auto.cache ∙ part_long z a.words (omega (arith, many, small)))
 
-pub returns-in-Refused : goal.returns-in-Refused
-returns-in-Refused c =
+pub returns-in-Err : goal.returns-in-Err
+returns-in-Err c =
     let a = c.args in
     let k = c.config_of-config.result in
     let x = setup a.code.now k in
@@ -77,10 +79,11 @@ returns-in-Refused c =
     let z : List ℕ = replicate 512 0 in
     let long = part_long z a.words (omega (arith, length-replicate {A = ℕ} 512 0, words_small g yes)) in
     let o = c.open-opened in
-    not_opened x a.words a.entry a.main.now a.local.now a.out.now (take (a.words - 0) z) o.new.cache o.result long o.ensures.opened yes room _ c.in-Refused.is ∙ ap (λ (y : Config). called (opened_record (setup a.code.now y) a.words a.entry a.main.now a.local.now a.out.now)) same
+    ap (λ (n : ℕ). called_of n a.main.now a.local.now a.out.now) c.number-in-Err.ensures
+    ∙ not_opened x a.words a.entry a.main.now a.local.now a.out.now (take (a.words - 0) z) o.new.cache o.result long o.ensures.opened yes room _ c.in-Err.is ∙ ap (λ (y : Config). called (opened_record (setup a.code.now y) a.words a.entry a.main.now a.local.now a.out.now)) same
 
-pub returns-in-Fine : goal.returns-in-Fine
-returns-in-Fine c =
+pub returns-in-Ok : goal.returns-in-Ok
+returns-in-Ok c =
     let a = c.args in
     let k = c.config_of-config.result in
     let x = setup a.code.now k in
@@ -97,4 +100,4 @@ returns-in-Fine c =
     c.write_record.ensures
     ∙ ap (λ (q : List ℕ). writing (box (state_of o.result.state) q c.no_counts.result) a.out.now) (part_again l _ a.words (o.auto.cache ∙ long))
     ∙ ap (λ (n : Counts). writing (box (state_of o.result.state) l n) a.out.now) c.no_counts.ensures in
-    is_opened x a.words a.entry a.main.now a.local.now a.out.now (take (a.words - 0) z) l o.result long o.ensures.opened yes room _ _ c.in-Fine.is put ∙ ap (λ (y : Config). called (opened_record (setup a.code.now y) a.words a.entry a.main.now a.local.now a.out.now)) same
+    is_opened x a.words a.entry a.main.now a.local.now a.out.now (take (a.words - 0) z) l o.result long o.ensures.opened yes room _ _ c.in-Ok.is put ∙ ap (λ (y : Config). called (opened_record (setup a.code.now y) a.words a.entry a.main.now a.local.now a.out.now)) same

@@ -23,15 +23,15 @@ returns-then-not-read c =
     let none = read_refused a.bytes.now a.cache.now (read_with r.result r.new.cache) r.ensures.read (not-true _ c.if-not-read.true) in
     c.turned_away.ensures _ _ _ ∙ no_form x a.budget w a.bytes.now a.main.now a.local.now a.out.now c.requires.0 c.requires.1 none
 
-pub returns-then-n-ne0 : goal.returns-then-n-ne0
-returns-then-n-ne0 c =
+pub returns-in-Err : goal.returns-in-Err
+returns-in-Err c =
     let a = c.args in
     let x = replaying a.list.now a.table.now (setup a.code.now a.config) in
     let w = length a.cache.now in
     let r = c.read_record-read in
     let has = read_formed a.bytes.now a.cache.now (read_with r.result r.new.cache) r.ensures.read (not-false _ c.if-not-read.false) in
-    let by = c.judged-n.ensures ∙ ap (λ (p : Box). judged_by x p.state) has.1 in
-    c.turned_away-then-n-ne0.ensures _ _ _ ∙ turned_by x a.budget w a.bytes.now a.main.now a.local.now a.out.now c.requires.0 c.requires.1 c.judged-n.result has.0 by c.if-n-ne0.true
+    let by = sym c.in-Err.is ∙ c.judged.ensures ∙ ap (λ (p : Box). judged_by x p.state) has.1 in
+    c.turned_away-in-Err.ensures _ _ _ ∙ turned_by x a.budget w a.bytes.now a.main.now a.local.now a.out.now c.requires.0 c.requires.1 c.in-Err.refusal has.0 by
 
 pub shape_of-cache : goal.shape_of-cache
 shape_of-cache c = c.run-r.auto.cache ∙ c.read_record-read.auto.cache
@@ -43,7 +43,7 @@ returns c =
     let w = length a.cache.now in
     let k = c.read_record-read in
     let has = read_formed a.bytes.now a.cache.now (read_with k.result k.new.cache) k.ensures.read (not-false _ c.if-not-read.false) in
-    let fine = sym (c.judged-n.ensures ∙ ap (λ (p : Box). judged_by x p.state) has.1) ∙ c.if-n-ne0.false in
+    let fine = sym (c.judged.ensures ∙ ap (λ (p : Box). judged_by x p.state) has.1) ∙ c.in_default.is in
     let r = c.run-r in
     let put = c.write_record-written in
     let o = whole r.result (buffers r.new.main r.new.local r.new.cache) in

@@ -2,7 +2,7 @@ use Rattle.entries.specs.Entries.{answer_number}
 use Rattle.resume.specs.declared.Reply.{Reply}
 use Rattle.resume.specs.Resumed.{returned}
 use Prim.Native.Nat.{◌-◌}
-use mathlib.Core.Path.{sym, ap}
+use mathlib.Core.Path.{sym, ap, ◌∙◌}
 use borrow.Author.Rules.{rules}
 use Rattle.entries.proofs.numbers.number_of.Goals as goal
 
@@ -20,4 +20,4 @@ returns-in-Spent c = sym (ap (λ (a : Reply). answer_number (returned a)) c.in-S
 
 pub returns-in-Refused : goal.returns-in-Refused
 unfolding answer_number
-returns-in-Refused c = sym (ap (λ (a : Reply). answer_number (returned a)) c.in-Refused.is)
+returns-in-Refused c = c.number.ensures ∙ sym (ap (λ (a : Reply). answer_number (returned a)) c.in-Refused.is)

@@ -6,13 +6,13 @@ use mathlib.Core.Path.{sym, ◌∙◌}
 use borrow.Author.Rules.{rules}
 use Rattle.record.proofs.writing.longest.Goals as goal
 
-pub returns-in-Refused : goal.returns-in-Refused
+pub returns-in-Err : goal.returns-in-Err
 unfolding longest_of
-returns-in-Refused c = rw (size_refused c.args.words (sym c.new.ensures ∙ c.in-Refused.is))
+returns-in-Err c = rw (size_refused c.args.words (sym c.new.ensures ∙ c.in-Err.is))
 
-pub returns-in-Cache : goal.returns-in-Cache
+pub returns-in-Ok : goal.returns-in-Ok
 unfolding longest_of
-returns-in-Cache c =
+returns-in-Ok c =
     let w = c.args.words in
-    let e = sym c.new.ensures ∙ c.in-Cache.is in
+    let e = sym c.new.ensures ∙ c.in-Ok.is in
     rw (size_made w e) (omega (arith, size_words w e))
