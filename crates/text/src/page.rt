@@ -20,10 +20,8 @@ pub fn put(out: &mut [u8], used: usize, s: &[u8]) -> usize
     ensures { page result out.new ≡ with_text (page used out.old) s.now }
 {
     let mut at = used;
-    let mut i = 0;
-    while i < s.len() {
-        at = put_byte(&mut *out, at, s[i]);
-        i += 1;
+    for b in s {
+        at = put_byte(&mut *out, at, *b);
     }
     at
 }

@@ -11,18 +11,15 @@ pub fn put_row(out: &mut [u8], used: usize, table: &[u8], row: usize) -> usize
 {
     let mut at = used;
     let mut left = row;
-    let mut i = 0;
-    while i < table.len() {
-        let b = table[i];
-        if b == b'\n' {
+    for b in table {
+        if *b == b'\n' {
             if left == 0 {
                 return at;
             }
             left -= 1;
         } else if left == 0 {
-            at = put_byte(&mut *out, at, b);
+            at = put_byte(&mut *out, at, *b);
         }
-        i += 1;
     }
     at
 }
@@ -46,19 +43,16 @@ pub fn row_of(table: &[u8], s: &[u8]) -> usize
 {
     let mut row = 0;
     let mut j = 0;
-    let mut i = 0;
-    while i < table.len() {
-        let b = table[i];
-        if b == b'\n' {
+    for b in table {
+        if *b == b'\n' {
             if j == s.len() {
                 return row;
             }
             j = 0;
             row += 1;
         } else {
-            j = matched(s, j, b);
+            j = matched(s, j, *b);
         }
-        i += 1;
     }
     row
 }
