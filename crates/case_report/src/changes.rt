@@ -5,19 +5,16 @@ ghost use Rattle.text.specs.Page.{page, with_text};
 ghost use Rattle.case_report.specs.Changes.{byte_texts, change_line, word, change_at, word_changes, memory_changes, cache_line, cache_change, cache_changes, changes_text};
 
 use crate::form::say;
-use case_kept::buffers::{CACHE_COPY, COPY, Cache, Memory, least};
+use case_kept::buffers::{CACHE_COPY, COPY, Cache, Memory};
 use case_kept::extent::Extents;
-use text::fields::same;
 use text::page::{put, put_byte, put_decimal, put_two_digits};
 
 pub(crate) fn put_bytes(out: &mut [u8], used: usize, s: &[u8]) -> usize
     ensures { page result out.new ≡ with_text (page used out.old) (byte_texts s.now) }
 {
     let mut at = used;
-    let mut i = 0;
-    while i < s.len() {
-        at = put_two_digits(&mut *out, at, s[i]);
-        i += 1;
+    for b in s {
+        at = put_two_digits(&mut *out, at, *b);
     }
     at
 }
@@ -41,7 +38,7 @@ fn is_same_word(after: &[u8], before: &[u8], k: usize) -> bool
 {
     let a = 4 * k;
     if after.len() - a < 4 {
-        return same(&after[a..], &before[a..]);
+        return after[a..] == before[a..];
     }
     let front = (after[a] == before[a]) & (after[a + 1] == before[a + 1]);
     let back = (after[a + 2] == before[a + 2]) & (after[a + 3] == before[a + 3]);
@@ -64,7 +61,7 @@ fn put_if_changed(
         return used;
     }
     let start = 4 * k;
-    let end = start + least(4, after.len() - start);
+    let end = start + (after.len() - start).min(4);
     put_change(&mut *out, used, label, start, &after[start..end])
 }
 
@@ -72,12 +69,9 @@ fn put_words(out: &mut [u8], used: usize, label: &[u8], after: &[u8], before: &[
     requires { length before.now ≡ length after.now }
     ensures { page result out.new ≡ with_text (page used out.old) (word_changes label.now after.now before.now) }
 {
-    let words = after.len() / 4 + 1;
     let mut at = used;
-    let mut k = 0;
-    while k < words {
+    for k in 0..after.len() / 4 + 1 {
         at = put_if_changed(&mut *out, at, label, after, before, k);
-        k += 1;
     }
     at
 }
@@ -86,7 +80,7 @@ fn put_words(out: &mut [u8], used: usize, label: &[u8], after: &[u8], before: &[
 fn put_memory(out: &mut [u8], used: usize, label: &[u8], memory: &Memory, n: usize) -> usize
     ensures { page result out.new ≡ with_text (page used out.old) (memory_changes label.now memory.now n) }
 {
-    let end = least(n, COPY);
+    let end = n.min(COPY);
     let bytes = &memory[..];
     put_words(
         &mut *out,
@@ -118,12 +112,9 @@ fn put_cache_word(out: &mut [u8], used: usize, cache: &Cache, k: usize) -> usize
 fn put_cache(out: &mut [u8], used: usize, cache: &Cache, n: usize) -> usize
     ensures { page result out.new ≡ with_text (page used out.old) (cache_changes cache.now n) }
 {
-    let end = least(n, CACHE_COPY);
     let mut at = used;
-    let mut k = 0;
-    while k < end {
+    for k in 0..n.min(CACHE_COPY) {
         at = put_cache_word(&mut *out, at, cache, k);
-        k += 1;
     }
     at
 }

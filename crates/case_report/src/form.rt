@@ -4,7 +4,6 @@ ghost use Rattle.std.specs.Prelude.{◌≡◌, cond, ◌+◌, ◌≤◌, ◌<◌
 ghost use Rattle.text.specs.Page.{page, with_text};
 ghost use Rattle.case_report.specs.Form.{is_hole, shown, filled};
 
-use case_kept::buffers::least;
 use case_kept::kept::{ALL, Kept};
 use text::page::{put_byte, put_decimal, put_word};
 
@@ -34,10 +33,7 @@ fn next_number(b: u8, k: usize) -> usize
 fn nth(numbers: &[u64], k: usize) -> u64
     ensures { result ≡ get_or numbers.now k 0 }
 {
-    if k < numbers.len() {
-        return numbers[k];
-    }
-    0
+    numbers.get(k).copied().unwrap_or(0)
 }
 
 pub fn say(out: &mut [u8], used: usize, form: &[u8], numbers: &[u64]) -> usize
@@ -45,12 +41,9 @@ pub fn say(out: &mut [u8], used: usize, form: &[u8], numbers: &[u64]) -> usize
 {
     let mut at = used;
     let mut k = 0;
-    let mut i = 0;
-    while i < form.len() {
-        let b = form[i];
-        at = put_shown(&mut *out, at, b, nth(numbers, k));
-        k = next_number(b, k);
-        i += 1;
+    for b in form {
+        at = put_shown(&mut *out, at, *b, nth(numbers, k));
+        k = next_number(*b, k);
     }
     at
 }
@@ -59,7 +52,7 @@ pub fn say(out: &mut [u8], used: usize, form: &[u8], numbers: &[u64]) -> usize
 pub fn say_kept(out: &mut [u8], used: usize, form: &[u8], kept: &Kept, first: usize) -> usize
     ensures { page result out.new ≡ with_text (page used out.old) (filled form.now (drop first kept.now)) }
 {
-    let from = least(first, ALL);
+    let from = first.min(ALL);
     let numbers = &kept[..];
     say(&mut *out, used, form, &numbers[from..])
 }

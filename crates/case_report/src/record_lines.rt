@@ -42,10 +42,8 @@ pub fn put_record(out: &mut [u8], used: usize, bytes: &[u8]) -> usize
         return used;
     }
     let mut at = used;
-    let mut k = 0;
-    while k < words {
+    for k in 0..words {
         at = put_record_word(&mut *out, at, bytes, k);
-        k += 1;
     }
     put_byte(&mut *out, at, b'\n')
 }
@@ -65,10 +63,8 @@ fn filled(bytes: &[u8]) -> usize
     ensures { result ≡ filled_to (length bytes.now) bytes.now }
 {
     let mut n = 0;
-    let mut i = 0;
-    while i < bytes.len() {
-        n = counted_with(n, bytes[i]);
-        i += 1;
+    for b in bytes {
+        n = counted_with(n, *b);
     }
     n
 }

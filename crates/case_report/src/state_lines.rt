@@ -6,7 +6,6 @@ ghost use Rattle.case_report.specs.Form.{filled};
 ghost use Rattle.case_report.specs.StateLines.{transfer_line, load_line, products_line, held_bases, held_line, replay_line, waiting_text, state_text};
 
 use crate::form::say_kept;
-use case_kept::buffers::least;
 use case_kept::kept::{
     ACTIVE, BLOCK, BR, CALL, FETCH, HELD, HOLDS, Kept, LOAD, LOADED, METHOD, PLACE, PREDICATES,
     PRODUCT, PRODUCTS, REGISTERS, REPLAYS, SPECIALS, TARGET, TRANSFER, XRET, is_set, number,
@@ -76,12 +75,7 @@ fn put_held(out: &mut [u8], used: usize, kept: &Kept) -> usize
     ensures { page result out.new ≡ with_text (page used out.old) (held_line kept.now) }
 {
     if is_set(kept, METHOD) | is_set(kept, HOLDS) {
-        return put_bases(
-            &mut *out,
-            used,
-            kept,
-            least(number(kept, HELD) as usize, 16),
-        );
+        return put_bases(&mut *out, used, kept, (number(kept, HELD) as usize).min(16));
     }
     used
 }

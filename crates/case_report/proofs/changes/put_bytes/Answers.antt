@@ -7,27 +7,18 @@ use Rattle.case_report.specs.Changes.{byte_texts}
 use Rattle.case_report.specs.ChangesLaws.{bytes_step, bytes_end}
 use Rattle.case_report.proofs.changes.put_bytes.Goals as goal
 
-pub loop-i-init : goal.loop-i-init
-loop-i-init c = (refl, refl)
+pub loop-b-init : goal.loop-b-init
+loop-b-init c = (refl, refl)
 
-pub bounds-s-i : goal.bounds-s-i
-bounds-s-i c = omega arith
-
-pub overflow_add-i : goal.overflow_add-i
-overflow_add-i c = omega arith
-
-pub loop-i-smaller : goal.loop-i-smaller
-loop-i-smaller c = omega arith
-
-pub loop-i-preserved : goal.loop-i-preserved
-loop-i-preserved c = let l = c.loop-i in
+pub loop-b-preserved : goal.loop-b-preserved
+loop-b-preserved c = let l = c.loop-b in
     let s = c.args.s.now in (
       c.put_two_digits-at.auto.out ∙ l.invariant.0,
-      ap (λ (p : Page). with_text p (byte_texts (drop (l.i + 1) s))) c.put_two_digits-at.ensures ∙ bytes_step _ s l.i c.loop-i-test.true ∙ l.invariant.1,
+      ap (λ (p : Page). with_text p (byte_texts (drop (l.b-index + 1) s))) c.put_two_digits-at.ensures ∙ bytes_step _ s l.b-index (omega arith) ∙ l.invariant.1,
     )
 
 pub shape_of-out : goal.shape_of-out
-shape_of-out c = c.loop-i.invariant.0
+shape_of-out c = c.loop-b.invariant.0
 
 pub returns : goal.returns
-returns c = let l = c.loop-i in bytes_end _ c.args.s.now l.i c.loop-i-test.false ∙ l.invariant.1
+returns c = let l = c.loop-b in bytes_end _ c.args.s.now l.b-index (omega arith) ∙ l.invariant.1

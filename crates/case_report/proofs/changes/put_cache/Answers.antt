@@ -7,20 +7,12 @@ use Rattle.case_report.specs.ChangesLaws.{texts_none, texts_more}
 use Rattle.case_report.proofs.changes.put_cache.Goals as goal
 
 pub loop-k-init : goal.loop-k-init
-loop-k-init c = (refl, omega arith, texts_none _ _)
+loop-k-init c = (refl, texts_none _ _)
 
-pub put_cache_word-at-requires : goal.put_cache_word-at-requires
-put_cache_word-at-requires c = omega (arith, c.least-end.ensures.1)
-
-pub overflow_add-k : goal.overflow_add-k
-overflow_add-k c = omega arith
-
-pub loop-k-smaller : goal.loop-k-smaller
-loop-k-smaller c = omega arith
 
 pub loop-k-preserved : goal.loop-k-preserved
 loop-k-preserved c = let l = c.loop-k in
-    (c.put_cache_word-at.auto.out ∙ l.invariant.0, omega arith, texts_more _ _ _ _ l.k l.invariant.2 c.put_cache_word-at.ensures)
+    (c.put_cache_word-at.auto.out ∙ l.invariant.0, texts_more _ _ _ _ l.k l.invariant.1 c.put_cache_word-at.ensures)
 
 pub shape_of-out : goal.shape_of-out
 shape_of-out c = c.loop-k.invariant.0
@@ -29,5 +21,5 @@ pub returns : goal.returns
 unfolding cache_changes
 returns c = let l = c.loop-k in
     let a = c.args in
-    let e : l.k ≡ min a.n 513 = omega (arith, c.least-end.ensures.2) in
-    l.invariant.2 ∙ ap (λ (k : ℕ). with_text (page a.used a.out.now) (texts k (cache_change a.cache.now))) e
+    let e : l.k ≡ min a.n 513 = omega arith in
+    l.invariant.1 ∙ ap (λ (k : ℕ). with_text (page a.used a.out.now) (texts k (cache_change a.cache.now))) e

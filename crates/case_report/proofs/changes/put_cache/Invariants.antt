@@ -1,4 +1,3 @@
-use Prim.Native.Nat.{◌-◌, ◌≤◌}
 use mathlib.Core.Path.{◌≡◌}
 use lib.ListN.{length}
 use Rattle.text.specs.Page.{page, with_text}
@@ -6,7 +5,4 @@ use Rattle.case_report.specs.Changes.{texts, cache_change}
 use Rattle.case_report.proofs.changes.put_cache.Given as goal
 
 abbrev pub invariant-loop-k : goal.invariant-loop-k
-invariant-loop-k l = (length l.out ≡ length l.initial.out) × (l.k ≤ l.end) × (page l.at l.out ≡ with_text (page l.used l.initial.out) (texts l.k (cache_change l.cache)))
-
-abbrev pub decreases-loop-k : goal.decreases-loop-k
-decreases-loop-k l = l.end - l.k
+invariant-loop-k l = (length l.out ≡ length l.initial.out) × (page l.at l.out ≡ with_text (page l.used l.initial.out) (texts l.k (cache_change l.cache)))

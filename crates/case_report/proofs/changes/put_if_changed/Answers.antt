@@ -1,5 +1,7 @@
-use Prim.Native.Nat.{ℕ, ◌+◌, ◌*◌}
-use mathlib.Core.Path.{ap}
+use native.Mathlib.Omega.{arith}
+use Prim.Native.Nat.{◌+◌, ◌-◌, ◌*◌, min}
+use mathlib.Core.Path.{◌≡◌}
+use lib.ListN.{length}
 use Rattle.text.specs.Page.{page}
 use Rattle.case_report.specs.ChangesLaws.{unchanged, changed}
 use Rattle.case_report.proofs.changes.put_if_changed.Goals as goal
@@ -9,5 +11,5 @@ returns-then-is_same_word c = unchanged _ _ _ _ _ _ c.is_same_word.ensures c.if-
 
 pub returns : goal.returns
 returns c = let a = c.args in
-    let g = ap (λ (m : ℕ). 4 * a.k + m) c.least.ensures.2 in
+    let g : 4 * a.k + c.min.result ≡ 4 * a.k + min 4 (length a.after.now - 4 * a.k) = omega (arith, c.min.ensures) in
     changed (page a.used a.out.now) a.label.now a.after.now a.before.now a.k _ c.is_same_word.ensures _ _ c.if-is_same_word.false c.requires.0 g c.put_change.ensures

@@ -7,24 +7,14 @@ use Rattle.case_report.specs.Changes.{texts, change_at, word_changes}
 use Rattle.case_report.specs.ChangesLaws.{texts_none, texts_more}
 use Rattle.case_report.proofs.changes.put_words.Goals as goal
 
-pub overflow_add-words : goal.overflow_add-words
-overflow_add-words c = omega arith
 
 pub loop-k-init : goal.loop-k-init
-loop-k-init c = (refl, omega arith, texts_none _ _)
+loop-k-init c = (refl, texts_none _ _)
 
-pub put_if_changed-at-requires : goal.put_if_changed-at-requires
-put_if_changed-at-requires c = (omega arith, c.requires)
-
-pub overflow_add-k : goal.overflow_add-k
-overflow_add-k c = omega arith
-
-pub loop-k-smaller : goal.loop-k-smaller
-loop-k-smaller c = omega arith
 
 pub loop-k-preserved : goal.loop-k-preserved
 loop-k-preserved c = let l = c.loop-k in
-    (c.put_if_changed-at.auto.out ∙ l.invariant.0, omega arith, texts_more _ _ _ _ l.k l.invariant.2 c.put_if_changed-at.ensures)
+    (c.put_if_changed-at.auto.out ∙ l.invariant.0, texts_more _ _ _ _ l.k l.invariant.1 c.put_if_changed-at.ensures)
 
 pub shape_of-out : goal.shape_of-out
 shape_of-out c = c.loop-k.invariant.0
@@ -34,4 +24,4 @@ unfolding word_changes
 returns c = let l = c.loop-k in
     let a = c.args in
     let e : l.k ≡ length a.after.now / 4 + 1 = omega arith in
-    l.invariant.2 ∙ ap (λ (k : ℕ). with_text (page a.used a.out.now) (texts k (change_at a.label.now a.after.now a.before.now))) e
+    l.invariant.1 ∙ ap (λ (k : ℕ). with_text (page a.used a.out.now) (texts k (change_at a.label.now a.after.now a.before.now))) e

@@ -6,7 +6,4 @@ use Rattle.case_report.specs.Changes.{texts, change_at}
 use Rattle.case_report.proofs.changes.put_words.Given as goal
 
 abbrev pub invariant-loop-k : goal.invariant-loop-k
-invariant-loop-k l = (length l.out ≡ length l.initial.out) × (l.k ≤ l.words) × (page l.at l.out ≡ with_text (page l.used l.initial.out) (texts l.k (change_at l.label l.after l.before)))
-
-abbrev pub decreases-loop-k : goal.decreases-loop-k
-decreases-loop-k l = l.words - l.k
+invariant-loop-k l = (length l.out ≡ length l.initial.out) × (page l.at l.out ≡ with_text (page l.used l.initial.out) (texts l.k (change_at l.label l.after l.before)))

@@ -13,4 +13,4 @@ pub returns : goal.returns
 returns c = let a = c.args in
     let n : length a.kept.now ≡ ALL = search rules in
     c.say.ensures ∙ ap (λ (l : List ℕ). with_text (page a.used a.out.now) (filled a.form.now l))
-    (ap (λ (k : ℕ). take (length a.kept.now - k) (drop k a.kept.now)) c.least-from.ensures.2 ∙ from_on ALL a.first a.kept.now n)
+    (ap (λ (k : ℕ). take (length a.kept.now - k) (drop k a.kept.now)) c.min-from.ensures ∙ from_on ALL a.first a.kept.now n)

@@ -13,20 +13,12 @@ unfolding record_text
 returns-then-words-eq0 c = rw (eq-eqb _ _ c.if-words-eq0.true) (sym (text_none _))
 
 pub loop-k-init : goal.loop-k-init
-loop-k-init c = (refl, omega arith, texts_none _ _)
+loop-k-init c = (refl, texts_none _ _)
 
-pub put_record_word-at-requires : goal.put_record_word-at-requires
-put_record_word-at-requires c = omega arith
-
-pub overflow_add-k : goal.overflow_add-k
-overflow_add-k c = omega arith
-
-pub loop-k-smaller : goal.loop-k-smaller
-loop-k-smaller c = omega arith
 
 pub loop-k-preserved : goal.loop-k-preserved
 loop-k-preserved c = let l = c.loop-k in
-    (c.put_record_word-at.auto.out ∙ l.invariant.0, omega arith, texts_more _ _ _ _ l.k l.invariant.2 c.put_record_word-at.ensures)
+    (c.put_record_word-at.auto.out ∙ l.invariant.0, texts_more _ _ _ _ l.k l.invariant.1 c.put_record_word-at.ensures)
 
 pub shape_of-out : goal.shape_of-out
 shape_of-out c = c.put_byte.auto.out ∙ c.loop-k.invariant.0
@@ -36,4 +28,4 @@ unfolding record_text
 returns c = let l = c.loop-k in
     let a = c.args in
     let e : l.k ≡ length a.bytes.now / 4 = omega arith in
-    rw (ne_eqb _ _ c.if-words-eq0.false, ← e) (text_then _ _ _ _ _ l.invariant.2 (c.put_byte.ensures ∙ sym (text_byte _ _)))
+    rw (ne_eqb _ _ c.if-words-eq0.false, ← e) (text_then _ _ _ _ _ l.invariant.1 (c.put_byte.ensures ∙ sym (text_byte _ _)))

@@ -1,4 +1,3 @@
-use Prim.Native.Nat.{◌-◌, ◌≤◌}
 use mathlib.Core.Path.{◌≡◌}
 use lib.ListN.{length}
 use Rattle.text.specs.Page.{page, with_text}
@@ -7,7 +6,4 @@ use Rattle.case_report.specs.RecordLines.{record_word}
 use Rattle.case_report.proofs.record_lines.put_record.Given as goal
 
 abbrev pub invariant-loop-k : goal.invariant-loop-k
-invariant-loop-k l = (length l.out ≡ length l.initial.out) × (l.k ≤ l.words) × (page l.at l.out ≡ with_text (page l.used l.initial.out) (texts l.k (record_word l.bytes)))
-
-abbrev pub decreases-loop-k : goal.decreases-loop-k
-decreases-loop-k l = l.words - l.k
+invariant-loop-k l = (length l.out ≡ length l.initial.out) × (page l.at l.out ≡ with_text (page l.used l.initial.out) (texts l.k (record_word l.bytes)))

@@ -9,7 +9,7 @@ pub returns-then-is_set : goal.returns-then-is_set
 unfolding held_line
 returns-then-is_set c = let a = c.args in
     let holds : c.is_set-2.result ≡ is_set a.kept.now HOLDS = c.is_set-2.ensures in
-    rw (← c.is_set.ensures, ← holds, c.if-is_set.true, ← c.number.ensures, ← c.least.ensures.2) c.put_bases.ensures
+    rw (← c.is_set.ensures, ← holds, c.if-is_set.true, ← c.number.ensures, ← c.min.ensures) c.put_bases.ensures
 
 pub returns : goal.returns
 unfolding held_line
