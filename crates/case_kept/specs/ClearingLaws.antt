@@ -78,5 +78,5 @@ copied_behind first n l p h = set_each_is first n (λ i. get_or l i 0) l (take f
 pub copied_in_front : (first n : ℕ) (l : List ℕ) → n ≤ first → first + n ≤ length l → (take n (drop first l) ++ drop n (take first l)) ++ drop first l ≡ set_each 0 n (λ i. get_or l (first + i) 0) l
 copied_in_front first n l p h =
     let whole : drop n (take first l) ++ drop first l ≡ drop n l =
-        sym (drop-append-le n (take first l) (drop first l) (grind (arith, common_steps))) ∙ ap (drop n) (take-append-drop first l) in
+    sym (drop-append-le n (take first l) (drop first l) (grind (arith, common_steps))) ∙ ap (drop n) (take-append-drop first l) in
     rw (append_assoc, whole) (set_each_is 0 n (λ i. get_or l (first + i) 0) l (take n (drop first l) ++ drop n l) (omega arith) (grind (arith, common_steps)) (λ k b. absurd (omega arith)) (λ k b. rw (zero-add k) (grind (arith, common_steps))) (λ k b c. grind (arith, common_steps)))

@@ -218,9 +218,9 @@ pub fn keep_flag(kept: &mut Kept, index: usize, flag: bool)
     keep(&mut *kept, index, u64::from(flag));
 }
 
-// Eight flags from an index on.
-pub fn flags_of(kept: &Kept, first: usize) -> [bool; 8]
-    ensures { result ≡ kept_flags 8 kept.now first }
+// So many flags from an index on.
+pub fn flags_of<const N: usize>(kept: &Kept, first: usize) -> [bool; N]
+    ensures { result ≡ kept_flags N kept.now first }
 {
     array::from_fn(|i| is_set_after(kept, first, i))
 }

@@ -5,4 +5,4 @@ use Rattle.case_kept.specs.KeptLaws.{from_fn_up_to}
 use Rattle.case_kept.proofs.kept.flags_of.Goals as goal
 
 pub returns : goal.returns
-returns c = from_fn_up_to _ _ (λ i. is_set c.args.kept.now (c.args.first + i)) _ 8 (λ i b q k. search rules) c.from_fn.ensures.items
+returns g c = from_fn_up_to _ _ (λ i. is_set c.args.kept.now (c.args.first + i)) _ _ (λ i b q k. search rules) c.from_fn.ensures.items
