@@ -9,7 +9,7 @@ use text::numbers::{decimal, word};
 
 // Whether no field is left.
 #[tactic(auto, unfolding(crate::specs::Arguments::is_end))]
-pub(crate) fn ended(line: &[u8], at: usize) -> bool
+pub fn ended(line: &[u8], at: usize) -> bool
     ensures { result ≡ is_end line.now at }
 {
     let f = next_field(line, at);
