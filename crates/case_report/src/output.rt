@@ -2,7 +2,6 @@
 ghost use Rattle.std.specs.Prelude.{◌≤◌, IsTrue, length, take};
 ghost use Rattle.std.specs.Io.KnownBytes.{Appends, Keeps};
 
-use case_kept::buffers::least;
 use std::io::{Cursor, Error, Write};
 
 // Writes the used part of a buffer, and answers whether that went well. If not, it says so on the writer of errors.
@@ -11,8 +10,8 @@ pub fn write_out<W: Write, E: Write>(to: &mut W, errors: &mut E, out: &[u8], use
     ensures written { IsTrue result → Appends (W.contents to.old) (W.contents to.new) (take used out.now) }
     ensures quiet { IsTrue result → Keeps (E.contents errors.old) (E.contents errors.new) }
 {
-    let n = least(used, out.len());
-    match to.write_all(&out[0..n]) {
+    let n = used.min(out.len());
+    match to.write_all(&out[..n]) {
         Ok(()) => true,
         Err(e) => {
             say_failure(errors, b"the report could not be written", &e);

@@ -8,15 +8,8 @@ pub mod page;
 pub mod table;
 
 // A part of a line, from start up to, not including, end.
-#[derive(Clone, Copy)]
+#[derive(Clone, Copy, PartialEq, Eq, Debug)]
 pub struct Field {
     pub start: usize,
     pub end: usize,
-}
-
-// A number of 32 bits, or a field that is none.
-#[derive(Clone, Copy)]
-pub enum Number {
-    Value(u32),
-    Bad,
 }
