@@ -7,9 +7,8 @@ ghost use Rattle.text.specs.Page.{Puts};
 ghost use Rattle.case_report.specs.Changes.{byte_texts, change_line, word, change_at, word_changes, memory_changes, cache_line, cache_change, cache_changes, changes_text};
 
 use crate::form::say;
-use case_kept::buffers::{CACHE_COPY, COPY, Cache, Memory, least};
+use case_kept::buffers::{CACHE_COPY, COPY, Cache, Memory};
 use case_kept::extent::Extents;
-use text::fields::same;
 use text::page::Page;
 
 pub(crate) fn put_bytes(page: &mut Page, s: &[u8])
@@ -39,7 +38,7 @@ fn is_same_word(after: &[u8], before: &[u8], k: usize) -> bool
 {
     let a = 4 * k;
     if after.len() - a < 4 {
-        return same(&after[a..], &before[a..]);
+        return after[a..] == before[a..];
     }
     let front = (after[a] == before[a]) & (after[a + 1] == before[a + 1]);
     let back = (after[a + 2] == before[a + 2]) & (after[a + 3] == before[a + 3]);
@@ -55,7 +54,7 @@ fn put_if_changed(page: &mut Page, label: &[u8], after: &[u8], before: &[u8], k:
         return;
     }
     let start = 4 * k;
-    let end = start + least(4, after.len() - start);
+    let end = start + (after.len() - start).min(4);
     put_change(page, label, start, &after[start..end]);
 }
 
@@ -74,7 +73,7 @@ fn put_words(page: &mut Page, label: &[u8], after: &[u8], before: &[u8])
 fn put_memory(page: &mut Page, label: &[u8], memory: &Memory, n: usize)
     ensures { Puts page.old page.new (memory_changes label.now memory.now n) }
 {
-    let end = least(n, COPY);
+    let end = n.min(COPY);
     let bytes = &memory[..];
     put_words(page, label, &bytes[0..end], &bytes[COPY..COPY + end]);
 }
@@ -100,7 +99,7 @@ fn put_cache_word(page: &mut Page, cache: &Cache, k: usize)
 fn put_cache(page: &mut Page, cache: &Cache, n: usize)
     ensures { Puts page.old page.new (cache_changes cache.now n) }
 {
-    let end = least(n, CACHE_COPY);
+    let end = n.min(CACHE_COPY);
     for k in 0..end {
         put_cache_word(page, cache, k);
     }

@@ -6,7 +6,6 @@ ghost use Rattle.case_report.specs.Form.{filled};
 ghost use Rattle.case_report.specs.StateLines.{transfer_line, load_line, products_line, held_bases, held_line, replay_line, waiting_text, state_text};
 
 use crate::form::say_kept;
-use case_kept::buffers::least;
 use case_kept::kept::{
     ACTIVE, BLOCK, BR, CALL, FETCH, HELD, HOLDS, Kept, LOAD, LOADED, METHOD, PLACE, PREDICATES,
     PRODUCT, PRODUCTS, REGISTERS, REPLAYS, SPECIALS, TARGET, TRANSFER, XRET, is_set, number,
@@ -82,7 +81,7 @@ fn put_held(page: &mut Page, kept: &Kept)
     ensures { Puts page.old page.new (held_line kept.now) }
 {
     if is_set(kept, METHOD) | is_set(kept, HOLDS) {
-        put_bases(page, kept, least(number(kept, HELD) as usize, 16));
+        put_bases(page, kept, (number(kept, HELD) as usize).min(16));
     }
 }
 
