@@ -1,18 +1,13 @@
-use Prim.Native.Nat.{◌≤◌, ◌/◌, ◌+◌, ◌-◌}
+use Prim.Native.Nat.{◌/◌, ◌+◌, ◌-◌}
 use mathlib.Core.Path.{◌≡◌, refl, sym, ◌∙◌}
 use native.Mathlib.Omega.{arith}
 use borrow.Author.Tests.{ne_eqb}
-use borrow.Author.Rules.{rules}
 use lib.ListN.{length}
 use Rattle.answers.specs.Refusal.{number}
 use Rattle.fetch.specs.FetchLaws.{found_bundle, found_inside, refused_small}
-use Rattle.single_path.specs.Check.{walk_from}
 use Rattle.single_path.specs.LoopLaws.{walk_none, walk_end, walk_refused, walk_broken, walk_next}
 use Rattle.single_path.specs.FoundLaws.{found_keeps, found_breaks, breaks_keeps}
 use Rattle.single_path.proofs.walk.Goals as goal
-
-pub overflow_add-code : goal.overflow_add-code
-overflow_add-code c = omega (arith, c.requires)
 
 pub returns-then-code-address : goal.returns-then-code-address
 returns-then-code-address c =
