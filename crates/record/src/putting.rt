@@ -21,8 +21,8 @@ pub(crate) fn put_section(out: &mut [u8], at: u32, words: &[u32]) -> u32
 {
     write_word(&mut *out, at, words.len() as u32);
     let mut next = at + 4;
-    for i in 0..words.len() {
-        write_word(&mut *out, next, words[i]);
+    for word in words {
+        write_word(&mut *out, next, *word);
         next += 4;
     }
     next
