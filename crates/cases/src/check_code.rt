@@ -1,6 +1,6 @@
 // The check of a case's code under its marking.
 use crate::kept_state::config_of;
-use case_kept::buffers::{Bytes, Report, least};
+use case_kept::buffers::{Bytes, Report};
 use case_kept::extent::extents_of;
 use case_kept::kept::Kept;
 use case_notes::marked::marking_of;
@@ -50,7 +50,7 @@ fn put_checked(out: &mut Report, c: Checked) -> usize {
 
 pub(crate) fn do_check(code: &Bytes, kept: &Kept, out: &mut Report) -> usize {
     let e = extents_of(kept);
-    let n = least(e.code, 65536);
+    let n = e.code.min(65536);
     let config = config_of(e, kept);
     let bytes = &code[..];
     let c = single_path::check(

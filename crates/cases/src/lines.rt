@@ -1,18 +1,16 @@
 // Lines of the file, one after the other. What a line has to report is put at the front of a buffer, of which each function answers
 // how much is used, and is written out before the next line is read.
 use crate::check_code::do_check;
-use crate::kinds::{kind_in, kind_of, reason};
+use crate::kinds::{read_kind, reason};
 use crate::opening::{judge_places, open_case, start_case};
 use crate::operation::do_operation;
 use crate::resuming::{do_resume, do_save};
 use crate::writing::{do_list, do_write};
 use crate::{Asked, Kind, Shown};
-use case_file::lines::read_line;
-use case_file::{Line, Reason};
+use case_file::Reason;
 use case_input::{Found, look, no_input};
-use case_kept::buffers::{Bytes, Cache, LineBytes, Memory, Report, least};
+use case_kept::buffers::{Bytes, Cache, LineBytes, Memory, Report};
 use case_kept::kept::{Kept, LINE, OPEN, PHASE, STOPPED};
-use case_notes::Judged;
 use case_notes::description_line::describe;
 use case_report::mistake::fail;
 use case_report::output::{say_failure, write_out};
@@ -86,10 +84,10 @@ fn showing_line(shown: Shown, code: &Bytes, kept: &mut Kept, out: &mut Report) -
 }
 
 // What came of a line of the case's description.
-fn described(j: Judged, kept: &mut Kept, out: &mut Report) -> usize {
-    match j {
-        Judged::Fine => 0,
-        Judged::Mistake(r) => fail_here(&mut *kept, r, &mut *out),
+fn described(judged: Result<(), Reason>, kept: &mut Kept, out: &mut Report) -> usize {
+    match judged {
+        Ok(()) => 0,
+        Err(r) => fail_here(&mut *kept, r, &mut *out),
     }
 }
 
@@ -104,11 +102,10 @@ fn take_line(
     out: &mut Report,
 ) -> usize {
     kept[LINE] = wrapping_add_u64(kept[LINE], 1);
-    let said = read_line(line);
-    match kind_in(kept[PHASE], kind_of(said, line)) {
-        Kind::Empty => 0,
-        Kind::Mistake(r) => fail_here(&mut *kept, reason(line, r), &mut *out),
-        Kind::Start(name) => start_case(
+    match read_kind(kept[PHASE], line) {
+        Err(r) => fail_here(&mut *kept, reason(line, r), &mut *out),
+        Ok(Kind::Empty) => 0,
+        Ok(Kind::Start(name)) => start_case(
             line,
             name,
             &mut *main,
@@ -117,8 +114,8 @@ fn take_line(
             &mut *kept,
             &mut *out,
         ),
-        Kind::Show(shown) => showing_line(shown, &*code, &mut *kept, &mut *out),
-        Kind::Operation(asked) => operation_line(
+        Ok(Kind::Show(shown)) => showing_line(shown, &*code, &mut *kept, &mut *out),
+        Ok(Kind::Operation(asked)) => operation_line(
             asked,
             &*code,
             &mut *main,
@@ -127,7 +124,7 @@ fn take_line(
             &mut *kept,
             &mut *out,
         ),
-        Kind::Description => described(
+        Ok(Kind::Description(said)) => described(
             describe(
                 said,
                 line,
@@ -175,7 +172,7 @@ fn take(
 ) -> usize {
     match found {
         Found::Line(n) => {
-            let end = least(n, 4000);
+            let end = n.min(4000);
             let bytes = &line[..];
             take_line(
                 &bytes[0..end],

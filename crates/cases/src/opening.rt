@@ -11,7 +11,7 @@ use case_kept::kept::{
     BASE, DESCRIBED, ENTRY, FETCH, JUDGED, Kept, LOCAL, MAIN, OPEN, PHASE, REFUSED, SPECIALS,
     forget_case, keep_word, number, word,
 };
-use case_kept::places::{Outside, Store, first_outside, reach_index};
+use case_kept::places::{Store, first_outside, reach_index};
 use case_notes::description::is_given;
 use case_report::form::say;
 use case_report::mistake::fail;
@@ -91,10 +91,8 @@ fn keep_built(kept: &mut Kept, index: usize, w: u32) {
 }
 
 fn keep_built_specials(kept: &mut Kept, specials: [u32; 8]) {
-    let mut i = 0;
-    while i < 8 {
-        keep_built(&mut *kept, SPECIALS + i, specials[i]);
-        i += 1;
+    for (i, w) in specials.iter().enumerate() {
+        keep_built(&mut *kept, SPECIALS + i, *w);
     }
 }
 
@@ -148,8 +146,8 @@ pub(crate) fn judge_places(kept: &mut Kept, out: &mut Report) -> usize {
         return 0;
     }
     match first_outside(&*kept) {
-        Outside::Line(n) => fail(&mut *out, 0, &mut *kept, n, Reason::PlaceOutside),
-        Outside::Nowhere => {
+        Some(n) => fail(&mut *out, 0, &mut *kept, n, Reason::PlaceOutside),
+        None => {
             kept[PHASE] = JUDGED;
             0
         }

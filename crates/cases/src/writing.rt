@@ -1,6 +1,6 @@
 // Words written for a bundle, and the listing of a case's code. A line of a listing has at most 55 bytes for each word, so that the
 // listing of the longest code fits the report's buffer.
-use case_kept::buffers::{Bytes, Report, least};
+use case_kept::buffers::{Bytes, Report};
 use case_kept::extent::extents_of;
 use case_kept::kept::Kept;
 use encoder::Written;
@@ -15,7 +15,7 @@ pub(crate) fn do_write(w: Written, out: &mut Report) -> usize {
 
 pub(crate) fn do_list(code: &Bytes, kept: &Kept, out: &mut Report) -> usize {
     let e = extents_of(kept);
-    let n = least(e.code, 65536);
+    let n = e.code.min(65536);
     let bytes = &code[..];
     put_list(&mut *out, 0, &bytes[0..n])
 }

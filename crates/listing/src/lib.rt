@@ -134,16 +134,14 @@ fn following(code: &[u8], address: u32) -> u32
     address + 8
 }
 
-// The listing. A proved loop has to end, so the lines are counted down. Their number is such that no address passes 32 bits, however long
+// The listing. A proved loop has to end, so it is one over a range. Their number is such that no address passes 32 bits, however long
 // the code is.
 pub fn put_list(out: &mut [u8], used: usize, code: &[u8]) -> usize
     ensures { page result out.new ≡ with_text (page used out.old) (list_text code.now) }
 {
     let mut at = put(&mut *out, used, b"list\n");
     let mut address = 0u32;
-    let mut left = 16384u32;
-    while 0 < left {
-        left -= 1;
+    for _ in 0..16384u32 {
         if code.len() <= (address as usize) {
             return at;
         }
