@@ -4,6 +4,7 @@ ghost use Rattle.encoder.specs.Encode.{either_slot, constant_in, constant_of, si
 
 use crate::Written;
 use crate::words::{write_long, write_one, write_two};
+use answers::Refusal;
 use isa::{AluInstruction, AluOperation, Instruction, Op2, Operation};
 
 // The operation as one that either slot may hold.
@@ -56,7 +57,7 @@ pub fn write_pair(i: Instruction, j: Instruction) -> Written
     let guard = j.guard;
     let operation = j.operation;
     let Some(operation) = either_slot(operation) else {
-        return Written::Refused(12);
+        return Err(Refusal::NoWords);
     };
     write_two(i, AluInstruction { guard, operation })
 }
