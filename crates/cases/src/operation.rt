@@ -4,7 +4,6 @@ ghost use Rattle.std.specs.Prelude.{◌≤◌, length};
 use crate::Asked;
 use crate::answer_lines::{RUN, STEP, put_counts, put_reply};
 use crate::kept_state::{config_of, keep_counts, keep_far, keep_state, state_of};
-use bundle_model::Answer;
 use case_kept::buffers::{Bytes, Cache, Memory};
 use case_kept::clearing::{copy_cache, copy_memory};
 use case_kept::extent::extents_of;
@@ -13,26 +12,10 @@ use case_notes::replay::{lay_list, lay_table, list_length, table_length};
 use case_report::changes::put_changes;
 use case_report::state_lines::put_state;
 use resume::Reply;
-use run::{Ran, RunAnswer};
+use run::Ran;
 use settings::Config;
 use state::Stepped;
 use text::page::Page;
-
-fn step_reply(a: Answer) -> Reply {
-    match a {
-        Answer::Done => Reply::Done,
-        Answer::Ended => Reply::Ended,
-        Answer::Refused(refusal) => Reply::Refused(refusal),
-    }
-}
-
-fn run_reply(a: RunAnswer) -> Reply {
-    match a {
-        RunAnswer::Ended => Reply::Ended,
-        RunAnswer::Spent => Reply::Spent,
-        RunAnswer::Refused(refusal) => Reply::Refused(refusal),
-    }
-}
 
 // The state that is left is kept, and the counts.
 fn keep_step(r: Stepped, kept: &mut Kept) -> Reply {
@@ -43,7 +26,7 @@ fn keep_step(r: Stepped, kept: &mut Kept) -> Reply {
     keep_state(&mut *kept, state);
     keep_far(&mut *kept, replay);
     keep_counts(&mut *kept, counts);
-    step_reply(answer)
+    Reply::from(answer)
 }
 
 fn keep_run(r: Ran, kept: &mut Kept) -> Reply {
@@ -54,7 +37,7 @@ fn keep_run(r: Ran, kept: &mut Kept) -> Reply {
     keep_state(&mut *kept, state);
     keep_far(&mut *kept, replay);
     keep_counts(&mut *kept, counts);
-    run_reply(answer)
+    Reply::from(answer)
 }
 
 fn operate(
