@@ -1,5 +1,5 @@
 // The ALU formats: what either slot can hold, and the long immediate.
-#![tactic(auto, using(isa::specs::TableLaws::row_unused, isa::specs::TableLaws::row_used, isa::specs::TableLaws::row_applied), unfolding(isa::specs::Format::reading))]
+#![tactic(auto, using(isa::specs::TableLaws::rows, isa::specs::TableLaws::row_applied), unfolding(isa::specs::Format::reading))]
 
 ghost use Rattle.std.specs.Prelude.{◌≡◌, Some};
 ghost use Rattle.isa.specs.Format.{reading, row};
@@ -59,7 +59,8 @@ fn predicate(
     })
 }
 
-// A word in a format that either slot can hold.
+// A word in a format that either slot can hold. It is made part of both callers: otherwise each reading goes through memory.
+#[inline(always)]
 pub fn read_alu(w: u32) -> Option<AluOperation>
     ensures { result ≡ reading alu_formats w }
 {
@@ -91,42 +92,6 @@ pub fn read_alu(w: u32) -> Option<AluOperation>
             ps: predicate_operand(func),
         }),
         6 => compare(func, pd, rs1, Op2::Immediate(rs2)),
-        _ => None,
-    }
-}
-
-// The same for slot two, which alone calls it, so that each can be made part of its caller and no reading goes through memory.
-pub fn read_second(w: u32) -> Option<AluOperation>
-    ensures { result ≡ reading alu_formats w }
-{
-    let rd = w / 131072 % 32;
-    let rs1 = w / 4096 % 32;
-    let rs2 = w / 128 % 32;
-    let code = w % 16;
-    if w / 33554432 % 4 == 0 {
-        return arithmetic(w / 4194304 % 8, rd, rs1, Op2::Immediate(w % 4096));
-    }
-    if w / 4194304 % 32 != 8 {
-        return None;
-    }
-    let to = w / 131072 % 8;
-    let opc = w / 16 % 8;
-    match opc {
-        0 => arithmetic(code, rd, rs1, Op2::Register(rs2)),
-        3 => compare(code, to, rs1, Op2::Register(rs2)),
-        4 => predicate(
-            code,
-            to,
-            predicate_operand(w / 4096 % 16),
-            predicate_operand(w / 128 % 16),
-        ),
-        5 => Some(AluOperation::BitCopy {
-            rd,
-            rs1,
-            bit: rs2,
-            ps: predicate_operand(code),
-        }),
-        6 => compare(code, to, rs1, Op2::Immediate(rs2)),
         _ => None,
     }
 }

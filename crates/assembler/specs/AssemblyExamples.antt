@@ -1,5 +1,5 @@
 -- Texts with the bundle that each is read as and the text that the bundle has, and texts that are mistakes.
-use Rattle.std.specs.Prelude.{ℕ, ◌≡◌, refl, true, false, List, [], ◌∷◌, negsuc}
+use Rattle.std.specs.Prelude.{Ok, Err, ℕ, ◌≡◌, refl, true, false, List, [], ◌∷◌, negsuc}
 use Prim.Native.String as Text
 use Rattle.word.specs.Word.{signed}
 use Rattle.text.specs.Field.{spaces, field_length, field_from, same_bytes}
@@ -15,7 +15,7 @@ use Rattle.assembly.specs.Operands.{specials, signed_number, predicate_read, ope
 use Rattle.assembly.specs.RowLaws.{place, mnemonic_place, special_place}
 use Rattle.disassembler.specs.Shown.{shown}
 use Rattle.assembly.specs.Forms.{name_of}
-use Rattle.assembler.specs.Reading.{Found, Mistake, operands_at, named_at, instruction_at, after_first, bundle_read}
+use Rattle.assembler.specs.Reading.{operands_at, named_at, instruction_at, after_first, bundle_read}
 use Rattle.disassembler.specs.Text.{shown_text, guard_text, bundle_text}
 use Rattle.isa.specs.Format.{row}
 use Rattle.isa.specs.declared.PredicateOperand.{PredicateOperand}
@@ -72,11 +72,11 @@ a and b = (a, b)
 
 abbrev pub AllHold : List Example → Type 0
 AllHold [] = Unit {0}
-AllHold (e ∷ es) = ((bundle_read (bytes e.text) 0 ≡ Found e.bundle) × (bundle_text e.bundle ≡ bytes e.written)) × AllHold es
+AllHold (e ∷ es) = ((bundle_read (bytes e.text) 0 ≡ Ok e.bundle) × (bundle_text e.bundle ≡ bytes e.written)) × AllHold es
 
 abbrev pub AllMistakes : List (Text.String × Reason) → Type 0
 AllMistakes [] = Unit {0}
-AllMistakes (m ∷ ms) = (bundle_read (bytes m.0) 0 ≡ Mistake m.1) × AllMistakes ms
+AllMistakes (m ∷ ms) = (bundle_read (bytes m.0) 0 ≡ Err m.1) × AllMistakes ms
 
 abbrev pub examples : List Example
 examples =

@@ -1,13 +1,11 @@
 -- Laws of operands: what a field is by its first byte and the rest.
-use Rattle.std.specs.Prelude.{ℕ, ◌-◌, ◌^◌, ◌≡◌, refl, cond, List, [], ◌∷◌, length, drop, take, get_or, eqb}
+use Rattle.std.specs.Prelude.{ℕ, ◌-◌, ◌^◌, ◌≡◌, refl, None, Err, cond, List, [], ◌∷◌, length, drop, take, get_or, eqb}
 use Prim.Native.Char.{code}
 use Rattle.std.proofs.Common.{ap, ◌∙◌, sub-one, arith}
 use Rattle.std.proofs.Math.Seq.{take-length}
-use Rattle.text.specs.declared.Number.TheVariants.{Bad}
 use Rattle.text.specs.Number.{decimal_of}
 use Rattle.text.specs.Page.{Page, with_byte, with_text}
 use Rattle.case_file.specs.declared.Reason.TheVariants.{NotAPredicate}
-use Rattle.assembly.specs.declared.OperandRead.TheVariants.{Mistake}
 use Rattle.assembly.specs.Operands.{plain, negation, up_to, opposite, signed_number, or_why, lettered, predicate_read}
 
 -- A field without its first byte.
@@ -17,7 +15,7 @@ rest s = take (length s - 1) (drop 1 s)
 rest_cons : (c : ℕ) (s : List ℕ) → rest (c ∷ s) ≡ s
 rest_cons c s = rw (sub-one, take-length s)
 
-pub signed_none : (s : List ℕ) → length s ≡ 0 → Bad ≡ signed_number s
+pub signed_none : (s : List ℕ) → length s ≡ 0 → None ≡ signed_number s
 unfolding signed_number
 signed_none [] e = refl
 signed_none (c ∷ s) e = absurd (omega arith)
@@ -28,7 +26,7 @@ unfolding signed_number
 signed_some [] h = absurd (h refl)
 signed_some (c ∷ s) h = rw (rest_cons c s)
 
-pub predicate_none : (s : List ℕ) (next : ℕ) → length s ≡ 0 → Mistake NotAPredicate ≡ predicate_read s next
+pub predicate_none : (s : List ℕ) (next : ℕ) → length s ≡ 0 → Err NotAPredicate ≡ predicate_read s next
 unfolding predicate_read
 predicate_none [] next e = refl
 predicate_none (c ∷ s) next e = absurd (omega arith)

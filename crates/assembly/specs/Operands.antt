@@ -1,7 +1,6 @@
 -- The text of an operand, by the letter of its kind, read and written.
-use Rattle.std.specs.Prelude.{ℕ, ◌-◌, ◌%◌, ◌^◌, Bool, true, false, cond, List, [], ◌∷◌, ◌++◌, leb, ltb, eqb}
+use Rattle.std.specs.Prelude.{ℕ, ◌-◌, ◌%◌, ◌^◌, Option, Some, None, Result, Ok, Err, Bool, true, false, cond, List, [], ◌∷◌, ◌++◌, leb, ltb, eqb}
 use Prim.Native.Char.{code}
-use Rattle.text.specs.declared.Number.{Number}
 use Rattle.text.specs.Number.{decimal_of, word_of, decimal_text, word_text}
 use Rattle.text.specs.Table.{table, row_text, row_of}
 use Rattle.text.specs.Field.{field_from}
@@ -10,7 +9,6 @@ use Rattle.case_file.specs.Arguments.{is_empty, bytes_of}
 use Rattle.case_file.specs.declared.Reason.{Reason}
 use Rattle.assembly.specs.Forms.{texts}
 use Rattle.assembly.specs.declared.Operand.{Operand}
-use Rattle.assembly.specs.declared.OperandRead.{OperandRead}
 
 abbrev pub plain : ℕ → Operand
 plain n = record { negated = false; number = n }
@@ -25,34 +23,37 @@ special_rows = texts ("s0" ∷ "" ∷ "sl" ∷ "sh" ∷ "" ∷ "ss" ∷ "st" ∷
 unfoldable pub specials : List ℕ
 specials = table special_rows
 
-abbrev pub special_number : List ℕ → Number
-special_number s = cond (ltb (row_of specials s) 11) (Number.Value (row_of specials s)) Number.Bad
+abbrev pub special_number : List ℕ → Option ℕ
+special_number s = cond (ltb (row_of specials s) 11) (Some (row_of specials s)) None
 
 -- A number with a sign in 32 bits, as its two's complement.
-abbrev pub up_to : ℕ → Number → Number
-up_to greatest (Number.Value n) = cond (leb n greatest) (Number.Value n) Number.Bad
-up_to greatest Number.Bad = Number.Bad
+abbrev pub up_to : ℕ → Option ℕ → Option ℕ
+up_to greatest (Some n) = cond (leb n greatest) (Some n) None
+up_to greatest None = None
 
-abbrev pub opposite : Number → Number
-opposite (Number.Value n) = Number.Value ((2 ^ 32 - n) % 2 ^ 32)
-opposite Number.Bad = Number.Bad
+abbrev pub opposite : Option ℕ → Option ℕ
+opposite (Some n) = Some ((2 ^ 32 - n) % 2 ^ 32)
+opposite None = None
 
-unfoldable pub signed_number : List ℕ → Number
-signed_number [] = Number.Bad
+unfoldable pub signed_number : List ℕ → Option ℕ
+signed_number [] = None
 signed_number (c ∷ s) = cond (eqb c (code "-")) (opposite (up_to (2 ^ 31) (decimal_of s))) (up_to (2 ^ 31 - 1) (decimal_of (c ∷ s)))
 
--- What was read as an operand, and the position after it, or why it is none.
-abbrev pub or_why : Reason → (ℕ → Operand) → Number → ℕ → OperandRead
-or_why why o (Number.Value n) next = OperandRead.Found (o n) next
-or_why why o Number.Bad next = OperandRead.Mistake why
+-- An operand and the position after it, or why there is none.
+abbrev pub OperandRead : Type 0
+OperandRead = Result (Operand × ℕ) Reason
+
+abbrev pub or_why : Reason → (ℕ → Operand) → Option ℕ → ℕ → OperandRead
+or_why why o (Some n) next = Ok (o n, next)
+or_why why o None next = Err why
 
 -- A letter and a number of 32 bits.
-abbrev pub lettered : ℕ → List ℕ → Number
+abbrev pub lettered : ℕ → List ℕ → Option ℕ
 lettered c s = numbered c 4294967295 s
 
 -- A predicate, with `!` in front where its negation is meant.
 unfoldable pub predicate_read : List ℕ → ℕ → OperandRead
-predicate_read [] next = OperandRead.Mistake Reason.NotAPredicate
+predicate_read [] next = Err Reason.NotAPredicate
 predicate_read (c ∷ s) next =
     cond (eqb c (code "!"))
     (or_why Reason.NotAPredicate negation (lettered (code "p") s) next)
@@ -73,8 +74,8 @@ operand_of k s next =
 unfoldable pub operand_at : List ℕ → ℕ → ℕ → OperandRead
 operand_at line at k =
     let f = field_from line at in
-    cond (eqb k (code " ")) (OperandRead.Found (plain 0) at)
-    (cond (is_empty f) (OperandRead.Mistake Reason.FieldMissing) (operand_of k (bytes_of line f) f.end))
+    cond (eqb k (code " ")) (Ok (plain 0, at))
+    (cond (is_empty f) (Err Reason.FieldMissing) (operand_of k (bytes_of line f) f.end))
 
 -- The text of an operand, and with the space before it.
 abbrev pub predicate_text : Bool → ℕ → List ℕ

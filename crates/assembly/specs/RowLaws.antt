@@ -1,8 +1,7 @@
 -- The row of a text, found row by row: what a proof can compute, since it stops at the row.
-use Rattle.std.specs.Prelude.{ℕ, suc, ◌+◌, ◌≡◌, refl, Bool, true, false, cond, ◌||◌, List, [], ◌∷◌, eqb, length}
+use Rattle.std.specs.Prelude.{ℕ, suc, ◌+◌, ◌≡◌, refl, Some, Bool, true, false, cond, ◌||◌, List, [], ◌∷◌, eqb, length}
 use Rattle.std.proofs.Common.{ap, ◌∙◌}
 use Rattle.std.proofs.lemmas.Bool.{false≢true}
-use Rattle.std.proofs.Math.Option.{some}
 use Rattle.text.specs.Field.{same_bytes}
 use Rattle.text.specs.Table.{table, is_row, row_from, row_of}
 use Rattle.text.specs.TableLaws.{row_first}
@@ -27,7 +26,7 @@ unfolding place are_rows table row_from
 row_place [] s h = refl
 row_place (w ∷ ws) s h =
     let parts = both (is_row w) (are_rows ws) h in
-    row_first w (table ws) s (some s) parts.0 ∙ ap (λ (k : ℕ). cond (same_bytes s w) 0 (suc k)) (row_place ws s parts.1)
+    row_first w (table ws) s (Some s) parts.0 ∙ ap (λ (k : ℕ). cond (same_bytes s w) 0 (suc k)) (row_place ws s parts.1)
 
 pub mnemonic_place : (s : List ℕ) → mnemonic_of s ≡ mnemonic_from 0 (sizes forms) (place (mnemonics forms) s)
 unfolding mnemonic_of are_rows is_row mnemonics forms

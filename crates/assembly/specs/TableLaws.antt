@@ -1,7 +1,6 @@
 -- Laws of the table, one form at a time.
-use Rattle.std.specs.Prelude.{ℕ, zero, suc, ◌+◌, ◌-◌, ◌≤◌, ◌<◌, ◌≡◌, refl, Bool, true, false, cond, List, [], ◌∷◌, eqb, length, drop, get_or}
+use Rattle.std.specs.Prelude.{ℕ, zero, suc, ◌+◌, ◌-◌, ◌≤◌, ◌<◌, ◌≡◌, refl, Option, Some, Bool, true, false, cond, List, [], ◌∷◌, eqb, length, drop, get_or}
 use Rattle.std.proofs.Common.{◌∙◌, arith, drop_of_length-le, drop-cons}
-use Rattle.std.proofs.Math.Option.{Option, some}
 use Rattle.std.proofs.Math.Numerals.{add-one}
 use borrow.Author.Tests.{lt-ltb, le-ltb}
 use Rattle.text.specs.Table.{row_from, is_met, met}
@@ -75,10 +74,10 @@ get_or_within (x ∷ l) (suc i) d e h = get_or_within l i d e (omega arith)
 pub row_within : (t s : List ℕ) (left : Option (List ℕ)) → row_from t s left ≤ length t
 unfolding row_from
 row_within [] s left = omega arith
-row_within (b ∷ t) s left = go (eqb b 10) (is_met left) (row_within t s (some s)) (row_within t s (met left b))
+row_within (b ∷ t) s left = go (eqb b 10) (is_met left) (row_within t s (Some s)) (row_within t s (met left b))
   where
-    go : (x y : Bool) → row_from t s (some s) ≤ length t → row_from t s (met left b) ≤ length t
-        → cond x (cond y 0 (suc (row_from t s (some s)))) (row_from t s (met left b)) ≤ suc (length t)
+    go : (x y : Bool) → row_from t s (Some s) ≤ length t → row_from t s (met left b) ≤ length t
+        → cond x (cond y 0 (suc (row_from t s (Some s)))) (row_from t s (met left b)) ≤ suc (length t)
     go true true p q = omega arith
     go true false p q = omega arith
     go false y p q = omega arith

@@ -5,25 +5,16 @@ pub mod operand_text;
 pub mod operands;
 pub mod table;
 
-use case_file::Reason;
-
 // An operand: its number, and whether `!` stands before it. A special register's number is that of its field.
-#[derive(Clone, Copy)]
+#[derive(Clone, Copy, PartialEq, Eq, Debug)]
 pub struct Operand {
     pub negated: bool,
     pub number: u32,
 }
 
 // An instruction's name: its form's place in the table, and the number of its function.
-#[derive(Clone, Copy)]
+#[derive(Clone, Copy, PartialEq, Eq, Debug)]
 pub struct Mnemonic {
     pub form: u32,
     pub function: u32,
-}
-
-// An operand, and the position after its field.
-#[derive(Clone, Copy)]
-pub enum OperandRead {
-    Found { operand: Operand, next: usize },
-    Mistake(Reason),
 }

@@ -24,10 +24,8 @@ pub fn put_predicate(page: &mut Page, negated: bool, n: u32)
 {
     if negated {
         page.put_byte(b'!');
-        put_lettered(&mut *page, b'p', n);
-        return;
     }
-    put_lettered(&mut *page, b'p', n);
+    put_lettered(page, b'p', n);
 }
 
 // A number that is the two's complement of one with a sign.
@@ -36,10 +34,10 @@ fn put_signed(page: &mut Page, n: u32)
 {
     if n < 2147483648 {
         page.put_decimal(n as u64);
-        return;
+    } else {
+        page.put_byte(b'-');
+        page.put_decimal(4294967296 - (n as u64));
     }
-    page.put_byte(b'-');
-    page.put_decimal(4294967296 - (n as u64));
 }
 
 fn put_value(page: &mut Page, kind: u8, o: Operand)
@@ -47,12 +45,12 @@ fn put_value(page: &mut Page, kind: u8, o: Operand)
 {
     let n = o.number;
     match kind {
-        b'r' => put_lettered(&mut *page, b'r', n),
-        b'p' => put_lettered(&mut *page, b'p', n),
-        b'q' => put_predicate(&mut *page, o.negated, n),
+        b'r' => put_lettered(page, b'r', n),
+        b'p' => put_lettered(page, b'p', n),
+        b'q' => put_predicate(page, o.negated, n),
         b's' => page.put_row(&SPECIALS, n as usize),
         b'n' => page.put_decimal(n as u64),
-        b'i' => put_signed(&mut *page, n),
+        b'i' => put_signed(page, n),
         _ => page.put_word(n),
     }
 }
@@ -61,9 +59,8 @@ fn put_value(page: &mut Page, kind: u8, o: Operand)
 pub fn put_operand(page: &mut Page, kind: u8, o: Operand)
     ensures { Puts page.old page.new (operand_text kind o) }
 {
-    if kind == b' ' {
-        return;
+    if kind != b' ' {
+        page.put_byte(b' ');
+        put_value(page, kind, o);
     }
-    page.put_byte(b' ');
-    put_value(&mut *page, kind, o);
 }

@@ -4,10 +4,9 @@ ghost use Rattle.std.specs.Prelude.{◌≡◌};
 ghost use Rattle.assembly.specs.Operands.{plain as plain_of, or_why, opposite as oppositeOf, up_to, signed_number, special_number};
 ghost use Rattle.assembly.specs.Operands.{predicate_read, operand_of, operand_at};
 
-use crate::{Operand, OperandRead};
+use crate::Operand;
 use case_file::Reason;
 use case_words::numbered;
-use text::Number;
 use text::fields::next_field;
 use text::numbers::{decimal, word};
 use text::table::row_of;
@@ -25,92 +24,69 @@ pub fn plain(number: u32) -> Operand
     }
 }
 
-fn plain_or(why: Reason, n: Number, next: usize) -> OperandRead
+// An operand without `!`, and the position after its field.
+fn plain_or(why: Reason, n: Option<u32>, next: usize) -> Result<(Operand, usize), Reason>
     ensures { result ≡ or_why why plain_of n next }
 {
-    match n {
-        Number::Value(number) => OperandRead::Found {
-            operand: plain(number),
-            next,
-        },
-        Number::Bad => OperandRead::Mistake(why),
-    }
+    let number = n.ok_or(why)?;
+    Ok((plain(number), next))
 }
 
-fn special_number(s: &[u8]) -> Number
+fn special_number(s: &[u8]) -> Option<u32>
     ensures { result ≡ special_number s.now }
 {
     let row = row_of(&SPECIALS, s);
     if row < 11 {
-        return Number::Value(row as u32);
+        return Some(row as u32);
     }
-    Number::Bad
+    None
 }
 
-fn up_to(greatest: u32, n: Number) -> Number
+fn up_to(greatest: u32, n: Option<u32>) -> Option<u32>
     ensures { result ≡ up_to greatest n }
 {
-    match n {
-        Number::Value(v) => {
-            if v <= greatest {
-                Number::Value(v)
-            } else {
-                Number::Bad
-            }
-        }
-        Number::Bad => Number::Bad,
-    }
+    n.filter(|v| *v <= greatest)
 }
 
 // The two's complement of a number.
-fn opposite(n: Number) -> Number
+fn opposite(n: Option<u32>) -> Option<u32>
     ensures { result ≡ oppositeOf n }
 {
-    match n {
-        Number::Value(v) => {
-            let wide = (4294967296 - (v as u64)) % 4294967296;
-            Number::Value(wide as u32)
-        }
-        Number::Bad => Number::Bad,
-    }
+    let v = n?;
+    Some(v.wrapping_neg())
 }
 
-fn signed_number(s: &[u8]) -> Number
+#[tactic(auto, unfolding(crate::specs::Operands::signed_number))]
+fn signed_number(s: &[u8]) -> Option<u32>
     ensures { result ≡ signed_number s.now }
 {
-    if s.len() == 0 {
-        return Number::Bad;
-    }
-    if s[0] == b'-' {
-        return opposite(up_to(2147483648, decimal(&s[1..])));
+    let (first, digits) = s.split_first()?;
+    if *first == b'-' {
+        return opposite(up_to(2147483648, decimal(digits)));
     }
     up_to(2147483647, decimal(s))
 }
 
 // A predicate, with `!` in front where its negation is meant.
-pub fn predicate_read(s: &[u8], next: usize) -> OperandRead
+#[tactic(auto, unfolding(crate::specs::Operands::predicate_read))]
+pub fn predicate_read(s: &[u8], next: usize) -> Result<(Operand, usize), Reason>
     ensures { result ≡ predicate_read s.now next }
 {
-    if s.len() == 0 {
-        return OperandRead::Mistake(Reason::NotAPredicate);
-    }
-    if s[0] != b'!' {
+    let (first, name) = s.split_first().ok_or(Reason::NotAPredicate)?;
+    if *first != b'!' {
         return plain_or(Reason::NotAPredicate, numbered(s, b'p', 4294967295), next);
     }
-    match numbered(&s[1..], b'p', 4294967295) {
-        Number::Value(number) => OperandRead::Found {
-            operand: Operand {
-                negated: true,
-                number,
-            },
-            next,
-        },
-        Number::Bad => OperandRead::Mistake(Reason::NotAPredicate),
-    }
+    let number = numbered(name, b'p', 4294967295).ok_or(Reason::NotAPredicate)?;
+    let operand = Operand {
+        negated: true,
+        number,
+    };
+    Ok((operand, next))
 }
 
 // A field as an operand of a kind.
-fn operand_of(kind: u8, s: &[u8], next: usize) -> OperandRead
+#[tactic(auto, unfolding(crate::specs::Operands::operand_of))]
+fn operand_of(kind: u8, s: &[u8], next: usize) -> Result<(Operand, usize), Reason>
     ensures { result ≡ operand_of kind s.now next }
 {
     match kind {
@@ -125,20 +101,18 @@ fn operand_of(kind: u8, s: &[u8], next: usize) -> OperandRead
 }
 
 // The next field of a line as an operand. Where there is none of a kind no field is taken.
-pub fn operand_at(line: &[u8], at: usize, kind: u8) -> OperandRead
+#[tactic(auto, unfolding(crate::specs::Operands::operand_at))]
+pub fn operand_at(line: &[u8], at: usize, kind: u8) -> Result<(Operand, usize), Reason>
     ensures { result ≡ operand_at line.now at kind }
 {
     if kind == b' ' {
-        return OperandRead::Found {
-            operand: plain(0),
-            next: at,
-        };
+        return Ok((plain(0), at));
     }
     let f = next_field(line, at);
     let start = f.start;
     let end = f.end;
     if start == end {
-        return OperandRead::Mistake(Reason::FieldMissing);
+        return Err(Reason::FieldMissing);
     }
     operand_of(kind, &line[start..end], end)
 }

@@ -37,17 +37,15 @@ n   n   n   n   r   r   n   i   n   n           r   r   rr  ";
 fn mnemonic_at(row: u32) -> Mnemonic
     ensures { result ≡ mnemonic_from 0 (sizes forms) row }
 {
-    let mut form: u32 = 0;
     let mut function = row;
-    while form < 27 {
+    for form in 0..27 {
         let size = SIZES[form as usize];
         if function < size {
             return Mnemonic { form, function };
         }
         function -= size;
-        form += 1;
     }
-    Mnemonic { form, function }
+    Mnemonic { form: 27, function }
 }
 
 // The mnemonic that a field is. One that is none has a form behind the table's end.
@@ -62,17 +60,16 @@ fn start_of(form: u32) -> usize
     ensures { result ≡ start_of (sizes forms) form }
 {
     let mut start: usize = 0;
-    let mut i: u32 = 0;
-    while i < 27 {
+    for i in 0..27 {
         if i == form {
             return start;
         }
         start += SIZES[i as usize] as usize;
-        i += 1;
     }
     start
 }
 
+#[tactic(auto, using(crate::specs::TableLaws::all_rows), unfolding(crate::specs::Forms::name_of, crate::specs::Forms::mnemonics, crate::specs::Forms::forms, text::specs::Table::table))]
 pub fn put_name(page: &mut Page, m: Mnemonic)
     ensures { Puts page.old page.new (name_of m) }
 {

@@ -35,8 +35,7 @@ fn bundles(
     ensures { Kept (handed_back registers predicates held counts result (left main local cache) ≡ goes_on (replaying list.now table.now (setup_of code.now g)) budget (found_whole registers predicates held start) (found main local cache)) start result.core held.old held.new }
 {
     let mut core = start;
-    let mut left = budget;
-    while 0 < left {
+    for _ in 0..budget {
         if has_ended(core, g.code) {
             return Bundled {
                 answer: Answer::Ended,
@@ -63,7 +62,6 @@ fn bundles(
             return r;
         };
         core = r.core;
-        left = left - 1;
     }
     Bundled {
         answer: Answer::Done,

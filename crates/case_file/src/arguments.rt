@@ -2,86 +2,84 @@
 ghost use Rattle.std.specs.Prelude.{◌≡◌};
 ghost use Rattle.case_file.specs.Arguments.{is_end, number_field, word_field, code_entry, held_entry, private_entry};
 
-use crate::{Argument, CodeEntry, PrivateEntry, Reason};
+use crate::Reason;
 use case_words::{Item, marking_item};
-use text::Number;
 use text::fields::next_field;
 use text::numbers::{decimal, word};
 
 // Whether no field is left.
-pub(crate) fn ended(line: &[u8], at: usize) -> bool
+#[tactic(auto, unfolding(crate::specs::Arguments::is_end))]
+pub fn ended(line: &[u8], at: usize) -> bool
     ensures { result ≡ is_end line.now at }
 {
     let f = next_field(line, at);
     f.start == f.end
 }
 
-pub(crate) fn number_field(line: &[u8], at: usize) -> Argument
+// A field read as a number or a word, and the position after it.
+#[tactic(auto, unfolding(crate::specs::Arguments::argument_at))]
+pub(crate) fn number_field(line: &[u8], at: usize) -> Result<(u32, usize), Reason>
     ensures { result ≡ number_field line.now at }
 {
     let f = next_field(line, at);
     let start = f.start;
     let end = f.end;
     if start == end {
-        return Argument::Mistake(Reason::FieldMissing);
+        return Err(Reason::FieldMissing);
     }
-    match decimal(&line[start..end]) {
-        Number::Value(value) => Argument::Value { value, next: end },
-        Number::Bad => Argument::Mistake(Reason::NotANumber),
-    }
+    let n = decimal(&line[start..end]).ok_or(Reason::NotANumber)?;
+    Ok((n, end))
 }
 
-pub(crate) fn word_field(line: &[u8], at: usize) -> Argument
+#[tactic(auto, unfolding(crate::specs::Arguments::argument_at))]
+pub(crate) fn word_field(line: &[u8], at: usize) -> Result<(u32, usize), Reason>
     ensures { result ≡ word_field line.now at }
 {
     let f = next_field(line, at);
     let start = f.start;
     let end = f.end;
     if start == end {
-        return Argument::Mistake(Reason::FieldMissing);
+        return Err(Reason::FieldMissing);
     }
-    match word(&line[start..end]) {
-        Number::Value(value) => Argument::Value { value, next: end },
-        Number::Bad => Argument::Mistake(Reason::NotAWord),
-    }
+    let w = word(&line[start..end]).ok_or(Reason::NotAWord)?;
+    Ok((w, end))
 }
 
-pub fn code_entry(line: &[u8], at: usize) -> CodeEntry
+// The next entry of a code or record line, and the position after it; nothing at the line's end.
+#[tactic(auto, unfolding(crate::specs::Arguments::code_entry))]
+pub fn code_entry(line: &[u8], at: usize) -> Result<Option<(u32, usize)>, Reason>
     ensures { result ≡ code_entry line.now at }
 {
     if ended(line, at) {
-        return CodeEntry::End;
+        return Ok(None);
     }
-    match word_field(line, at) {
-        Argument::Value { value, next } => CodeEntry::Word { word: value, next },
-        Argument::Mistake(r) => CodeEntry::Mistake(r),
-    }
+    let entry = word_field(line, at)?;
+    Ok(Some(entry))
 }
 
-pub fn held_entry(line: &[u8], at: usize) -> CodeEntry
+// The same of a held line.
+#[tactic(auto, unfolding(crate::specs::Arguments::held_entry))]
+pub fn held_entry(line: &[u8], at: usize) -> Result<Option<(u32, usize)>, Reason>
     ensures { result ≡ held_entry line.now at }
 {
     if ended(line, at) {
-        return CodeEntry::End;
+        return Ok(None);
     }
-    match number_field(line, at) {
-        Argument::Value { value, next } => CodeEntry::Word { word: value, next },
-        Argument::Mistake(r) => CodeEntry::Mistake(r),
-    }
+    let entry = number_field(line, at)?;
+    Ok(Some(entry))
 }
 
-pub fn private_entry(line: &[u8], at: usize) -> PrivateEntry
+// The same of a private line.
+#[tactic(auto, unfolding(crate::specs::Arguments::private_entry))]
+pub fn private_entry(line: &[u8], at: usize) -> Result<Option<(Item, usize)>, Reason>
     ensures { result ≡ private_entry line.now at }
 {
     let f = next_field(line, at);
     let start = f.start;
     let end = f.end;
     if start == end {
-        return PrivateEntry::End;
+        return Ok(None);
     }
-    let item = marking_item(&line[start..end]);
-    if let Item::Unknown = item {
-        return PrivateEntry::Mistake(Reason::NoSuchItem);
-    }
-    PrivateEntry::Item { item, next: end }
+    let item = marking_item(&line[start..end]).ok_or(Reason::NoSuchItem)?;
+    Ok(Some((item, end)))
 }

@@ -6,37 +6,13 @@ pub mod lines;
 mod number_lines;
 mod record_lines;
 
-use case_words::{Item, SpecialName};
-
-// A number or word, and the position after its field.
-#[derive(Clone, Copy)]
-pub enum Argument {
-    Value { value: u32, next: usize },
-    Mistake(Reason),
-}
-
-// The next entry of a code or record line, or of a held line.
-#[derive(Clone, Copy)]
-pub enum CodeEntry {
-    Word { word: u32, next: usize },
-    Mistake(Reason),
-    End,
-}
-
-// The next entry of a private line.
-#[derive(Clone, Copy)]
-pub enum PrivateEntry {
-    Item { item: Item, next: usize },
-    Mistake(Reason),
-    End,
-}
+use case_words::SpecialName;
 
 // A line by its keyword. Case holds the position of the name, Code, Private, Held and Record that of their lists,
 // Write that of the text of a bundle.
-#[derive(Clone, Copy)]
+#[derive(Clone, Copy, PartialEq, Eq, Debug)]
 pub enum Line {
     Empty,
-    Mistake(Reason),
     Case { name: usize },
     Code { list: usize },
     Private { list: usize },
@@ -74,7 +50,7 @@ pub enum Line {
 
 // What a line says of the replay: a record of the list; an entry of the table; how many bytes of either are handed in; and of the first
 // state that a handler is active, the list place, and the bundles done.
-#[derive(Clone, Copy)]
+#[derive(Clone, Copy, PartialEq, Eq, Debug)]
 pub enum ReplayLine {
     Interrupt { number: u32, vector: u32 },
     Handler { vector: u32, address: u32 },
@@ -86,21 +62,21 @@ pub enum ReplayLine {
 }
 
 // What goes on from a record: a run with a budget, or one step.
-#[derive(Clone, Copy)]
+#[derive(Clone, Copy, PartialEq, Eq, Debug)]
 pub enum Resumption {
     Run(u32),
     Step,
 }
 
 // The bytes that a record is written into: as many as the longest has, or so many.
-#[derive(Clone, Copy)]
+#[derive(Clone, Copy, PartialEq, Eq, Debug)]
 pub enum Room {
     Longest,
     Bytes(u32),
 }
 
 // The lines of two numbers.
-#[derive(Clone, Copy)]
+#[derive(Clone, Copy, PartialEq, Eq, Debug)]
 pub enum TwoNumbers {
     Pred,
     Br,
@@ -111,7 +87,7 @@ pub enum TwoNumbers {
 }
 
 // The lines of three numbers.
-#[derive(Clone, Copy)]
+#[derive(Clone, Copy, PartialEq, Eq, Debug)]
 pub enum ThreeNumbers {
     Stack,
     Block,
@@ -119,7 +95,7 @@ pub enum ThreeNumbers {
 }
 
 // Why a line is a mistake.
-#[derive(Clone, Copy)]
+#[derive(Clone, Copy, PartialEq, Eq, Debug)]
 pub enum Reason {
     UnknownWord,
     FieldMissing,

@@ -6,29 +6,29 @@ ghost use Rattle.case_file.specs.Line.{two_numbers, three_numbers, pred, within,
 use crate::arguments::number_field;
 use crate::lines::whole;
 use crate::record_lines::record_bytes;
-use crate::{Argument, Line, Reason, ReplayLine, ThreeNumbers, TwoNumbers};
+use crate::{Line, Reason, ReplayLine, ThreeNumbers, TwoNumbers};
 use case_words::OneNumber;
 
 // What a line says whose number has a greatest value.
-fn within(most: u32, n: u32, otherwise: Reason, said: Line) -> Line
+fn within(most: u32, n: u32, otherwise: Reason, said: Line) -> Result<Line, Reason>
     ensures { result ≡ within most n otherwise said }
 {
     if n <= most {
-        return said;
+        return Ok(said);
     }
-    Line::Mistake(otherwise)
+    Err(otherwise)
 }
 
-fn of_number(k: OneNumber, n: u32) -> Line
+fn of_number(k: OneNumber, n: u32) -> Result<Line, Reason>
     ensures { result ≡ of_number k n }
 {
     match k {
-        OneNumber::Main => Line::Main(n),
-        OneNumber::Local => Line::Local(n),
-        OneNumber::Entry => Line::Entry(n),
-        OneNumber::Fetch => Line::Fetch(n),
-        OneNumber::Base => Line::Base(n),
-        OneNumber::Run => Line::Run(n),
+        OneNumber::Main => Ok(Line::Main(n)),
+        OneNumber::Local => Ok(Line::Local(n)),
+        OneNumber::Entry => Ok(Line::Entry(n)),
+        OneNumber::Fetch => Ok(Line::Fetch(n)),
+        OneNumber::Base => Ok(Line::Base(n)),
+        OneNumber::Run => Ok(Line::Run(n)),
         OneNumber::RecordBytes => record_bytes(n),
         OneNumber::ListBytes => within(
             65536,
@@ -42,50 +42,50 @@ fn of_number(k: OneNumber, n: u32) -> Line
             Reason::TooMuchReplay,
             Line::Replay(ReplayLine::TableBytes(n)),
         ),
-        OneNumber::Place => Line::Replay(ReplayLine::Place(n)),
-        OneNumber::Replayed => Line::Replay(ReplayLine::Done(n)),
+        OneNumber::Place => Ok(Line::Replay(ReplayLine::Place(n))),
+        OneNumber::Replayed => Ok(Line::Replay(ReplayLine::Done(n))),
     }
 }
 
-pub(crate) fn number_line(line: &[u8], at: usize, k: OneNumber) -> Line
+#[tactic(auto, unfolding(crate::specs::Line::line_after))]
+pub(crate) fn number_line(line: &[u8], at: usize, k: OneNumber) -> Result<Line, Reason>
     ensures { result ≡ line_after line.now at (Keyword.OneNumber k) }
 {
-    match number_field(line, at) {
-        Argument::Mistake(r) => Line::Mistake(r),
-        Argument::Value { value, next } => whole(line, next, of_number(k, value)),
-    }
+    let (n, at) = number_field(line, at)?;
+    whole(line, at, of_number(k, n))
 }
 
-fn pred(number: u32, bit: u32) -> Line
+#[tactic(auto, unfolding(crate::specs::Line::pred))]
+fn pred(number: u32, bit: u32) -> Result<Line, Reason>
     ensures { result ≡ pred number bit }
 {
     if 7 < number {
-        return Line::Mistake(Reason::NoSuchPredicate);
+        return Err(Reason::NoSuchPredicate);
     }
     if 1 < bit {
-        return Line::Mistake(Reason::NotABit);
+        return Err(Reason::NotABit);
     }
-    Line::Pred {
+    Ok(Line::Pred {
         number,
         value: bit == 1,
-    }
+    })
 }
 
-fn of_two(k: TwoNumbers, a: u32, b: u32) -> Line
+fn of_two(k: TwoNumbers, a: u32, b: u32) -> Result<Line, Reason>
     ensures { result ≡ of_two k a b }
 {
     match k {
         TwoNumbers::Pred => pred(a, b),
-        TwoNumbers::Br => Line::Br { target: a, wait: b },
-        TwoNumbers::Call => Line::Call { target: a, wait: b },
-        TwoNumbers::Method => Line::Method {
+        TwoNumbers::Br => Ok(Line::Br { target: a, wait: b }),
+        TwoNumbers::Call => Ok(Line::Call { target: a, wait: b }),
+        TwoNumbers::Method => Ok(Line::Method {
             blocks: a,
             bytes: b,
-        },
-        TwoNumbers::Interrupt => Line::Replay(ReplayLine::Interrupt {
+        }),
+        TwoNumbers::Interrupt => Ok(Line::Replay(ReplayLine::Interrupt {
             number: a,
             vector: b,
-        }),
+        })),
         TwoNumbers::Handler => within(
             31,
             a,
@@ -98,16 +98,12 @@ fn of_two(k: TwoNumbers, a: u32, b: u32) -> Line
     }
 }
 
-pub(crate) fn two_numbers(line: &[u8], at: usize, k: TwoNumbers) -> Line
+pub(crate) fn two_numbers(line: &[u8], at: usize, k: TwoNumbers) -> Result<Line, Reason>
     ensures { result ≡ two_numbers line.now at (of_two k) }
 {
-    match number_field(line, at) {
-        Argument::Mistake(r) => Line::Mistake(r),
-        Argument::Value { value: a, next } => match number_field(line, next) {
-            Argument::Mistake(r) => Line::Mistake(r),
-            Argument::Value { value: b, next } => whole(line, next, of_two(k, a, b)),
-        },
-    }
+    let (a, at) = number_field(line, at)?;
+    let (b, at) = number_field(line, at)?;
+    whole(line, at, of_two(k, a, b))
 }
 
 fn of_three(k: ThreeNumbers, a: u32, b: u32, c: u32) -> Line
@@ -132,17 +128,11 @@ fn of_three(k: ThreeNumbers, a: u32, b: u32, c: u32) -> Line
     }
 }
 
-pub(crate) fn three_numbers(line: &[u8], at: usize, k: ThreeNumbers) -> Line
+pub(crate) fn three_numbers(line: &[u8], at: usize, k: ThreeNumbers) -> Result<Line, Reason>
     ensures { result ≡ three_numbers line.now at (of_three k) }
 {
-    match number_field(line, at) {
-        Argument::Mistake(r) => Line::Mistake(r),
-        Argument::Value { value: a, next } => match number_field(line, next) {
-            Argument::Mistake(r) => Line::Mistake(r),
-            Argument::Value { value: b, next } => match number_field(line, next) {
-                Argument::Mistake(r) => Line::Mistake(r),
-                Argument::Value { value: c, next } => whole(line, next, of_three(k, a, b, c)),
-            },
-        },
-    }
+    let (a, at) = number_field(line, at)?;
+    let (b, at) = number_field(line, at)?;
+    let (c, at) = number_field(line, at)?;
+    whole(line, at, Ok(of_three(k, a, b, c)))
 }

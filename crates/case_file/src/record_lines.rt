@@ -5,52 +5,51 @@ ghost use Rattle.case_file.specs.Line.{record_bytes, with_room, room_after, line
 
 use crate::arguments::{ended, number_field};
 use crate::lines::whole;
-use crate::{Argument, Line, Reason, Resumption, Room};
+use crate::{Line, Reason, Resumption, Room};
 
 const GREATEST: u32 = 8192;
 
-pub(crate) fn record_bytes(n: u32) -> Line
+#[tactic(auto, unfolding(crate::specs::Line::record_bytes))]
+pub(crate) fn record_bytes(n: u32) -> Result<Line, Reason>
     ensures { result ≡ record_bytes n }
 {
     if n <= GREATEST {
-        return Line::RecordBytes(n);
+        return Ok(Line::RecordBytes(n));
     }
-    Line::Mistake(Reason::TooMuchRecord)
+    Err(Reason::TooMuchRecord)
 }
 
-fn with_room(asked: Resumption, n: u32) -> Line
+#[tactic(auto, unfolding(crate::specs::Line::with_room))]
+fn with_room(asked: Resumption, n: u32) -> Result<Line, Reason>
     ensures { result ≡ with_room asked n }
 {
     if n <= GREATEST {
-        return Line::Resume {
+        return Ok(Line::Resume {
             asked,
             room: Room::Bytes(n),
-        };
+        });
     }
-    Line::Mistake(Reason::TooMuchRecord)
+    Err(Reason::TooMuchRecord)
 }
 
 // The room may be left out.
-pub(crate) fn room_line(line: &[u8], at: usize, asked: Resumption) -> Line
+pub(crate) fn room_line(line: &[u8], at: usize, asked: Resumption) -> Result<Line, Reason>
     ensures { result ≡ room_after line.now at asked }
 {
     if ended(line, at) {
-        return Line::Resume {
+        return Ok(Line::Resume {
             asked,
             room: Room::Longest,
-        };
+        });
     }
-    match number_field(line, at) {
-        Argument::Mistake(r) => Line::Mistake(r),
-        Argument::Value { value, next } => whole(line, next, with_room(asked, value)),
-    }
+    let (n, at) = number_field(line, at)?;
+    whole(line, at, with_room(asked, n))
 }
 
-pub(crate) fn resume_line(line: &[u8], at: usize) -> Line
+#[tactic(auto, unfolding(crate::specs::Line::line_after))]
+pub(crate) fn resume_line(line: &[u8], at: usize) -> Result<Line, Reason>
     ensures { result ≡ line_after line.now at Keyword.Resume }
 {
-    match number_field(line, at) {
-        Argument::Mistake(r) => Line::Mistake(r),
-        Argument::Value { value, next } => room_line(line, next, Resumption::Run(value)),
-    }
+    let (budget, at) = number_field(line, at)?;
+    room_line(line, at, Resumption::Run(budget))
 }

@@ -4,13 +4,13 @@
 ghost use Rattle.std.specs.Prelude.{◌≡◌};
 ghost use Rattle.case_input.specs.Input.{closed, going_on, at_file_end, Piece, after_byte, line_after_byte, Look, HasRead, TakesBytes, TellsFailure};
 
-use case_kept::buffers::{Bytes, LineBytes, least};
+use case_kept::buffers::{Bytes, LineBytes};
 use std::io::{Error, Read};
 
 const LONGEST: usize = 4000;
 
 // What a look at the file gave: a line of some bytes, or why there is none.
-#[derive(Clone, Copy)]
+#[derive(Clone, Copy, PartialEq, Eq, Debug)]
 pub enum Found {
     Nothing,
     Line(usize),
@@ -21,7 +21,7 @@ pub enum Found {
 
 // The bytes of the piece from at to end are not taken yet, and held bytes of a line that has not ended are. A file that has
 // ended is not read again.
-#[derive(Clone, Copy)]
+#[derive(Clone, Copy, PartialEq, Eq, Debug)]
 pub struct Input {
     pub at: usize,
     pub end: usize,
@@ -122,7 +122,7 @@ pub fn look<R: Read>(
         return ended(Found::End);
     }
     let at = s.at;
-    let end = least(s.end, 65536);
+    let end = s.end.min(65536);
     if at < end {
         return take_byte(&mut *line, piece[at], at + 1, end, s.held);
     }

@@ -1,9 +1,8 @@
 -- The places that a case names in its memories and in its stack cache. The line with a store's length may come after a place of it, so
 -- a place is noted with its line and judged at the case's first operation. Of each store only the places that reach further than all
 -- before are noted, since no other one can be the first that lies outside.
-use Rattle.std.specs.Prelude.{ℕ, zero, suc, ◌+◌, ◌*◌, ◌%◌, min, cond, List, leb, ltb, eqb}
+use Rattle.std.specs.Prelude.{ℕ, zero, suc, ◌+◌, ◌*◌, ◌%◌, min, cond, Option, Some, None, List, leb, ltb, eqb}
 use Rattle.case_kept.specs.declared.places.Store.{Store}
-use Rattle.case_kept.specs.declared.places.Outside.{Outside}
 use Rattle.case_kept.specs.Indices.{MAIN, LOCAL, WORDS, REACH, NOTED, LINE, NOTES}
 use Rattle.case_kept.specs.Kept.{kept_number, put}
 
@@ -51,12 +50,12 @@ note_place kept store last =
     (note_if_room (put kept (reach_index store) (last + 1)) store last)
 
 -- The first of n notes from an index on whose last byte or word is none of its store's.
-unfoldable pub outside_from : ℕ → List ℕ → ℕ → Outside
-outside_from zero kept at = Outside.Nowhere
+unfoldable pub outside_from : ℕ → List ℕ → ℕ → Option ℕ
+outside_from zero kept at = None
 outside_from (suc n) kept at =
-    cond (leb (kept_number kept (kept_number kept at)) (kept_number kept (at + 1))) (Outside.Line (kept_number kept (at + 2)))
+    cond (leb (kept_number kept (kept_number kept at)) (kept_number kept (at + 1))) (Some (kept_number kept (at + 2)))
     (outside_from n kept (at + 3))
 
 -- The line of the first place outside its store.
-unfoldable pub first_outside : List ℕ → Outside
+unfoldable pub first_outside : List ℕ → Option ℕ
 first_outside kept = outside_from (min (kept_number kept NOTED) ROOM) kept NOTES

@@ -1,6 +1,4 @@
 // The buffers that are lent from function to function.
-ghost use Rattle.std.specs.Prelude.{◌≡◌, ◌≤◌, min};
-
 // The code, and a piece of the file.
 pub type Bytes = [u8; 65536];
 
@@ -33,13 +31,3 @@ pub const TABLE_ROOM: usize = 256;
 // What a line of the file has to report, before it is written out. The longest report is that of an operation which changes every
 // word of both memories and of the stack cache: some 683,000 bytes.
 pub type Report = [u8; 1048576];
-
-// The lesser of two lengths.
-pub fn least(a: usize, b: usize) -> usize
-    ensures { (result ≤ a) × (result ≤ b) × (result ≡ min a b) }
-{
-    if a < b {
-        return a;
-    }
-    b
-}

@@ -2,11 +2,11 @@
 ghost use Rattle.std.specs.Prelude.{◌≡◌, ◌≤◌};
 ghost use Rattle.case_kept.specs.Extent.{kept_bytes, cache_words, extents_of};
 
-use crate::buffers::{CACHE_COPY, COPY, least};
+use crate::buffers::{CACHE_COPY, COPY};
 use crate::kept::{CODE, HI, Kept, LO, LOCAL, MAIN, WORDS, word};
 
 // The bytes of the code and the memories, how many words of the cache are lent, and the stack area.
-#[derive(Clone, Copy)]
+#[derive(Clone, Copy, PartialEq, Eq, Debug)]
 pub struct Extents {
     pub code: usize,
     pub main: usize,
@@ -19,14 +19,14 @@ pub struct Extents {
 fn bytes_of(kept: &Kept, length: usize) -> usize
     ensures { (result ≤ 65536) × (result ≡ kept_bytes kept.now length) }
 {
-    least(word(kept, length) as usize, COPY)
+    (word(kept, length) as usize).min(COPY)
 }
 
 // More than 512 words are refused, whatever their number.
 fn words_of(kept: &Kept) -> usize
     ensures { (result ≤ 513) × (result ≡ cache_words kept.now) }
 {
-    least(word(kept, WORDS) as usize, CACHE_COPY)
+    (word(kept, WORDS) as usize).min(CACHE_COPY)
 }
 
 pub fn extents_of(kept: &Kept) -> Extents

@@ -3,6 +3,8 @@
 ghost use Rattle.std.specs.Prelude.{◌≡◌, ◌+◌};
 ghost use Rattle.case_kept.specs.Kept.{kept_number, kept_word, is_set, put, flag as flagOf, kept_flags, forgotten};
 
+use std::array;
+
 pub const ALL: usize = 160600;
 
 pub type Kept = [u64; 160600];
@@ -213,35 +215,21 @@ pub fn keep_word(kept: &mut Kept, index: usize, w: u32)
 pub fn keep_flag(kept: &mut Kept, index: usize, flag: bool)
     ensures { kept.new ≡ put kept.old index (flagOf flag) }
 {
-    if flag {
-        keep(&mut *kept, index, 1);
-        return;
-    }
-    keep(&mut *kept, index, 0);
+    keep(&mut *kept, index, u64::from(flag));
 }
 
-// Eight flags from an index on.
-pub fn flags_of(kept: &Kept, first: usize) -> [bool; 8]
-    ensures { result ≡ kept_flags 8 kept.now first }
+// So many flags from an index on.
+pub fn flags_of<const N: usize>(kept: &Kept, first: usize) -> [bool; N]
+    ensures { result ≡ kept_flags N kept.now first }
 {
-    let mut flags = [false; 8];
-    let mut i = 0;
-    while i < 8 {
-        flags[i] = is_set_after(kept, first, i);
-        i += 1;
-    }
-    flags
+    array::from_fn(|i| is_set_after(kept, first, i))
 }
 
 // A case that nothing is said of: 16 words of stack cache, and p0 is true.
 pub fn forget_case(kept: &mut Kept)
     ensures { kept.new ≡ forgotten kept.old }
 {
-    let mut i = 0;
-    while i < CASE_END {
-        keep(&mut *kept, i, 0);
-        i += 1;
-    }
+    kept[..CASE_END].fill(0);
     kept[WORDS] = 16;
     kept[PREDICATES] = 1;
     kept[INTERRUPTS] = 0;

@@ -3,22 +3,14 @@
 ghost use Rattle.std.specs.Prelude.{◌≡◌};
 ghost use Rattle.case_kept.specs.Places.{last_byte, reach_index, length_index, note_if_room, note_place, first_outside};
 
-use crate::buffers::least;
 use crate::kept::{Kept, LINE, LOCAL, MAIN, NOTED, NOTES, REACH, WORDS, keep, number};
 
 // The memories that have places.
-#[derive(Clone, Copy)]
+#[derive(Clone, Copy, PartialEq, Eq, Debug)]
 pub enum Store {
     Main,
     Local,
     Cache,
-}
-
-// The line of the first place outside its store.
-#[derive(Clone, Copy)]
-pub enum Outside {
-    Line(u64),
-    Nowhere,
 }
 
 // More than the lines of a file of 1 MiB can name, each place further out than all before it in its store.
@@ -89,19 +81,16 @@ pub fn note(kept: &mut Kept, store: Store, last: u32)
     note_if_room(&mut *kept, store, last);
 }
 
-// The first noted place that lies outside.
-pub fn first_outside(kept: &Kept) -> Outside
+// The line of the first noted place that lies outside.
+pub fn first_outside(kept: &Kept) -> Option<u64>
     ensures { result ≡ first_outside kept.now }
 {
-    let mut left = least(number(kept, NOTED) as usize, ROOM as usize);
-    let mut at = NOTES;
-    while 0 < left {
-        left -= 1;
+    for n in 0..number(kept, NOTED).min(ROOM) as usize {
+        let at = NOTES + 3 * n;
         let length = number(kept, at) as usize;
         if number(kept, length) <= number(kept, at + 1) {
-            return Outside::Line(number(kept, at + 2));
+            return Some(number(kept, at + 2));
         }
-        at += 3;
     }
-    Outside::Nowhere
+    None
 }

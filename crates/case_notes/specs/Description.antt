@@ -1,12 +1,15 @@
 -- What the description lines of a case say of its numbers. They come in any order, and some kinds at most once.
-use Rattle.std.specs.Prelude.{ℕ, ◌+◌, Bool, cond, List, eqb, leb, ltb}
+use Rattle.std.specs.Prelude.{ℕ, ◌+◌, Result, Ok, Err, Bool, cond, List, eqb, leb, ltb}
 use Rattle.case_file.specs.declared.Line.{Line}
-use Rattle.case_file.specs.declared.Reason.TheVariants as Reason
+use Rattle.case_file.specs.declared.Reason.{Reason}
 use Rattle.case_words.specs.declared.SpecialName.{SpecialName}
 use Rattle.case_kept.specs.Indices.{MAIN, LOCAL, WORDS, LO, HI, ENTRY, FETCH, BASE, SPECIALS, TRANSFER, BR, CALL, BLOCK, XRET, LOAD, REGISTERS, PREDICATES, GIVEN, PRODUCTS, PRODUCT, METHOD, BLOCKS, BYTES, RECORD_BYTES}
 use Rattle.case_kept.specs.Kept.{kept_number, is_set, put, flag}
 use Rattle.case_notes.specs.Waiting.{with_transfer, with_load, with_product}
-use Rattle.case_notes.specs.declared.Judged.{Judged}
+
+-- Whether a line was taken, or why it is a mistake.
+abbrev pub Judged : Type 0
+Judged = Result (Unit {0}) Reason
 
 -- What a line leaves: whether it is a mistake, and the kept numbers.
 pub record Noted : Type 0 where
@@ -17,7 +20,7 @@ abbrev pub noted : Judged → List ℕ → Noted
 noted judged kept = record { judged = judged; kept = kept }
 
 abbrev pub fine : List ℕ → Noted
-fine kept = noted Judged.Fine kept
+fine kept = noted (Ok tt) kept
 
 -- Whether a line gave the number at an index.
 abbrev pub is_given : List ℕ → ℕ → Bool
@@ -32,7 +35,7 @@ give kept index n = put (mark_given kept index) index n
 
 -- A line that may stand once and comes again is a mistake. It is known by the index of its first number.
 abbrev pub once : List ℕ → ℕ → Noted → Noted
-once kept index rest = cond (is_given kept index) (noted (Judged.Mistake Reason.Repeated) kept) rest
+once kept index rest = cond (is_given kept index) (noted (Err Reason.Repeated) kept) rest
 
 abbrev pub number_once : List ℕ → ℕ → ℕ → Noted
 number_once kept index n = once kept index (fine (give kept index n))
@@ -43,12 +46,12 @@ GREATEST = 65536
 
 -- The length of a memory; one above 65,536 bytes is a mistake.
 abbrev pub length_once : List ℕ → ℕ → ℕ → Noted
-length_once kept index n = once kept index (cond (ltb GREATEST n) (noted (Judged.Mistake Reason.TooMuchMemory) kept) (fine (give kept index n)))
+length_once kept index n = once kept index (cond (ltb GREATEST n) (noted (Err Reason.TooMuchMemory) kept) (fine (give kept index n)))
 
 abbrev pub transfer_once : List ℕ → ℕ → ℕ → ℕ → ℕ → Noted
 transfer_once kept kind a b c = once kept TRANSFER (fine (with_transfer (mark_given kept TRANSFER) kind a b c))
 
--- The order of the special registers. A name that is none of them has no index below 8.
+-- The order of the special registers.
 abbrev pub special_index : SpecialName → ℕ
 special_index SpecialName.Sl = 0
 special_index SpecialName.Sh = 1
@@ -58,7 +61,6 @@ special_index SpecialName.Srb = 4
 special_index SpecialName.Sro = 5
 special_index SpecialName.Sxb = 6
 special_index SpecialName.Sxo = 7
-special_index SpecialName.Unknown = 8
 
 -- Lines that may come again: for one number the last one counts.
 abbrev pub one_of32 : List ℕ → ℕ → ℕ → ℕ → Noted
@@ -68,7 +70,7 @@ abbrev pub predicate : List ℕ → ℕ → Bool → Noted
 predicate kept p v = fine (cond (ltb p 8) (put kept (PREDICATES + p) (flag v)) kept)
 
 abbrev pub special : List ℕ → SpecialName → ℕ → Noted
-special kept name w = fine (cond (ltb (special_index name) 8) (give kept (SPECIALS + special_index name) w) kept)
+special kept name w = fine (give kept (SPECIALS + special_index name) w)
 
 -- Products under way, by rising wait: one that waits as long as the one before stands behind it. A third is a mistake.
 abbrev pub before_first : List ℕ → ℕ → ℕ → ℕ → List ℕ
@@ -80,12 +82,12 @@ product_more kept wait low high =
     cond (eqb (kept_number kept PRODUCTS) 0) (fine (with_product (put kept PRODUCTS 1) PRODUCT wait low high))
     (cond (eqb (kept_number kept PRODUCTS) 1)
     (fine (put (cond (leb (kept_number kept PRODUCT) wait) (with_product kept (PRODUCT + 3) wait low high) (before_first kept wait low high)) PRODUCTS 2))
-    (noted (Judged.Mistake Reason.TooManyProducts) kept))
+    (noted (Err Reason.TooManyProducts) kept))
 
 -- The method cache's capacity. Its line may stand once.
 unfoldable pub method_once : List ℕ → ℕ → ℕ → Noted
 method_once kept blocks bytes =
-    cond (is_set kept METHOD) (noted (Judged.Mistake Reason.Repeated) kept) (fine (put (put (put kept METHOD 1) BLOCKS blocks) BYTES bytes))
+    cond (is_set kept METHOD) (noted (Err Reason.Repeated) kept) (fine (put (put (put kept METHOD 1) BLOCKS blocks) BYTES bytes))
 
 -- The lines that need nothing but their own numbers, by the table of the description lines. Every other line leaves the numbers alone.
 unfoldable pub given : Line → List ℕ → Noted
@@ -103,7 +105,6 @@ given (Line.Call target wait) kept = transfer_once kept CALL target wait 0
 given (Line.Block target base wait) kept = transfer_once kept BLOCK target base wait
 given (Line.Load r w) kept = once kept LOAD (fine (with_load (mark_given kept LOAD) r w))
 given Line.Empty kept = fine kept
-given (Line.Mistake r) kept = fine kept
 given (Line.Case name) kept = fine kept
 given (Line.Code list) kept = fine kept
 given (Line.Private list) kept = fine kept

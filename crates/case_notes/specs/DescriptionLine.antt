@@ -1,15 +1,13 @@
 -- A description line, with all that it may fill: code, memories, stack cache and the kept numbers.
-use Rattle.std.specs.Prelude.{ℕ, zero, suc, ◌+◌, min, cond, List, ◌++◌, length, take, drop, leb}
+use Rattle.std.specs.Prelude.{ℕ, zero, suc, ◌+◌, min, cond, Option, Some, None, Result, Ok, Err, List, ◌++◌, length, take, drop, leb}
 use Rattle.big_endian.specs.Bytes.{put_word}
-use Rattle.case_file.specs.declared.CodeEntry.{CodeEntry}
 use Rattle.case_file.specs.declared.Line.{Line}
-use Rattle.case_file.specs.declared.Reason.TheVariants as Reason
+use Rattle.case_file.specs.declared.Reason.{Reason}
 use Rattle.case_file.specs.Arguments.{code_entry}
 use Rattle.case_kept.specs.declared.places.Store.{Store}
 use Rattle.case_kept.specs.Indices.{CODE}
 use Rattle.case_kept.specs.Kept.{kept_number, put}
-use Rattle.case_notes.specs.declared.Judged.{Judged}
-use Rattle.case_notes.specs.Description.{Noted, GREATEST, given}
+use Rattle.case_notes.specs.Description.{Judged, Noted, GREATEST, given}
 use Rattle.case_notes.specs.Marking.{mark_items}
 use Rattle.case_notes.specs.declared.Listed.TheVariants as Listed
 use Rattle.case_notes.specs.Lists.{taken}
@@ -31,24 +29,24 @@ filled judged kept buffer = record { judged = judged; kept = kept; buffer = buff
 unfoldable pub appended : List ℕ → ℕ → List ℕ → Filled
 appended kept w code =
     let n = kept_number kept CODE in
-    cond (leb GREATEST n) (filled (Judged.Mistake Reason.TooMuchCode) kept code) (filled Judged.Fine (put kept CODE (n + 4)) (put_word code n w))
+    cond (leb GREATEST n) (filled (Err Reason.TooMuchCode) kept code) (filled (Ok tt) (put kept CODE (n + 4)) (put_word code n w))
 
 -- The line goes on where there was no mistake.
 abbrev pub or_mistake : Judged → Filled → Filled → Filled
-or_mistake Judged.Fine rest f = rest
-or_mistake (Judged.Mistake r) rest f = f
+or_mistake (Ok _) rest f = rest
+or_mistake (Err r) rest f = f
 
 abbrev pub and_then : Filled → (List ℕ → List ℕ → Filled) → Filled
 and_then f rest = or_mistake f.judged (rest f.kept f.buffer) f
 
-abbrev pub append_entry : CodeEntry → List ℕ → List ℕ → (ℕ → List ℕ → List ℕ → Filled) → Filled
-append_entry (CodeEntry.Word w next) kept code rest = and_then (appended kept w code) (rest next)
-append_entry (CodeEntry.Mistake r) kept code rest = filled (Judged.Mistake r) kept code
-append_entry CodeEntry.End kept code rest = filled Judged.Fine kept code
+abbrev pub append_entry : Result (Option (ℕ × ℕ)) Reason → List ℕ → List ℕ → (ℕ → List ℕ → List ℕ → Filled) → Filled
+append_entry (Ok (Some entry)) kept code rest = and_then (appended kept entry.0 code) (rest entry.1)
+append_entry (Err r) kept code rest = filled (Err r) kept code
+append_entry (Ok None) kept code rest = filled (Ok tt) kept code
 
 -- At most n entries of a code line from a position on.
 unfoldable pub append_from : ℕ → List ℕ → ℕ → List ℕ → List ℕ → Filled
-append_from zero line at kept code = filled Judged.Fine kept code
+append_from zero line at kept code = filled (Ok tt) kept code
 append_from (suc n) line at kept code = append_entry (code_entry line at) kept code (append_from n line)
 
 -- A line has no more entries than bytes.
@@ -63,10 +61,10 @@ put_below_copy memory address w =
 
 -- `mainword` and `localword`: the word is put there at once, and its place is judged later.
 unfoldable pub memory_word : List ℕ → Store → ℕ → ℕ → List ℕ → Filled
-memory_word kept store address w memory = filled Judged.Fine (note_place kept store (last_byte address)) (put_below_copy memory address w)
+memory_word kept store address w memory = filled (Ok tt) (note_place kept store (last_byte address)) (put_below_copy memory address w)
 
 unfoldable pub cache_word : List ℕ → ℕ → ℕ → List ℕ → Filled
-cache_word kept place w cache = filled Judged.Fine (note_place kept Store.Cache place) (put_in_copy cache place w)
+cache_word kept place w cache = filled (Ok tt) (note_place kept Store.Cache place) (put_in_copy cache place w)
 
 -- What a description line leaves.
 pub record Described : Type 0 where
@@ -107,7 +105,6 @@ module _ (line code main local cache kept : List ℕ) where
   described_by (Line.LocalWord address w) = in_local (memory_word kept Store.Local address w local)
   described_by (Line.CacheWord place w) = in_cache (cache_word kept place w cache)
   described_by Line.Empty = in_kept (given Line.Empty kept)
-  described_by (Line.Mistake r) = in_kept (given (Line.Mistake r) kept)
   described_by (Line.Case name) = in_kept (given (Line.Case name) kept)
   described_by (Line.Main n) = in_kept (given (Line.Main n) kept)
   described_by (Line.Local n) = in_kept (given (Line.Local n) kept)

@@ -1,11 +1,10 @@
 -- Laws of the entries of a code line, one at a time.
-use Rattle.std.specs.Prelude.{ℕ, zero, suc, ◌-◌, ◌<◌, ◌≤◌, ◌≡◌, refl, List}
+use Rattle.std.specs.Prelude.{ℕ, zero, suc, ◌-◌, ◌<◌, ◌≤◌, ◌≡◌, refl, Ok, List}
 use Rattle.std.proofs.Common.{sub-one, arith}
 use Rattle.case_file.specs.Arguments.{code_entry}
-use Rattle.case_notes.specs.declared.Judged.TheVariants as Judged
 use Rattle.case_notes.specs.DescriptionLine.{filled, append_entry, append_from}
 
-pub append_none : (n : ℕ) (line : List ℕ) (at : ℕ) (kept code : List ℕ) → n ≤ 0 → append_from n line at kept code ≡ filled Judged.Fine kept code
+pub append_none : (n : ℕ) (line : List ℕ) (at : ℕ) (kept code : List ℕ) → n ≤ 0 → append_from n line at kept code ≡ filled (Ok tt) kept code
 unfolding append_from
 append_none zero line at kept code h = refl
 append_none (suc n) line at kept code h = absurd (omega arith)

@@ -1,12 +1,11 @@
 -- The items of a private line, and the marking that they make.
-use Rattle.std.specs.Prelude.{ℕ, zero, suc, ◌+◌, cond, List, length, ltb}
+use Rattle.std.specs.Prelude.{ℕ, zero, suc, ◌+◌, cond, Option, Some, None, Result, Ok, Err, List, length, ltb}
 use Rattle.case_words.specs.declared.Item.{Item}
-use Rattle.case_file.specs.declared.PrivateEntry.{PrivateEntry}
+use Rattle.case_file.specs.declared.Reason.{Reason}
 use Rattle.case_file.specs.Arguments.{private_entry}
 use Rattle.marking.specs.declared.Marking.{Marking}
 use Rattle.case_kept.specs.Indices.{PRIVATE_REGISTERS, PRIVATE_PREDICATES, PRIVATE_SL, PRIVATE_SH, PRIVATE_MAIN, PRIVATE_LOCAL, PRIVATE_STACK}
 use Rattle.case_kept.specs.Kept.{is_set, put, kept_flags}
-use Rattle.case_notes.specs.declared.Judged.TheVariants as Judged
 use Rattle.case_notes.specs.Description.{Noted, noted, fine}
 
 abbrev pub with_register : List ℕ → ℕ → List ℕ
@@ -24,13 +23,12 @@ marked kept Item.Sh = put kept PRIVATE_SH 1
 marked kept Item.Main = put kept PRIVATE_MAIN 1
 marked kept Item.Local = put kept PRIVATE_LOCAL 1
 marked kept Item.Stack = put kept PRIVATE_STACK 1
-marked kept Item.Unknown = kept
 
 -- What an entry of a private line does: an item is marked and the line goes on after it; a mistake or the end ends it.
-abbrev pub mark_entry : PrivateEntry → List ℕ → (ℕ → List ℕ → Noted) → Noted
-mark_entry (PrivateEntry.Item item next) kept rest = rest next (marked kept item)
-mark_entry (PrivateEntry.Mistake r) kept rest = noted (Judged.Mistake r) kept
-mark_entry PrivateEntry.End kept rest = fine kept
+abbrev pub mark_entry : Result (Option (Item × ℕ)) Reason → List ℕ → (ℕ → List ℕ → Noted) → Noted
+mark_entry (Ok (Some entry)) kept rest = rest entry.1 (marked kept entry.0)
+mark_entry (Err r) kept rest = noted (Err r) kept
+mark_entry (Ok None) kept rest = fine kept
 
 -- At most n entries of a private line from a position on. The items before a mistake are marked.
 unfoldable pub mark_from : ℕ → List ℕ → ℕ → List ℕ → Noted

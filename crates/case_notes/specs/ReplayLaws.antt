@@ -1,17 +1,16 @@
 -- An interrupt is taken whole or not at all: where there is room for both of its numbers, or for none.
-use Rattle.std.specs.Prelude.{ℕ, ◌+◌, ◌≤◌, ◌<◌, ◌≡◌, refl, Bool, true, false, cond, List, length, set, ltb}
+use Rattle.std.specs.Prelude.{ℕ, ◌+◌, ◌≤◌, ◌<◌, ◌≡◌, refl, Ok, Err, Bool, true, false, cond, List, length, set, ltb}
 use Rattle.std.proofs.Common.{ap, ◌∙◌, arith, length-set, get_or-set_same, le-leb}
 use Rattle.std.proofs.lemmas.Bool.{lt-leb}
 use Rattle.case_file.specs.declared.Reason.TheVariants as Reason
 use Rattle.case_kept.specs.Indices.{ALL, INTERRUPTS}
 use Rattle.case_kept.specs.Kept.{kept_number, put}
-use Rattle.case_notes.specs.declared.Judged.TheVariants as Judged
 use Rattle.case_notes.specs.Description.{noted}
 use Rattle.case_notes.specs.Lists.{behind}
 use Rattle.case_notes.specs.Replay.{number_behind, interrupt}
 
 pub interrupt_none : (kept : List ℕ) (number vector : ℕ) → 8192 ≤ kept_number kept INTERRUPTS
-    → interrupt kept number vector ≡ noted (Judged.Mistake Reason.TooManyInterrupts) kept
+    → interrupt kept number vector ≡ noted (Err Reason.TooManyInterrupts) kept
 unfolding interrupt behind
 interrupt_none kept number vector h = rw (le-leb _ _ h)
 
@@ -24,7 +23,7 @@ length_put kept index n = go (ltb index ALL)
 
 -- The list behind which a number was put.
 behind_count : (kept : List ℕ) (n : ℕ) → length kept ≡ ALL → kept_number kept INTERRUPTS < 8192
-    → ((number_behind n kept).judged ≡ Judged.Fine) × (length (number_behind n kept).kept ≡ ALL)
+    → ((number_behind n kept).judged ≡ Ok tt) × (length (number_behind n kept).kept ≡ ALL)
     × (kept_number (number_behind n kept).kept INTERRUPTS ≡ kept_number kept INTERRUPTS + 1)
 unfolding behind
 behind_count kept n e h =
@@ -34,7 +33,7 @@ behind_count kept n e h =
     rw (lt-leb 8192 c h) (refl, length_put k INTERRUPTS (c + 1) ∙ m, get_or-set_same k INTERRUPTS (c + 1) 0 (rw m (omega arith)))
 
 pub interrupt_both : (kept : List ℕ) (number vector : ℕ) → length kept ≡ ALL → kept_number kept INTERRUPTS + 2 ≤ 8192
-    → ((interrupt kept number vector).judged ≡ Judged.Fine) × (kept_number (interrupt kept number vector).kept INTERRUPTS ≡ kept_number kept INTERRUPTS + 2)
+    → ((interrupt kept number vector).judged ≡ Ok tt) × (kept_number (interrupt kept number vector).kept INTERRUPTS ≡ kept_number kept INTERRUPTS + 2)
 unfolding interrupt
 interrupt_both kept number vector e h =
     let a = behind_count kept number e (omega arith) in

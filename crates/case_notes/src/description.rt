@@ -1,8 +1,7 @@
-// What the description lines of a case say of its numbers, gathered in any order. Each function answers whether the line is a mistake.
-ghost use Rattle.std.specs.Prelude.{◌≡◌};
+// What the description lines of a case say of its numbers, gathered in any order. Where the line is a mistake, a function answers why.
+ghost use Rattle.std.specs.Prelude.{◌≡◌, ◌<◌};
 ghost use Rattle.case_notes.specs.Description.{noted, is_given, mark_given, give as giveAt, number_once, length_once, transfer_once, special_index, one_of32, predicate, special, product_more, method_once, given};
 
-use crate::Judged;
 use crate::waiting::{keep_load, keep_product, keep_transfer};
 use case_file::{Line, Reason};
 use case_kept::kept::{
@@ -36,66 +35,67 @@ fn give_number(kept: &mut Kept, index: usize, n: u32)
 }
 
 // A number that a case gives once.
-pub(crate) fn give_once(kept: &mut Kept, index: usize, n: u32) -> Judged
+pub(crate) fn give_once(kept: &mut Kept, index: usize, n: u32) -> Result<(), Reason>
     ensures { noted result kept.new ≡ number_once kept.old index n }
 {
     if is_given(&*kept, index) {
-        return Judged::Mistake(Reason::Repeated);
+        return Err(Reason::Repeated);
     }
     give_number(&mut *kept, index, n);
-    Judged::Fine
+    Ok(())
 }
 
 // The length of a memory.
-fn give_length(kept: &mut Kept, index: usize, n: u32) -> Judged
+fn give_length(kept: &mut Kept, index: usize, n: u32) -> Result<(), Reason>
     ensures { noted result kept.new ≡ length_once kept.old index n }
 {
     if is_given(&*kept, index) {
-        return Judged::Mistake(Reason::Repeated);
+        return Err(Reason::Repeated);
     }
     if GREATEST < n {
-        return Judged::Mistake(Reason::TooMuchMemory);
+        return Err(Reason::TooMuchMemory);
     }
     give_number(&mut *kept, index, n);
-    Judged::Fine
+    Ok(())
 }
 
-fn give_stack(kept: &mut Kept, words: u32, lo: u32, hi: u32) -> Judged
+#[tactic(auto, unfolding(crate::specs::Description::given))]
+fn give_stack(kept: &mut Kept, words: u32, lo: u32, hi: u32) -> Result<(), Reason>
     ensures { noted result kept.new ≡ given (Line.Stack words lo hi) kept.old }
 {
     if is_given(&*kept, WORDS) {
-        return Judged::Mistake(Reason::Repeated);
+        return Err(Reason::Repeated);
     }
     give_number(&mut *kept, WORDS, words);
     kept[LO] = lo as u64;
     kept[HI] = hi as u64;
-    Judged::Fine
+    Ok(())
 }
 
 // One of 32 numbers from an index on.
-pub(crate) fn give_one_of_32(kept: &mut Kept, first: usize, n: u32, w: u32) -> Judged
+pub(crate) fn give_one_of_32(kept: &mut Kept, first: usize, n: u32, w: u32) -> Result<(), Reason>
     ensures { noted result kept.new ≡ one_of32 kept.old first n w }
 {
     if n < 32 {
         keep_after(&mut *kept, first, n as usize, w as u64);
-        return Judged::Fine;
+        return Ok(());
     }
-    Judged::Fine
+    Ok(())
 }
 
-fn give_predicate(kept: &mut Kept, p: u32, v: bool) -> Judged
+fn give_predicate(kept: &mut Kept, p: u32, v: bool) -> Result<(), Reason>
     ensures { noted result kept.new ≡ predicate kept.old p v }
 {
     if p < 8 {
         keep_flag(&mut *kept, PREDICATES + (p as usize), v);
-        return Judged::Fine;
+        return Ok(());
     }
-    Judged::Fine
+    Ok(())
 }
 
 // The index of a special register in the list of them.
 fn special_index(name: SpecialName) -> usize
-    ensures { result ≡ special_index name }
+    ensures { (result ≡ special_index name) × (result < 8) }
 {
     match name {
         SpecialName::Sl => 0,
@@ -106,55 +106,52 @@ fn special_index(name: SpecialName) -> usize
         SpecialName::Sro => 5,
         SpecialName::Sxb => 6,
         SpecialName::Sxo => 7,
-        SpecialName::Unknown => 8,
     }
 }
 
-fn give_special(kept: &mut Kept, name: SpecialName, w: u32) -> Judged
+fn give_special(kept: &mut Kept, name: SpecialName, w: u32) -> Result<(), Reason>
     ensures { noted result kept.new ≡ special kept.old name w }
 {
-    let k = special_index(name);
-    if k < 8 {
-        give_number(&mut *kept, SPECIALS + k, w);
-        return Judged::Fine;
-    }
-    Judged::Fine
+    give_number(&mut *kept, SPECIALS + special_index(name), w);
+    Ok(())
 }
 
-fn give_transfer(kept: &mut Kept, kind: u64, a: u32, b: u32, c: u32) -> Judged
+fn give_transfer(kept: &mut Kept, kind: u64, a: u32, b: u32, c: u32) -> Result<(), Reason>
     ensures { noted result kept.new ≡ transfer_once kept.old kind a b c }
 {
     if is_given(&*kept, TRANSFER) {
-        return Judged::Mistake(Reason::Repeated);
+        return Err(Reason::Repeated);
     }
     mark_given(&mut *kept, TRANSFER);
     keep_transfer(&mut *kept, kind, a, b, c);
-    Judged::Fine
+    Ok(())
 }
 
-fn give_load(kept: &mut Kept, register: u32, value: u32) -> Judged
+#[tactic(auto, unfolding(crate::specs::Description::given))]
+fn give_load(kept: &mut Kept, register: u32, value: u32) -> Result<(), Reason>
     ensures { noted result kept.new ≡ given (Line.Load register value) kept.old }
 {
     if is_given(&*kept, LOAD) {
-        return Judged::Mistake(Reason::Repeated);
+        return Err(Reason::Repeated);
     }
     mark_given(&mut *kept, LOAD);
     keep_load(&mut *kept, register, value);
-    Judged::Fine
+    Ok(())
 }
 
 // One product more under way, put in its place by rising wait.
-fn give_product(kept: &mut Kept, wait: u32, low: u32, high: u32) -> Judged
+#[tactic(auto, unfolding(crate::specs::Description::product_more))]
+fn give_product(kept: &mut Kept, wait: u32, low: u32, high: u32) -> Result<(), Reason>
     ensures { noted result kept.new ≡ product_more kept.old wait low high }
 {
     let count = kept[PRODUCTS];
     if count == 0 {
         kept[PRODUCTS] = 1;
         keep_product(&mut *kept, PRODUCT, wait as u64, low as u64, high as u64);
-        return Judged::Fine;
+        return Ok(());
     }
     if count != 1 {
-        return Judged::Mistake(Reason::TooManyProducts);
+        return Err(Reason::TooManyProducts);
     }
     let first = kept[PRODUCT];
     if first <= wait as u64 {
@@ -166,31 +163,33 @@ fn give_product(kept: &mut Kept, wait: u32, low: u32, high: u32) -> Judged
             high as u64,
         );
         kept[PRODUCTS] = 2;
-        return Judged::Fine;
+        return Ok(());
     }
     let first_low = kept[PRODUCT + 1];
     let first_high = kept[PRODUCT + 2];
     keep_product(&mut *kept, PRODUCT + 3, first, first_low, first_high);
     keep_product(&mut *kept, PRODUCT, wait as u64, low as u64, high as u64);
     kept[PRODUCTS] = 2;
-    Judged::Fine
+    Ok(())
 }
 
 // The method cache's capacity.
-fn give_method(kept: &mut Kept, blocks: u32, bytes: u32) -> Judged
+#[tactic(auto, unfolding(crate::specs::Description::method_once))]
+fn give_method(kept: &mut Kept, blocks: u32, bytes: u32) -> Result<(), Reason>
     ensures { noted result kept.new ≡ method_once kept.old blocks bytes }
 {
     if is_set(&*kept, METHOD) {
-        return Judged::Mistake(Reason::Repeated);
+        return Err(Reason::Repeated);
     }
     kept[METHOD] = 1;
     kept[BLOCKS] = blocks as u64;
     kept[BYTES] = bytes as u64;
-    Judged::Fine
+    Ok(())
 }
 
 // A line that needs nothing but its own numbers.
-pub fn give(kept: &mut Kept, said: Line) -> Judged
+#[tactic(auto, unfolding(crate::specs::Description::given))]
+pub fn give(kept: &mut Kept, said: Line) -> Result<(), Reason>
     ensures { noted result kept.new ≡ given said kept.old }
 {
     match said {
@@ -213,6 +212,6 @@ pub fn give(kept: &mut Kept, said: Line) -> Judged
         Line::Method { blocks, bytes } => give_method(&mut *kept, blocks, bytes),
         Line::RecordBytes(n) => give_once(&mut *kept, RECORD_BYTES, n),
         Line::Xret { target, base, wait } => give_transfer(&mut *kept, XRET, target, base, wait),
-        _ => Judged::Fine,
+        _ => Ok(()),
     }
 }

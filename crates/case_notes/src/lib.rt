@@ -10,17 +10,8 @@ pub mod record;
 pub mod replay;
 pub mod waiting;
 
-use case_file::Reason;
-
-// Whether a line was taken, or why it is a mistake.
-#[derive(Clone, Copy)]
-pub enum Judged {
-    Fine,
-    Mistake(Reason),
-}
-
 // A list that lines of a case give: the bases of the blocks held, or the words of the record.
-#[derive(Clone, Copy)]
+#[derive(Clone, Copy, PartialEq, Eq, Debug)]
 pub enum Listed {
     Held,
     Record,

@@ -3,9 +3,9 @@ ghost use Rattle.std.specs.Prelude.{◌≡◌};
 ghost use Rattle.case_notes.specs.Description.{noted};
 ghost use Rattle.case_notes.specs.Lists.{entry_of, behind, more, taken};
 
-use crate::{Judged, Listed};
+use crate::Listed;
+use case_file::Reason;
 use case_file::arguments::{code_entry, held_entry};
-use case_file::{CodeEntry, Reason};
 use case_kept::kept::{HELD, Kept, RECORD, keep, keep_after, number};
 
 pub(crate) const MOST_HELD: u64 = 16;
@@ -13,7 +13,7 @@ pub(crate) const MOST_HELD: u64 = 16;
 pub(crate) const MOST_WORDS: u64 = 2048;
 
 // The next entry of a line that lists such.
-fn next_entry(l: Listed, line: &[u8], at: usize) -> CodeEntry
+fn next_entry(l: Listed, line: &[u8], at: usize) -> Result<Option<(u32, usize)>, Reason>
     ensures { result ≡ entry_of l line.now at }
 {
     match l {
@@ -23,19 +23,26 @@ fn next_entry(l: Listed, line: &[u8], at: usize) -> CodeEntry
 }
 
 // One entry more behind those of the list at an index, or the mistake that it has the most already.
-pub(crate) fn append(kept: &mut Kept, first: usize, most: u64, full: Reason, n: u32) -> Judged
+#[tactic(auto, unfolding(crate::specs::Lists::behind))]
+pub(crate) fn append(
+    kept: &mut Kept,
+    first: usize,
+    most: u64,
+    full: Reason,
+    n: u32,
+) -> Result<(), Reason>
     ensures { noted result kept.new ≡ behind kept.old first most full n }
 {
     let count = number(&*kept, first);
     if most <= count {
-        return Judged::Mistake(full);
+        return Err(full);
     }
     keep_after(&mut *kept, first, (count + 1) as usize, n as u64);
     keep(&mut *kept, first, count + 1);
-    Judged::Fine
+    Ok(())
 }
 
-fn take_one(kept: &mut Kept, l: Listed, n: u32) -> Judged
+fn take_one(kept: &mut Kept, l: Listed, n: u32) -> Result<(), Reason>
     ensures { noted result kept.new ≡ more l kept.old n }
 {
     match l {
@@ -45,27 +52,16 @@ fn take_one(kept: &mut Kept, l: Listed, n: u32) -> Judged
 }
 
 // The entries of a line from a position on. A line has fewer entries than bytes.
-pub(crate) fn take_list(kept: &mut Kept, l: Listed, line: &[u8], list: usize) -> Judged
+pub(crate) fn take_list(kept: &mut Kept, l: Listed, line: &[u8], list: usize) -> Result<(), Reason>
     ensures { noted result kept.new ≡ taken l line.now list kept.old }
 {
     let mut at = list;
-    let mut left = line.len();
-    while 0 < left {
-        left -= 1;
-        match next_entry(l, line, at) {
-            CodeEntry::End => {
-                return Judged::Fine;
-            }
-            CodeEntry::Mistake(r) => {
-                return Judged::Mistake(r);
-            }
-            CodeEntry::Word { word, next } => {
-                if let Judged::Mistake(r) = take_one(&mut *kept, l, word) {
-                    return Judged::Mistake(r);
-                }
-                at = next;
-            }
-        }
+    for _ in 0..line.len() {
+        let Some((entry, next)) = next_entry(l, line, at)? else {
+            return Ok(());
+        };
+        take_one(&mut *kept, l, entry)?;
+        at = next;
     }
-    Judged::Fine
+    Ok(())
 }

@@ -1,12 +1,9 @@
 // The marking that a case describes, among the kept numbers.
 ghost use Rattle.std.specs.Prelude.{◌≡◌};
-ghost use Rattle.case_kept.specs.Indices.{PRIVATE_REGISTERS};
-ghost use Rattle.case_kept.specs.Kept.{kept_flags};
 ghost use Rattle.case_notes.specs.Description.{noted};
 ghost use Rattle.case_notes.specs.Marking.{with_register, with_predicate, marked, mark_items, marking_of};
 
-use crate::Judged;
-use case_file::PrivateEntry;
+use case_file::Reason;
 use case_file::arguments::private_entry;
 use case_kept::kept::{
     Kept, PRIVATE_LOCAL, PRIVATE_MAIN, PRIVATE_PREDICATES, PRIVATE_REGISTERS, PRIVATE_SH,
@@ -43,50 +40,28 @@ fn mark(kept: &mut Kept, item: Item)
         Item::Main => kept[PRIVATE_MAIN] = 1,
         Item::Local => kept[PRIVATE_LOCAL] = 1,
         Item::Stack => kept[PRIVATE_STACK] = 1,
-        Item::Unknown => (),
     }
 }
 
 // The items of a private line from a position on, and whether one is a mistake. A line has fewer entries than bytes.
-pub fn mark_items(kept: &mut Kept, line: &[u8], list: usize) -> Judged
+pub fn mark_items(kept: &mut Kept, line: &[u8], list: usize) -> Result<(), Reason>
     ensures { noted result kept.new ≡ mark_items line.now list kept.old }
 {
     let mut at = list;
-    let mut left = line.len();
-    while 0 < left {
-        left -= 1;
-        match private_entry(line, at) {
-            PrivateEntry::End => {
-                return Judged::Fine;
-            }
-            PrivateEntry::Mistake(r) => {
-                return Judged::Mistake(r);
-            }
-            PrivateEntry::Item { item, next } => {
-                mark(&mut *kept, item);
-                at = next;
-            }
-        }
+    for _ in 0..line.len() {
+        let Some((item, next)) = private_entry(line, at)? else {
+            return Ok(());
+        };
+        mark(&mut *kept, item);
+        at = next;
     }
-    Judged::Fine
-}
-
-fn private_registers(kept: &Kept) -> [bool; 32]
-    ensures { result ≡ kept_flags 32 kept.now PRIVATE_REGISTERS }
-{
-    let mut registers = [false; 32];
-    let mut i = 0;
-    while i < 32 {
-        registers[i] = is_set(kept, PRIVATE_REGISTERS + i);
-        i += 1;
-    }
-    registers
+    Ok(())
 }
 
 pub fn marking_of(kept: &Kept) -> Marking
     ensures { result ≡ marking_of kept.now }
 {
-    let registers = private_registers(kept);
+    let registers = flags_of(kept, PRIVATE_REGISTERS);
     let predicates = flags_of(kept, PRIVATE_PREDICATES);
     Marking {
         registers,

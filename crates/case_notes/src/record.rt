@@ -6,23 +6,24 @@ ghost use Rattle.case_notes.specs.Record.{entries, record_words, record_length, 
 use crate::description::is_given;
 use crate::lists::MOST_WORDS;
 use big_endian::write_word;
-use case_kept::buffers::{RECORD_ROOM, least};
+use case_kept::buffers::RECORD_ROOM;
 use case_kept::kept::{Kept, RECORD, RECORD_BYTES, number, word};
 
 // How many entries the list at an index has.
 fn entries(kept: &Kept, first: usize, most: usize) -> usize
     ensures { (result ≤ most) × (result ≡ entries kept.now first most) }
 {
-    least(number(kept, first) as usize, most)
+    (number(kept, first) as usize).min(most)
 }
 
 // How many bytes are handed in: where no line says it, the others.
+#[tactic(auto, unfolding(crate::specs::Record::handed_in))]
 pub(crate) fn handed_in(kept: &Kept, index: usize, most: usize, others: usize) -> usize
     requires { others ≤ most }
     ensures { (result ≤ most) × (result ≡ handed_in kept.now index most others) }
 {
     if is_given(kept, index) {
-        return least(word(kept, index) as usize, most);
+        return (word(kept, index) as usize).min(most);
     }
     others
 }
@@ -32,10 +33,8 @@ pub(crate) fn lay_words(kept: &Kept, first: usize, n: usize, bytes: &mut [u8])
     requires { (first ≤ ALL) × (n ≤ 8192) }
     ensures { bytes.new ≡ laid first n kept.now bytes.old }
 {
-    let mut i = 0;
-    while i < n {
+    for i in 0..n {
         write_word(&mut *bytes, (4 * i) as u32, word(kept, first + i));
-        i += 1;
     }
 }
 

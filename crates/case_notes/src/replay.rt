@@ -3,7 +3,6 @@ ghost use Rattle.std.specs.Prelude.{◌≡◌, ◌≤◌};
 ghost use Rattle.case_notes.specs.Description.{noted};
 ghost use Rattle.case_notes.specs.Replay.{number_behind, interrupt, said, of_replay, list_length, laid_list, table_length, laid_table};
 
-use crate::Judged;
 use crate::description::{give_once, give_one_of_32};
 use crate::lists::append;
 use crate::record::{handed_in, lay_entries, lay_words, length_handed_in};
@@ -17,7 +16,7 @@ use case_kept::kept::{
 const MOST_NUMBERS: u64 = 8192;
 
 // One number more of the list.
-fn list_number(kept: &mut Kept, n: u32) -> Judged
+fn list_number(kept: &mut Kept, n: u32) -> Result<(), Reason>
     ensures { noted result kept.new ≡ number_behind n kept.old }
 {
     append(
@@ -29,16 +28,16 @@ fn list_number(kept: &mut Kept, n: u32) -> Judged
     )
 }
 
-fn list_interrupt(kept: &mut Kept, number: u32, vector: u32) -> Judged
+#[tactic(auto, unfolding(crate::specs::Replay::interrupt))]
+fn list_interrupt(kept: &mut Kept, number: u32, vector: u32) -> Result<(), Reason>
     ensures { noted result kept.new ≡ interrupt kept.old number vector }
 {
-    if let Judged::Mistake(r) = list_number(&mut *kept, number) {
-        return Judged::Mistake(r);
-    }
+    list_number(&mut *kept, number)?;
     list_number(&mut *kept, vector)
 }
 
-fn take_said(kept: &mut Kept, r: ReplayLine) -> Judged
+#[tactic(auto, unfolding(crate::specs::Replay::said))]
+fn take_said(kept: &mut Kept, r: ReplayLine) -> Result<(), Reason>
     ensures { noted result kept.new ≡ said r kept.old }
 {
     match r {
@@ -54,7 +53,7 @@ fn take_said(kept: &mut Kept, r: ReplayLine) -> Judged
     }
 }
 
-pub(crate) fn give_replay(kept: &mut Kept, r: ReplayLine) -> Judged
+pub(crate) fn give_replay(kept: &mut Kept, r: ReplayLine) -> Result<(), Reason>
     ensures { noted result kept.new ≡ of_replay r kept.old }
 {
     kept[REPLAYS] = 1;

@@ -1,5 +1,5 @@
 // What an operation changed: a line for each word that differs from its copy.
-#![tactic(auto, using(text::specs::PageLaws::texts), unfolding(crate::specs::Changes::change_line, crate::specs::Changes::cache_change, crate::specs::Changes::changes_text))]
+#![tactic(auto, using(text::specs::PageLaws::texts), unfolding(crate::specs::Changes::change_line, crate::specs::Changes::change_at, crate::specs::Changes::cache_change, crate::specs::Changes::changes_text))]
 
 ghost use Rattle.std.specs.Prelude.{◌≡◌, ◌*◌, ◌≤◌, length};
 ghost use Rattle.text.specs.Field.{same_bytes};
@@ -7,9 +7,8 @@ ghost use Rattle.text.specs.Page.{Puts};
 ghost use Rattle.case_report.specs.Changes.{byte_texts, change_line, word, change_at, word_changes, memory_changes, cache_line, cache_change, cache_changes, changes_text};
 
 use crate::form::say;
-use case_kept::buffers::{CACHE_COPY, COPY, Cache, Memory, least};
+use case_kept::buffers::{CACHE_COPY, COPY, Cache, Memory};
 use case_kept::extent::Extents;
-use text::fields::same;
 use text::page::Page;
 
 pub(crate) fn put_bytes(page: &mut Page, s: &[u8])
@@ -27,7 +26,7 @@ fn put_change(page: &mut Page, label: &[u8], address: usize, word: &[u8])
     page.put(label);
     page.put_decimal(address as u64);
     page.put_byte(b' ');
-    put_bytes(&mut *page, word);
+    put_bytes(page, word);
     page.put_byte(b'\n');
 }
 
@@ -39,7 +38,7 @@ fn is_same_word(after: &[u8], before: &[u8], k: usize) -> bool
 {
     let a = 4 * k;
     if after.len() - a < 4 {
-        return same(&after[a..], &before[a..]);
+        return after[a..] == before[a..];
     }
     let front = (after[a] == before[a]) & (after[a + 1] == before[a + 1]);
     let back = (after[a + 2] == before[a + 2]) & (after[a + 3] == before[a + 3]);
@@ -55,8 +54,8 @@ fn put_if_changed(page: &mut Page, label: &[u8], after: &[u8], before: &[u8], k:
         return;
     }
     let start = 4 * k;
-    let end = start + least(4, after.len() - start);
-    put_change(&mut *page, label, start, &after[start..end]);
+    let end = start + (after.len() - start).min(4);
+    put_change(page, label, start, &after[start..end]);
 }
 
 fn put_words(page: &mut Page, label: &[u8], after: &[u8], before: &[u8])
@@ -65,23 +64,24 @@ fn put_words(page: &mut Page, label: &[u8], after: &[u8], before: &[u8])
 {
     let words = after.len() / 4 + 1;
     for k in 0..words {
-        put_if_changed(&mut *page, label, after, before, k);
+        put_if_changed(page, label, after, before, k);
     }
 }
 
 // The changed words of the first n bytes of a memory.
+#[tactic(auto, unfolding(crate::specs::Changes::memory_changes))]
 fn put_memory(page: &mut Page, label: &[u8], memory: &Memory, n: usize)
     ensures { Puts page.old page.new (memory_changes label.now memory.now n) }
 {
-    let end = least(n, COPY);
+    let end = n.min(COPY);
     let bytes = &memory[..];
-    put_words(&mut *page, label, &bytes[0..end], &bytes[COPY..COPY + end]);
+    put_words(page, label, &bytes[0..end], &bytes[COPY..COPY + end]);
 }
 
 fn put_cache_line(page: &mut Page, k: usize, w: u32)
     ensures { Puts page.old page.new (cache_line k w) }
 {
-    say(&mut *page, b"cache % #\n", &[k as u64, w as u64]);
+    say(page, b"cache % #\n", &[k as u64, w as u64]);
 }
 
 fn put_cache_word(page: &mut Page, cache: &Cache, k: usize)
@@ -92,23 +92,23 @@ fn put_cache_word(page: &mut Page, cache: &Cache, k: usize)
     if w == cache[CACHE_COPY + k] {
         return;
     }
-    put_cache_line(&mut *page, k, w);
+    put_cache_line(page, k, w);
 }
 
 // The changed words of the first n stack cache words.
 fn put_cache(page: &mut Page, cache: &Cache, n: usize)
     ensures { Puts page.old page.new (cache_changes cache.now n) }
 {
-    let end = least(n, CACHE_COPY);
+    let end = n.min(CACHE_COPY);
     for k in 0..end {
-        put_cache_word(&mut *page, cache, k);
+        put_cache_word(page, cache, k);
     }
 }
 
 pub fn put_changes(page: &mut Page, main: &Memory, local: &Memory, cache: &Cache, e: Extents)
     ensures { Puts page.old page.new (changes_text main.now local.now cache.now e) }
 {
-    put_memory(&mut *page, b"main ", main, e.main);
-    put_memory(&mut *page, b"local ", local, e.local);
-    put_cache(&mut *page, cache, e.words);
+    put_memory(page, b"main ", main, e.main);
+    put_memory(page, b"local ", local, e.local);
+    put_cache(page, cache, e.words);
 }

@@ -6,7 +6,6 @@ ghost use Rattle.std.specs.Prelude.{◌≡◌, cond, ◌+◌, ◌≤◌, ◌<◌
 ghost use Rattle.text.specs.Page.{Puts};
 ghost use Rattle.case_report.specs.Form.{is_hole, shown, filled};
 
-use case_kept::buffers::least;
 use case_kept::kept::{ALL, Kept};
 use text::page::Page;
 
@@ -48,16 +47,17 @@ pub fn say(page: &mut Page, form: &[u8], numbers: &[u64])
 {
     let mut k = 0;
     for b in form {
-        put_shown(&mut *page, *b, nth(numbers, k));
+        put_shown(page, *b, nth(numbers, k));
         k = next_number(*b, k);
     }
 }
 
 // A form with kept numbers, from an index on.
+#[tactic(auto, using(crate::specs::FormLaws::from_on))]
 pub fn say_kept(page: &mut Page, form: &[u8], kept: &Kept, first: usize)
     ensures { Puts page.old page.new (filled form.now (drop first kept.now)) }
 {
-    let from = least(first, ALL);
+    let from = first.min(ALL);
     let numbers = &kept[..];
-    say(&mut *page, form, &numbers[from..]);
+    say(page, form, &numbers[from..]);
 }

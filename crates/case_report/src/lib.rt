@@ -1,4 +1,4 @@
-// The texts of the report, put into a lent buffer, and the one function that writes a buffer out.
+// The texts of the report, put on a page, and the one function that writes a buffer out.
 #![tactic(auto)]
 
 pub mod changes;

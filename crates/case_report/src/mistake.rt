@@ -17,8 +17,8 @@ use text::page::Page;
 fn put_mistake(page: &mut Page, n: u64, r: Reason)
     ensures { Puts page.old page.new (error_text n r) }
 {
-    say(&mut *page, b"error line %: ", &[n]);
-    put_reason(&mut *page, r);
+    say(page, b"error line %: ", &[n]);
+    put_reason(page, r);
     page.put_byte(b'\n');
 }
 
@@ -27,5 +27,5 @@ pub fn fail(page: &mut Page, kept: &mut Kept, line: u64, r: Reason)
     ensures { Puts page.old page.new (error_text line r) × (kept.new ≡ put_number kept.old PHASE STOPPED) }
 {
     kept[PHASE] = STOPPED;
-    put_mistake(&mut *page, line, r);
+    put_mistake(page, line, r);
 }

@@ -3,14 +3,15 @@ ghost use Rattle.std.specs.Prelude.{◌≤◌, IsTrue, length, take};
 ghost use Rattle.std.specs.Io.KnownBytes.{Appends, Keeps};
 
 use std::io::{Cursor, Error, Write};
-use text::page::Page;
 
-// Writes what stands on a page, and answers whether that went well. If not, it says so on the writer of errors.
-pub fn write_out<W: Write, E: Write>(to: &mut W, errors: &mut E, page: &Page) -> bool
-    ensures written { IsTrue result → Appends (W.contents to.old) (W.contents to.new) (take page.now.used page.now.out.now) }
+// Writes the used part of a buffer, and answers whether that went well. If not, it says so on the writer of errors.
+// It takes no Page: what is only read may be lent here, as before, and a Page has to be lent a buffer to write.
+pub fn write_out<W: Write, E: Write>(to: &mut W, errors: &mut E, out: &[u8], used: usize) -> bool
+    ensures written { IsTrue result → Appends (W.contents to.old) (W.contents to.new) (take used out.now) }
     ensures quiet { IsTrue result → Keeps (E.contents errors.old) (E.contents errors.new) }
 {
-    match to.write_all(page.text()) {
+    let n = used.min(out.len());
+    match to.write_all(&out[..n]) {
         Ok(()) => true,
         Err(e) => {
             say_failure(errors, b"the report could not be written", &e);
@@ -73,19 +74,9 @@ mod tests {
     fn writes_what_is_used(rt: HostRuntime) {
         let mut to = Vec::new(rt.alloc());
         let mut errors = Vec::new(rt.alloc());
-        let mut report = *b"report and more";
-        let page = Page {
-            out: &mut report,
-            used: 6,
-        };
-        assert!(rt; write_out(&mut to, &mut errors, &page));
+        assert!(rt; write_out(&mut to, &mut errors, b"report and more", 6));
         assert!(rt; to.as_slice() == b"report".as_slice());
-        let mut mark = *b"!";
-        let page = Page {
-            out: &mut mark,
-            used: 2,
-        };
-        assert!(rt; write_out(&mut to, &mut errors, &page));
+        assert!(rt; write_out(&mut to, &mut errors, b"!", 2));
         assert!(rt; to.as_slice() == b"report!".as_slice());
         assert!(rt; errors.is_empty());
     }
@@ -94,12 +85,7 @@ mod tests {
     fn says_what_could_not_be_written(rt: HostRuntime) {
         let mut to = Full { taken: 0 };
         let mut errors = Vec::new(rt.alloc());
-        let mut report = *b"report";
-        let page = Page {
-            out: &mut report,
-            used: 6,
-        };
-        assert!(rt; !write_out(&mut to, &mut errors, &page));
+        assert!(rt; !write_out(&mut to, &mut errors, b"report", 6));
         assert!(rt;
             errors.as_slice()
                 == b"the report could not be written: No space left on device\n".as_slice()

@@ -18,23 +18,21 @@ fn put_lead(page: &mut Page, k: usize)
 {
     if k == 0 {
         page.put(b"record ");
-        return;
-    }
-    if k % 16 == 0 {
+    } else if k % 16 == 0 {
         page.put(b"\nrecord ");
-        return;
+    } else {
+        page.put(b" ");
     }
-    page.put(b" ");
 }
 
 fn put_record_word(page: &mut Page, bytes: &[u8], k: usize)
     requires { 4 * k + 4 ≤ length bytes.now }
     ensures { Puts page.old page.new (record_word bytes.now k) }
 {
-    put_lead(&mut *page, k);
+    put_lead(page, k);
     let start = 4 * k;
     let end = start + 4;
-    put_bytes(&mut *page, &bytes[start..end]);
+    put_bytes(page, &bytes[start..end]);
 }
 
 // The words of a record, 16 to a line. Of no words there is no line.
@@ -46,7 +44,7 @@ pub fn put_record(page: &mut Page, bytes: &[u8])
         return;
     }
     for k in 0..words {
-        put_record_word(&mut *page, bytes, k);
+        put_record_word(page, bytes, k);
     }
     page.put_byte(b'\n');
 }
@@ -78,5 +76,5 @@ fn filled(bytes: &[u8]) -> usize
 pub fn put_rest(page: &mut Page, bytes: &[u8])
     ensures { Puts page.old page.new (rest_text bytes.now) }
 {
-    say(&mut *page, b"rest %\n", &[filled(bytes) as u64]);
+    say(page, b"rest %\n", &[filled(bytes) as u64]);
 }

@@ -6,7 +6,6 @@ ghost use Rattle.case_report.specs.Form.{filled};
 ghost use Rattle.case_report.specs.StateLines.{transfer_line, load_line, products_line, held_bases, held_line, replay_line, waiting_text, state_text};
 
 use crate::form::say_kept;
-use case_kept::buffers::least;
 use case_kept::kept::{
     ACTIVE, BLOCK, BR, CALL, FETCH, HELD, HOLDS, Kept, LOAD, LOADED, METHOD, PLACE, PREDICATES,
     PRODUCT, PRODUCTS, REGISTERS, REPLAYS, SPECIALS, TARGET, TRANSFER, XRET, is_set, number,
@@ -19,10 +18,10 @@ fn put_transfer(page: &mut Page, kept: &Kept)
 {
     let kind = number(kept, TRANSFER);
     match kind {
-        BR => say_kept(&mut *page, b"transfer br % %\n", kept, TARGET),
-        CALL => say_kept(&mut *page, b"transfer call % %\n", kept, TARGET),
-        BLOCK => say_kept(&mut *page, b"transfer block % % %\n", kept, TARGET),
-        XRET => say_kept(&mut *page, b"transfer xret % % %\n", kept, TARGET),
+        BR => say_kept(page, b"transfer br % %\n", kept, TARGET),
+        CALL => say_kept(page, b"transfer call % %\n", kept, TARGET),
+        BLOCK => say_kept(page, b"transfer block % % %\n", kept, TARGET),
+        XRET => say_kept(page, b"transfer xret % % %\n", kept, TARGET),
         _ => page.put(b"transfer none\n"),
     }
 }
@@ -32,10 +31,10 @@ fn put_load(page: &mut Page, kept: &Kept)
     ensures { Puts page.old page.new (load_line kept.now) }
 {
     if is_set(kept, LOAD) {
-        say_kept(&mut *page, b"load % #\n", kept, LOADED);
-        return;
+        say_kept(page, b"load % #\n", kept, LOADED);
+    } else {
+        page.put(b"load none\n");
     }
-    page.put(b"load none\n");
 }
 
 #[tactic(auto, using(text::specs::PageLaws::texts), unfolding(crate::specs::StateLines::products_line))]
@@ -45,8 +44,8 @@ fn put_products(page: &mut Page, kept: &Kept)
     let count = number(kept, PRODUCTS);
     match count {
         0 => {}
-        1 => say_kept(&mut *page, b"products % # #\n", kept, PRODUCT),
-        _ => say_kept(&mut *page, b"products % # # % # #\n", kept, PRODUCT),
+        1 => say_kept(page, b"products % # #\n", kept, PRODUCT),
+        _ => say_kept(page, b"products % # # % # #\n", kept, PRODUCT),
     }
 }
 
@@ -55,7 +54,7 @@ fn put_cut(page: &mut Page, form: &[u8], n: usize, kept: &Kept)
     requires { n ≤ length form.now }
     ensures { Puts page.old page.new (filled (take n form.now) (drop (HELD + 1) kept.now)) }
 {
-    say_kept(&mut *page, &form[0..n], kept, HELD + 1);
+    say_kept(page, &form[0..n], kept, HELD + 1);
 }
 
 #[tactic(auto, using(text::specs::PageLaws::texts), unfolding(crate::specs::StateLines::held_bases))]
@@ -68,7 +67,7 @@ fn put_bases(page: &mut Page, kept: &Kept, n: usize)
         return;
     }
     put_cut(
-        &mut *page,
+        page,
         b"held % % % % % % % % % % % % % % % %",
         4 + 2 * n,
         kept,
@@ -82,7 +81,7 @@ fn put_held(page: &mut Page, kept: &Kept)
     ensures { Puts page.old page.new (held_line kept.now) }
 {
     if is_set(kept, METHOD) | is_set(kept, HOLDS) {
-        put_bases(&mut *page, kept, least(number(kept, HELD) as usize, 16));
+        put_bases(page, kept, (number(kept, HELD) as usize).min(16));
     }
 }
 
@@ -92,11 +91,9 @@ fn put_replay(page: &mut Page, kept: &Kept)
     ensures { Puts page.old page.new (replay_line kept.now) }
 {
     if is_set(kept, ACTIVE) {
-        say_kept(&mut *page, b"replay active place % done %\n", kept, PLACE);
-        return;
-    }
-    if is_set(kept, REPLAYS) {
-        say_kept(&mut *page, b"replay idle place % done %\n", kept, PLACE);
+        say_kept(page, b"replay active place % done %\n", kept, PLACE);
+    } else if is_set(kept, REPLAYS) {
+        say_kept(page, b"replay idle place % done %\n", kept, PLACE);
     }
 }
 
@@ -105,30 +102,30 @@ fn put_replay(page: &mut Page, kept: &Kept)
 fn put_waiting(page: &mut Page, kept: &Kept)
     ensures { Puts page.old page.new (waiting_text kept.now) }
 {
-    put_transfer(&mut *page, kept);
-    put_load(&mut *page, kept);
-    put_products(&mut *page, kept);
-    put_held(&mut *page, kept);
-    put_replay(&mut *page, kept);
+    put_transfer(page, kept);
+    put_load(page, kept);
+    put_products(page, kept);
+    put_held(page, kept);
+    put_replay(page, kept);
 }
 
 // The state lines, all of them.
 pub fn put_state(page: &mut Page, kept: &Kept)
     ensures { Puts page.old page.new (state_text kept.now) }
 {
-    say_kept(&mut *page, b"fetch % base %\n", kept, FETCH);
+    say_kept(page, b"fetch % base %\n", kept, FETCH);
     say_kept(
-        &mut *page,
+        page,
         b"regs # # # # # # # # # # # # # # # # # # # # # # # # # # # # # # # #\n",
         kept,
         REGISTERS,
     );
-    say_kept(&mut *page, b"preds % % % % % % % %\n", kept, PREDICATES);
+    say_kept(page, b"preds % % % % % % % %\n", kept, PREDICATES);
     say_kept(
-        &mut *page,
+        page,
         b"specials sl # sh # ss # st # srb # sro # sxb # sxo #\n",
         kept,
         SPECIALS,
     );
-    put_waiting(&mut *page, kept);
+    put_waiting(page, kept);
 }

@@ -5,12 +5,11 @@ ghost use Rattle.std.specs.Prelude.{◌≡◌};
 ghost use Rattle.case_words.specs.Names.{look_up, meaning_at, keywords, keyword_of, transfer_kinds, transfer_kind_of, special_names, special_name_of};
 ghost use Rattle.case_words.specs.Names.{numbered, other_items, item_of};
 
-use text::Number;
 use text::numbers::decimal;
 use text::table::row_of;
 
 // The first word of a line.
-#[derive(Clone, Copy)]
+#[derive(Clone, Copy, PartialEq, Eq, Debug)]
 pub enum Keyword {
     Case,
     Code,
@@ -35,11 +34,10 @@ pub enum Keyword {
     Interrupt,
     Handler,
     Active,
-    Unknown,
 }
 
 // The keywords that one number follows.
-#[derive(Clone, Copy)]
+#[derive(Clone, Copy, PartialEq, Eq, Debug)]
 pub enum OneNumber {
     Main,
     Local,
@@ -55,7 +53,7 @@ pub enum OneNumber {
 }
 
 // The keywords that a number and a word follow.
-#[derive(Clone, Copy)]
+#[derive(Clone, Copy, PartialEq, Eq, Debug)]
 pub enum NumberAndWord {
     Reg,
     Load,
@@ -65,17 +63,16 @@ pub enum NumberAndWord {
 }
 
 // The kinds of a waiting transfer.
-#[derive(Clone, Copy)]
+#[derive(Clone, Copy, PartialEq, Eq, Debug)]
 pub enum TransferKind {
     Br,
     Call,
     Block,
     Xret,
-    Unknown,
 }
 
 // The special registers that a case can set.
-#[derive(Clone, Copy)]
+#[derive(Clone, Copy, PartialEq, Eq, Debug)]
 pub enum SpecialName {
     Sl,
     Sh,
@@ -85,11 +82,10 @@ pub enum SpecialName {
     Sro,
     Sxb,
     Sxo,
-    Unknown,
 }
 
 // An item of a marking.
-#[derive(Clone, Copy)]
+#[derive(Clone, Copy, PartialEq, Eq, Debug)]
 pub enum Item {
     Register(u32),
     Predicate(u32),
@@ -98,56 +94,55 @@ pub enum Item {
     Main,
     Local,
     Stack,
-    Unknown,
 }
 
 // What the row of a keyword means.
-fn keyword_at(row: usize) -> Keyword
-    ensures { result ≡ meaning_at keywords Keyword.Unknown row }
+fn keyword_at(row: usize) -> Option<Keyword>
+    ensures { result ≡ meaning_at keywords row }
 {
     match row {
-        0 => Keyword::Case,
-        1 => Keyword::Code,
-        2 => Keyword::OneNumber(OneNumber::Main),
-        3 => Keyword::OneNumber(OneNumber::Local),
-        4 => Keyword::Stack,
-        5 => Keyword::Private,
-        6 => Keyword::OneNumber(OneNumber::Entry),
-        7 => Keyword::OneNumber(OneNumber::Fetch),
-        8 => Keyword::OneNumber(OneNumber::Base),
-        9 => Keyword::NumberAndWord(NumberAndWord::Reg),
-        10 => Keyword::Pred,
-        11 => Keyword::Special,
-        12 => Keyword::Transfer,
-        13 => Keyword::NumberAndWord(NumberAndWord::Load),
-        14 => Keyword::NumberAndWord(NumberAndWord::MainWord),
-        15 => Keyword::NumberAndWord(NumberAndWord::LocalWord),
-        16 => Keyword::NumberAndWord(NumberAndWord::CacheWord),
-        17 => Keyword::OneNumber(OneNumber::Run),
-        18 => Keyword::Step,
-        19 => Keyword::Check,
-        20 => Keyword::Write,
-        21 => Keyword::Listing,
-        22 => Keyword::Product,
-        23 => Keyword::Method,
-        24 => Keyword::Held,
-        25 => Keyword::Record,
-        26 => Keyword::OneNumber(OneNumber::RecordBytes),
-        27 => Keyword::Save,
-        28 => Keyword::Resume,
-        29 => Keyword::Restep,
-        30 => Keyword::Interrupt,
-        31 => Keyword::Handler,
-        32 => Keyword::OneNumber(OneNumber::ListBytes),
-        33 => Keyword::OneNumber(OneNumber::TableBytes),
-        34 => Keyword::Active,
-        35 => Keyword::OneNumber(OneNumber::Place),
-        36 => Keyword::OneNumber(OneNumber::Replayed),
-        _ => Keyword::Unknown,
+        0 => Some(Keyword::Case),
+        1 => Some(Keyword::Code),
+        2 => Some(Keyword::OneNumber(OneNumber::Main)),
+        3 => Some(Keyword::OneNumber(OneNumber::Local)),
+        4 => Some(Keyword::Stack),
+        5 => Some(Keyword::Private),
+        6 => Some(Keyword::OneNumber(OneNumber::Entry)),
+        7 => Some(Keyword::OneNumber(OneNumber::Fetch)),
+        8 => Some(Keyword::OneNumber(OneNumber::Base)),
+        9 => Some(Keyword::NumberAndWord(NumberAndWord::Reg)),
+        10 => Some(Keyword::Pred),
+        11 => Some(Keyword::Special),
+        12 => Some(Keyword::Transfer),
+        13 => Some(Keyword::NumberAndWord(NumberAndWord::Load)),
+        14 => Some(Keyword::NumberAndWord(NumberAndWord::MainWord)),
+        15 => Some(Keyword::NumberAndWord(NumberAndWord::LocalWord)),
+        16 => Some(Keyword::NumberAndWord(NumberAndWord::CacheWord)),
+        17 => Some(Keyword::OneNumber(OneNumber::Run)),
+        18 => Some(Keyword::Step),
+        19 => Some(Keyword::Check),
+        20 => Some(Keyword::Write),
+        21 => Some(Keyword::Listing),
+        22 => Some(Keyword::Product),
+        23 => Some(Keyword::Method),
+        24 => Some(Keyword::Held),
+        25 => Some(Keyword::Record),
+        26 => Some(Keyword::OneNumber(OneNumber::RecordBytes)),
+        27 => Some(Keyword::Save),
+        28 => Some(Keyword::Resume),
+        29 => Some(Keyword::Restep),
+        30 => Some(Keyword::Interrupt),
+        31 => Some(Keyword::Handler),
+        32 => Some(Keyword::OneNumber(OneNumber::ListBytes)),
+        33 => Some(Keyword::OneNumber(OneNumber::TableBytes)),
+        34 => Some(Keyword::Active),
+        35 => Some(Keyword::OneNumber(OneNumber::Place)),
+        36 => Some(Keyword::OneNumber(OneNumber::Replayed)),
+        _ => None,
     }
 }
 
-pub fn first_word(s: &[u8]) -> Keyword
+pub fn first_word(s: &[u8]) -> Option<Keyword>
     ensures { result ≡ keyword_of s.now }
 {
     keyword_at(row_of(
@@ -160,95 +155,84 @@ interrupt\nhandler\nlistbytes\ntablebytes\nactive\nplace\nreplayed\n",
     ))
 }
 
-fn transfer_kind_at(row: usize) -> TransferKind
-    ensures { result ≡ meaning_at transfer_kinds TransferKind.Unknown row }
+fn transfer_kind_at(row: usize) -> Option<TransferKind>
+    ensures { result ≡ meaning_at transfer_kinds row }
 {
     match row {
-        0 => TransferKind::Br,
-        1 => TransferKind::Call,
-        2 => TransferKind::Block,
-        3 => TransferKind::Xret,
-        _ => TransferKind::Unknown,
+        0 => Some(TransferKind::Br),
+        1 => Some(TransferKind::Call),
+        2 => Some(TransferKind::Block),
+        3 => Some(TransferKind::Xret),
+        _ => None,
     }
 }
 
-pub fn transfer_kind(s: &[u8]) -> TransferKind
+pub fn transfer_kind(s: &[u8]) -> Option<TransferKind>
     ensures { result ≡ transfer_kind_of s.now }
 {
     transfer_kind_at(row_of(b"br\ncall\nblock\nxret\n", s))
 }
 
-fn special_name_at(row: usize) -> SpecialName
-    ensures { result ≡ meaning_at special_names SpecialName.Unknown row }
+fn special_name_at(row: usize) -> Option<SpecialName>
+    ensures { result ≡ meaning_at special_names row }
 {
     match row {
-        0 => SpecialName::Sl,
-        1 => SpecialName::Sh,
-        2 => SpecialName::Ss,
-        3 => SpecialName::St,
-        4 => SpecialName::Srb,
-        5 => SpecialName::Sro,
-        6 => SpecialName::Sxb,
-        7 => SpecialName::Sxo,
-        _ => SpecialName::Unknown,
+        0 => Some(SpecialName::Sl),
+        1 => Some(SpecialName::Sh),
+        2 => Some(SpecialName::Ss),
+        3 => Some(SpecialName::St),
+        4 => Some(SpecialName::Srb),
+        5 => Some(SpecialName::Sro),
+        6 => Some(SpecialName::Sxb),
+        7 => Some(SpecialName::Sxo),
+        _ => None,
     }
 }
 
-pub fn special_name(s: &[u8]) -> SpecialName
+pub fn special_name(s: &[u8]) -> Option<SpecialName>
     ensures { result ≡ special_name_of s.now }
 {
     special_name_at(row_of(b"sl\nsh\nss\nst\nsrb\nsro\nsxb\nsxo\n", s))
 }
 
 // A letter and a decimal number up to greatest.
-pub fn numbered(s: &[u8], letter: u8, greatest: u32) -> Number
+pub fn numbered(s: &[u8], letter: u8, greatest: u32) -> Option<u32>
     ensures { result ≡ numbered letter greatest s.now }
 {
-    if s.len() == 0 {
-        return Number::Bad;
+    let (first, digits) = s.split_first()?;
+    if *first != letter {
+        return None;
     }
-    if s[0] != letter {
-        return Number::Bad;
-    }
-    match decimal(&s[1..]) {
-        Number::Bad => Number::Bad,
-        Number::Value(n) => {
-            if n <= greatest {
-                Number::Value(n)
-            } else {
-                Number::Bad
-            }
-        }
-    }
+    decimal(digits).filter(|n| *n <= greatest)
 }
 
-fn other_item_at(row: usize) -> Item
-    ensures { result ≡ meaning_at other_items Item.Unknown row }
+fn other_item_at(row: usize) -> Option<Item>
+    ensures { result ≡ meaning_at other_items row }
 {
     match row {
-        0 => Item::Sl,
-        1 => Item::Sh,
-        2 => Item::Main,
-        3 => Item::Local,
-        4 => Item::Stack,
-        _ => Item::Unknown,
+        0 => Some(Item::Sl),
+        1 => Some(Item::Sh),
+        2 => Some(Item::Main),
+        3 => Some(Item::Local),
+        4 => Some(Item::Stack),
+        _ => None,
     }
 }
 
-fn other_item(s: &[u8]) -> Item
-    ensures { result ≡ look_up other_items Item.Unknown s.now }
+fn other_item(s: &[u8]) -> Option<Item>
+    ensures { result ≡ look_up other_items s.now }
 {
     other_item_at(row_of(b"sl\nsh\nmain\nlocal\nstack\n", s))
 }
 
-pub fn marking_item(s: &[u8]) -> Item
+pub fn marking_item(s: &[u8]) -> Option<Item>
     ensures { result ≡ item_of s.now }
 {
-    if let Number::Value(n) = numbered(s, b'r', 31) {
-        return Item::Register(n);
+    if let Some(n) = numbered(s, b'r', 31) {
+        return Some(Item::Register(n));
     }
-    if let Number::Value(n) = numbered(s, b'p', 7) {
-        return Item::Predicate(n);
+    if let Some(n) = numbered(s, b'p', 7) {
+        return Some(Item::Predicate(n));
     }
     other_item(s)
 }

@@ -33,15 +33,11 @@ pub(crate) fn put_reply(page: &mut Page, operation: usize, r: Reply) {
 pub(crate) fn put_counts(page: &mut Page, counts: &[u64], method: bool) {
     if method {
         say(
-            &mut *page,
+            page,
             b" bundles % cycles % spilled % filled % misses % fetched %\n",
             counts,
         );
-        return;
+    } else {
+        say(page, b" bundles % cycles % spilled % filled %\n", counts);
     }
-    say(
-        &mut *page,
-        b" bundles % cycles % spilled % filled %\n",
-        counts,
-    );
 }

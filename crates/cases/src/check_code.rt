@@ -23,18 +23,18 @@ fn letter(r: Rule) -> u8 {
 fn put_refused(page: &mut Page, refusal: Refusal, address: u32) {
     if refusal == Refusal::Limits {
         page.put(b"check refused 1\n");
-        return;
+    } else {
+        say(
+            page,
+            b"check refused % at %\n",
+            &[refusal.number() as u64, address as u64],
+        );
     }
-    say(
-        &mut *page,
-        b"check refused % at %\n",
-        &[refusal.number() as u64, address as u64],
-    );
 }
 
 fn put_broken(page: &mut Page, address: u32, letter: u8) {
     say(
-        &mut *page,
+        page,
         b"check refused 9 at % rule $\n",
         &[address as u64, letter as u64],
     );
@@ -43,8 +43,8 @@ fn put_broken(page: &mut Page, address: u32, letter: u8) {
 fn put_checked(page: &mut Page, c: Checked) {
     match c {
         Checked::Accepted => page.put(b"check accepted\n"),
-        Checked::Refused { refusal, address } => put_refused(&mut *page, refusal, address),
-        Checked::Broken { address, rule } => put_broken(&mut *page, address, letter(rule)),
+        Checked::Refused { refusal, address } => put_refused(page, refusal, address),
+        Checked::Broken { address, rule } => put_broken(page, address, letter(rule)),
     }
 }
 
@@ -61,5 +61,5 @@ pub(crate) fn do_check(code: &Bytes, kept: &Kept, page: &mut Page) {
         config,
         marking_of(kept),
     );
-    put_checked(&mut *page, c);
+    put_checked(page, c);
 }

@@ -23,7 +23,7 @@ use text::page::Page;
 // A mistake of the line that was read last.
 fn fail_here(kept: &mut Kept, r: Reason, page: &mut Page) {
     let line = kept[LINE];
-    fail(&mut *page, &mut *kept, line, r);
+    fail(page, kept, line, r);
 }
 
 // An operation line that needs an opened case: the first one opens it, which is reported only where it is refused. After a refused
@@ -37,51 +37,29 @@ fn operation_line(
     kept: &mut Kept,
     page: &mut Page,
 ) {
-    open_case(
-        code,
-        &mut *main,
-        &mut *local,
-        &mut *cache,
-        &mut *kept,
-        &mut *page,
-    );
+    open_case(code, main, local, cache, kept, page);
     if kept[PHASE] != OPEN {
         return;
     }
     match asked {
-        Asked::Check => do_check(code, &*kept, &mut *page),
-        Asked::Save => do_save(&*cache, &*kept, &mut *page),
+        Asked::Check => do_check(code, kept, page),
+        Asked::Save => do_save(cache, kept, page),
         Asked::Resume { asked, room } => do_resume(
-            asked,
-            room,
-            code,
-            &mut *main,
-            &mut *local,
-            &*cache,
-            &*kept,
-            &mut *page,
+            asked, room, code, main, local, cache, kept, page,
         ),
-        _ => do_operation(
-            asked,
-            code,
-            &mut *main,
-            &mut *local,
-            &mut *cache,
-            &mut *kept,
-            &mut *page,
-        ),
+        _ => do_operation(asked, code, main, local, cache, kept, page),
     }
 }
 
 // An operation line that needs no state, and is done after a refused opening too.
 fn showing_line(shown: Shown, code: &Bytes, kept: &mut Kept, page: &mut Page) {
-    judge_places(&mut *kept, &mut *page);
+    judge_places(kept, page);
     if kept[PHASE] == STOPPED {
         return;
     }
     match shown {
-        Shown::Words(w) => do_write(w, &mut *page),
-        Shown::Listing => do_list(code, &*kept, &mut *page),
+        Shown::Words(w) => do_write(w, page),
+        Shown::Listing => do_list(code, kept, page),
     }
 }
 
@@ -89,7 +67,7 @@ fn showing_line(shown: Shown, code: &Bytes, kept: &mut Kept, page: &mut Page) {
 fn described(j: Judged, kept: &mut Kept, page: &mut Page) {
     match j {
         Judged::Fine => {}
-        Judged::Mistake(r) => fail_here(&mut *kept, r, &mut *page),
+        Judged::Mistake(r) => fail_here(kept, r, page),
     }
 }
 
@@ -107,38 +85,14 @@ fn take_line(
     let said = read_line(line);
     match kind_in(kept[PHASE], kind_of(said, line)) {
         Kind::Empty => {}
-        Kind::Mistake(r) => fail_here(&mut *kept, reason(line, r), &mut *page),
-        Kind::Start(name) => start_case(
-            line,
-            name,
-            &mut *main,
-            &mut *local,
-            &mut *cache,
-            &mut *kept,
-            &mut *page,
-        ),
-        Kind::Show(shown) => showing_line(shown, &*code, &mut *kept, &mut *page),
-        Kind::Operation(asked) => operation_line(
-            asked,
-            &*code,
-            &mut *main,
-            &mut *local,
-            &mut *cache,
-            &mut *kept,
-            &mut *page,
-        ),
+        Kind::Mistake(r) => fail_here(kept, reason(line, r), page),
+        Kind::Start(name) => start_case(line, name, main, local, cache, kept, page),
+        Kind::Show(shown) => showing_line(shown, code, kept, page),
+        Kind::Operation(asked) => operation_line(asked, code, main, local, cache, kept, page),
         Kind::Description => described(
-            describe(
-                said,
-                line,
-                &mut *code,
-                &mut *main,
-                &mut *local,
-                &mut *cache,
-                &mut *kept,
-            ),
-            &mut *kept,
-            &mut *page,
+            describe(said, line, code, main, local, cache, kept),
+            kept,
+            page,
         ),
     }
 }
@@ -149,7 +103,7 @@ fn without_line(found: Found, kept: &mut Kept, page: &mut Page) {
         Found::Unreadable | Found::End => kept[PHASE] = STOPPED,
         Found::TooLong => {
             let line = wrapping_add_u64(kept[LINE], 1);
-            fail(&mut *page, &mut *kept, line, Reason::LineTooLong);
+            fail(page, kept, line, Reason::LineTooLong);
         }
         _ => {}
     }
@@ -170,17 +124,9 @@ fn take(
         Found::Line(n) => {
             let end = least(n, 4000);
             let bytes = &line[..];
-            take_line(
-                &bytes[0..end],
-                &mut *code,
-                &mut *main,
-                &mut *local,
-                &mut *cache,
-                &mut *kept,
-                &mut *page,
-            )
+            take_line(&bytes[0..end], code, main, local, cache, kept, page)
         }
-        _ => without_line(found, &mut *kept, &mut *page),
+        _ => without_line(found, kept, page),
     }
 }
 
@@ -208,20 +154,12 @@ pub(crate) fn read_all(
     let mut failure = None;
     let mut s = no_input();
     for _ in 0..u64::MAX {
-        s = look(file, &mut failure, &mut *piece, &mut *line, s);
+        s = look(file, &mut failure, piece, line, s);
         let found = s.found;
-        let mut page = Page::new(&mut *out);
-        take(
-            found,
-            &*line,
-            &mut *code,
-            &mut *main,
-            &mut *local,
-            &mut *cache,
-            &mut *kept,
-            &mut page,
-        );
-        if !write_out(&mut rt.stdout(), &mut rt.stderr(), &page) {
+        let mut page = Page::new(out);
+        take(found, line, code, main, local, cache, kept, &mut page);
+        let used = page.used;
+        if !write_out(&mut rt.stdout(), &mut rt.stderr(), page.out, used) {
             return;
         }
         if kept[PHASE] == STOPPED {

@@ -48,12 +48,12 @@ pub(crate) fn start_case(
     kept: &mut Kept,
     page: &mut Page,
 ) {
-    clear_memory(&mut *main, written(&*kept, MAIN, Store::Main));
-    clear_memory(&mut *local, written(&*kept, LOCAL, Store::Local));
-    clear_cache_copy(&mut *cache);
-    forget_case(&mut *kept);
+    clear_memory(main, written(kept, MAIN, Store::Main));
+    clear_memory(local, written(kept, LOCAL, Store::Local));
+    clear_cache_copy(cache);
+    forget_case(kept);
     kept[PHASE] = DESCRIBED;
-    put_name(&mut *page, line, name);
+    put_name(page, line, name);
 }
 
 // The opening over the parts of what is lent that the case asks for.
@@ -84,15 +84,15 @@ fn open_parts(
 
 // A word of the state is as built where no line gave it.
 fn keep_built(kept: &mut Kept, index: usize, w: u32) {
-    if !is_given(&*kept, index) {
-        keep_word(&mut *kept, index, w);
+    if !is_given(kept, index) {
+        keep_word(kept, index, w);
     }
 }
 
 fn keep_built_specials(kept: &mut Kept, specials: [u32; 8]) {
     let mut i = 0;
     while i < 8 {
-        keep_built(&mut *kept, SPECIALS + i, specials[i]);
+        keep_built(kept, SPECIALS + i, specials[i]);
         i += 1;
     }
 }
@@ -100,9 +100,9 @@ fn keep_built_specials(kept: &mut Kept, specials: [u32; 8]) {
 // The fresh state is completed by what the case puts into it. Registers, predicates, what waits and what is held are kept as described.
 fn keep_fresh(kept: &mut Kept, o: Opened) {
     let s = o.state;
-    keep_built(&mut *kept, FETCH, s.fetch);
-    keep_built(&mut *kept, BASE, s.base);
-    keep_built_specials(&mut *kept, listed(s.specials));
+    keep_built(kept, FETCH, s.fetch);
+    keep_built(kept, BASE, s.base);
+    keep_built_specials(kept, listed(s.specials));
     kept[PHASE] = OPEN;
 }
 
@@ -112,9 +112,9 @@ fn keep_opened(o: Opened, kept: &mut Kept, page: &mut Page) {
     match answer {
         Err(refusal) => {
             kept[PHASE] = REFUSED;
-            say(&mut *page, b"open refused %\n", &[refusal.number() as u64]);
+            say(page, b"open refused %\n", &[refusal.number() as u64]);
         }
-        Ok(()) => keep_fresh(&mut *kept, o),
+        Ok(()) => keep_fresh(kept, o),
     }
 }
 
@@ -128,14 +128,14 @@ fn open(
     kept: &mut Kept,
     page: &mut Page,
 ) {
-    let e = extents_of(&*kept);
-    let entry = word(&*kept, ENTRY);
-    let config = config_of(e, &*kept);
-    let o = open_parts(e, config, entry, code, &*main, &*local, &mut *cache);
-    copy_memory(&mut *main, e.main);
-    copy_memory(&mut *local, e.local);
-    fill_cache(&mut *cache, e.words);
-    keep_opened(o, &mut *kept, &mut *page);
+    let e = extents_of(kept);
+    let entry = word(kept, ENTRY);
+    let config = config_of(e, kept);
+    let o = open_parts(e, config, entry, code, main, local, cache);
+    copy_memory(main, e.main);
+    copy_memory(local, e.local);
+    fill_cache(cache, e.words);
+    keep_opened(o, kept, page);
 }
 
 // At a case's first operation its places are judged.
@@ -143,8 +143,8 @@ pub(crate) fn judge_places(kept: &mut Kept, page: &mut Page) {
     if kept[PHASE] != DESCRIBED {
         return;
     }
-    match first_outside(&*kept) {
-        Outside::Line(n) => fail(&mut *page, &mut *kept, n, Reason::PlaceOutside),
+    match first_outside(kept) {
+        Outside::Line(n) => fail(page, kept, n, Reason::PlaceOutside),
         Outside::Nowhere => kept[PHASE] = JUDGED,
     }
 }
@@ -158,16 +158,9 @@ pub(crate) fn open_case(
     kept: &mut Kept,
     page: &mut Page,
 ) {
-    judge_places(&mut *kept, &mut *page);
+    judge_places(kept, page);
     if kept[PHASE] != JUDGED {
         return;
     }
-    open(
-        code,
-        &mut *main,
-        &mut *local,
-        &mut *cache,
-        &mut *kept,
-        &mut *page,
-    );
+    open(code, main, local, cache, kept, page);
 }

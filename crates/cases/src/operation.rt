@@ -23,9 +23,9 @@ fn keep_step(r: Stepped, kept: &mut Kept) -> Reply {
     let counts = r.counts;
     let state = r.state;
     let replay = state.replay;
-    keep_state(&mut *kept, state);
-    keep_far(&mut *kept, replay);
-    keep_counts(&mut *kept, counts);
+    keep_state(kept, state);
+    keep_far(kept, replay);
+    keep_counts(kept, counts);
     Reply::from(answer)
 }
 
@@ -34,9 +34,9 @@ fn keep_run(r: Ran, kept: &mut Kept) -> Reply {
     let counts = r.counts;
     let state = r.state;
     let replay = state.replay;
-    keep_state(&mut *kept, state);
-    keep_far(&mut *kept, replay);
-    keep_counts(&mut *kept, counts);
+    keep_state(kept, state);
+    keep_far(kept, replay);
+    keep_counts(kept, counts);
     Reply::from(answer)
 }
 
@@ -51,16 +51,13 @@ fn operate(
     config: Config,
     kept: &mut Kept,
 ) -> Reply {
-    let s = state_of(&*kept);
+    let s = state_of(kept);
     match asked {
         Asked::Run(budget) => keep_run(
             run::run(s, code, list, table, main, local, cache, config, budget),
-            &mut *kept,
+            kept,
         ),
-        _ => keep_step(
-            s.step(code, list, table, main, local, cache, config),
-            &mut *kept,
-        ),
+        _ => keep_step(s.step(code, list, table, main, local, cache, config), kept),
     }
 }
 
@@ -77,12 +74,12 @@ fn operate_on(
 ) -> Reply
     requires { (65536 ≤ length code.now) × (65536 ≤ length main.old) × (65536 ≤ length local.old) × (513 ≤ length cache.old) }
 {
-    let e = extents_of(&*kept);
+    let e = extents_of(kept);
     let c = e.code;
     let m = e.main;
     let l = e.local;
     let w = e.words;
-    let config = config_of(e, &*kept);
+    let config = config_of(e, kept);
     operate(
         asked,
         &code[0..c],
@@ -92,7 +89,7 @@ fn operate_on(
         &mut local[0..l],
         &mut cache[0..w],
         config,
-        &mut *kept,
+        kept,
     )
 }
 
@@ -107,19 +104,19 @@ fn replay_on(
 ) -> Reply {
     let mut list = [0u8; 65536];
     let mut table = [0u8; 256];
-    lay_list(&*kept, &mut list);
-    lay_table(&*kept, &mut table);
-    let n = list_length(&*kept);
-    let k = table_length(&*kept);
+    lay_list(kept, &mut list);
+    lay_table(kept, &mut table);
+    let n = list_length(kept);
+    let k = table_length(kept);
     operate_on(
         asked,
         code,
         &list[0..n],
         &table[0..k],
-        &mut *main,
-        &mut *local,
-        &mut *cache,
-        &mut *kept,
+        main,
+        local,
+        cache,
+        kept,
     )
 }
 
@@ -132,13 +129,9 @@ fn row_of(asked: Asked) -> usize {
 
 // The answer, and the counts, which are kept.
 fn put_outcome(page: &mut Page, asked: Asked, r: Reply, kept: &Kept) {
-    put_reply(&mut *page, row_of(asked), r);
+    put_reply(page, row_of(asked), r);
     let numbers = &kept[..];
-    put_counts(
-        &mut *page,
-        &numbers[COUNTS..COUNTS + 6],
-        is_set(kept, METHOD),
-    );
+    put_counts(page, &numbers[COUNTS..COUNTS + 6], is_set(kept, METHOD));
 }
 
 // The change lines. What is reported is changed no longer: the copies of the memories are brought up to date.
@@ -150,17 +143,17 @@ pub(crate) fn report_changes(
     kept: &Kept,
 ) {
     let e = extents_of(kept);
-    put_changes(&mut *page, &*main, &*local, cache, e);
-    copy_memory(&mut *main, e.main);
-    copy_memory(&mut *local, e.local);
+    put_changes(page, main, local, cache, e);
+    copy_memory(main, e.main);
+    copy_memory(local, e.local);
 }
 
 // The state lines and the change lines.
 fn report(page: &mut Page, main: &mut Memory, local: &mut Memory, cache: &mut Cache, kept: &Kept) {
     let e = extents_of(kept);
-    put_state(&mut *page, kept);
-    report_changes(&mut *page, &mut *main, &mut *local, &*cache, kept);
-    copy_cache(&mut *cache, e.words);
+    put_state(page, kept);
+    report_changes(page, main, local, cache, kept);
+    copy_cache(cache, e.words);
 }
 
 pub(crate) fn do_operation(
@@ -172,14 +165,7 @@ pub(crate) fn do_operation(
     kept: &mut Kept,
     page: &mut Page,
 ) {
-    let r = replay_on(
-        asked,
-        code,
-        &mut *main,
-        &mut *local,
-        &mut *cache,
-        &mut *kept,
-    );
-    put_outcome(&mut *page, asked, r, &*kept);
-    report(&mut *page, &mut *main, &mut *local, &mut *cache, &*kept);
+    let r = replay_on(asked, code, main, local, cache, kept);
+    put_outcome(page, asked, r, kept);
+    report(page, main, local, cache, kept);
 }

@@ -27,14 +27,14 @@ fn save(cache: &Cache, kept: &Kept, bytes: &mut Record) -> usize {
 fn put_saved(page: &mut Page, bytes: &Record, length: usize) {
     let n = least(length, RECORD_ROOM);
     let all = &bytes[..];
-    say(&mut *page, b"save %\n", &[(n / 4) as u64]);
-    put_record(&mut *page, &all[0..n]);
+    say(page, b"save %\n", &[(n / 4) as u64]);
+    put_record(page, &all[0..n]);
 }
 
 pub(crate) fn do_save(cache: &Cache, kept: &Kept, page: &mut Page) {
     let mut bytes = [FILL; 8192];
     let n = save(cache, kept, &mut bytes);
-    put_saved(&mut *page, &bytes, n);
+    put_saved(page, &bytes, n);
 }
 
 // How many bytes the record is written into.
@@ -122,8 +122,8 @@ fn replay_from(
     go_on_from(
         asked,
         code,
-        &mut *main,
-        &mut *local,
+        main,
+        local,
         kept,
         out,
         &list[0..n],
@@ -142,15 +142,15 @@ fn row_of(asked: Resumption) -> usize {
 fn put_counted(page: &mut Page, c: Counts, method: bool, n: usize) {
     if n == 0 {
         page.put_byte(b'\n');
-        return;
+    } else {
+        put_counts(
+            page,
+            &[
+                c.bundles, c.cycles, c.spilled, c.filled, c.misses, c.fetched,
+            ],
+            method,
+        );
     }
-    put_counts(
-        &mut *page,
-        &[
-            c.bundles, c.cycles, c.spilled, c.filled, c.misses, c.fetched,
-        ],
-        method,
-    );
 }
 
 // The answer, the record that was written, and what is left of the room behind it.
@@ -167,10 +167,10 @@ fn put_resumed(
     let end = least(room, RECORD_ROOM);
     let n = least(r.written, end);
     let all = &bytes[..];
-    put_reply(&mut *page, row_of(asked), answer);
-    put_counted(&mut *page, counts, method, n);
-    put_record(&mut *page, &all[0..n]);
-    put_rest(&mut *page, &all[n..end]);
+    put_reply(page, row_of(asked), answer);
+    put_counted(page, counts, method, n);
+    put_record(page, &all[0..n]);
+    put_rest(page, &all[n..end]);
 }
 
 pub(crate) fn do_resume(
@@ -186,7 +186,7 @@ pub(crate) fn do_resume(
     let mut bytes = [FILL; 8192];
     let e = extents_of(kept);
     let n = room_of(room, e.words);
-    let r = replay_from(asked, code, &mut *main, &mut *local, kept, &mut bytes[0..n]);
-    put_resumed(&mut *page, asked, r, is_set(kept, METHOD), &bytes, n);
-    report_changes(&mut *page, &mut *main, &mut *local, cache, kept);
+    let r = replay_from(asked, code, main, local, kept, &mut bytes[0..n]);
+    put_resumed(page, asked, r, is_set(kept, METHOD), &bytes, n);
+    report_changes(page, main, local, cache, kept);
 }

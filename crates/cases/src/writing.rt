@@ -9,7 +9,7 @@ use text::page::Page;
 
 pub(crate) fn do_write(w: Written, page: &mut Page) {
     page.put(b"write");
-    put_written(&mut *page, w);
+    put_written(page, w);
     page.put_byte(b'\n');
 }
 
@@ -17,5 +17,5 @@ pub(crate) fn do_list(code: &Bytes, kept: &Kept, page: &mut Page) {
     let e = extents_of(kept);
     let n = least(e.code, 65536);
     let bytes = &code[..];
-    put_list(&mut *page, &bytes[0..n]);
+    put_list(page, &bytes[0..n]);
 }

@@ -44,7 +44,7 @@ fn slot_two(w: u32) -> Option<AluOperation>
     if w / 2147483648 % 2 == 1 {
         return None;
     }
-    alu_formats::read_second(w)
+    alu_formats::read_alu(w)
 }
 
 // A long immediate, which needs a bundle of two words.

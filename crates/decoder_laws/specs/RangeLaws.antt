@@ -1,5 +1,5 @@
 -- What the decoder reads is in range: a field's number is below 2 ^ its width, and each format keeps to that.
-use Rattle.std.specs.Prelude.{ℕ, suc, ◌-◌, ◌<◌, ◌^◌, Bool, true, false, cond, List, [], ◌∷◌, ◌≡◌, eqb, Option, None, Some}
+use Rattle.std.specs.Prelude.{ℕ, suc, ◌-◌, ◌<◌, ◌^◌, Bool, true, false, cond, List, [], ◌∷◌, ◌≡◌, eqb, Option, None, Some, IfSome}
 use Rattle.std.proofs.Common.{pow_pos, mod-lt, arith}
 use Rattle.word.specs.WordLaws.{signed_mag}
 use Rattle.isa.specs.Format.{Range, bits, Meaning, Format, matches, said, reading, Row, row}
@@ -16,31 +16,26 @@ use Rattle.isa.specs.declared.AluInstruction.{AluInstruction}
 use Rattle.isa.specs.declared.Bundle.TheVariants.{One, Two, Long}
 
 infixr 60 ◌also◌
--- If there is a value, P holds of it.
-abbrev pub IfSome : {A : Type 0} → (A → Type 0) → Option A → Type 0
-IfSome P None = Unit {0}
-IfSome P (Some a) = P a
-
 -- P holds of whatever the fields say, for all numbers that fit the fields.
 abbrev pub Says : {A : Type 0} → (A → Type 0) → (fs : List Range) → Meaning A fs → Type 0
-Says P [] m = IfSome P m
+Says P [] m = IfSome m P
 Says P (f ∷ fs) m = (n : ℕ) → n < 2 ^ (suc f.high - f.low) → Says P fs (m n)
 
 abbrev pub AllSay : {A : Type 0} → (A → Type 0) → List (Format A) → Type 0
 AllSay P [] = Unit {0}
 AllSay P (f ∷ fs) = Says P f.fields f.meaning × AllSay P fs
 
-said_says : {A : Type 0} (P : A → Type 0) (fs : List Range) (m : Meaning A fs) (w : ℕ) → Says P fs m → IfSome P (said fs m w)
+said_says : {A : Type 0} (P : A → Type 0) (fs : List Range) (m : Meaning A fs) (w : ℕ) → Says P fs m → IfSome (said fs m w) P
 said_says P [] m w s = s
 said_says P (f ∷ fs) m w s = said_says P fs (m (bits f w)) w (s (bits f w) (mod-lt _ (pow_pos _)))
 
-pub reading_says : {A : Type 0} (P : A → Type 0) (fs : List (Format A)) (w : ℕ) → AllSay P fs → IfSome P (reading fs w)
+pub reading_says : {A : Type 0} (P : A → Type 0) (fs : List (Format A)) (w : ℕ) → AllSay P fs → IfSome (reading fs w) P
 unfolding reading
 reading_says P [] w s = tt
 reading_says P (f ∷ fs) w s = go (matches f.fixed w) (said_says P f.fields f.meaning w s.0) (reading_says P fs w s.1)
   where
-    go : (t : Bool) → IfSome P (said f.fields f.meaning w) → IfSome P (reading fs w)
-        → IfSome P (cond t (said f.fields f.meaning w) (reading fs w))
+    go : (t : Bool) → IfSome (said f.fields f.meaning w) P → IfSome (reading fs w) P
+        → IfSome (cond t (said f.fields f.meaning w) (reading fs w)) P
     go true p q = p
     go false p q = q
 
@@ -49,12 +44,12 @@ abbrev pub AllRows : {A : Type 0} → (A → Type 0) → List (Row A) → Type 0
 AllRows Q [] = Unit {0}
 AllRows Q (r ∷ rs) = Q r.value × AllRows Q rs
 
-row_says : {A B : Type 0} (P : B → Type 0) (t : List (Row A)) (n : ℕ) (make : A → Option B) → AllRows (λ a. IfSome P (make a)) t → IfSome P (row t n make)
+row_says : {A B : Type 0} (P : B → Type 0) (t : List (Row A)) (n : ℕ) (make : A → Option B) → AllRows (λ a. IfSome (make a) P) t → IfSome (row t n make) P
 unfolding row
 row_says P [] n make s = tt
 row_says P (r ∷ rs) n make s = go (eqb n r.code) s.0 (row_says P rs n make s.1)
   where
-    go : (t : Bool) → IfSome P (make r.value) → IfSome P (row rs n make) → IfSome P (cond t (make r.value) (row rs n make))
+    go : (t : Bool) → IfSome (make r.value) P → IfSome (row rs n make) P → IfSome (cond t (make r.value) (row rs n make)) P
     go true p q = p
     go false p q = q
 
@@ -63,7 +58,7 @@ each : {A : Type 0} (Q : A → Type 0) (t : List (Row A)) → ((a : A) → Q a) 
 each Q [] q = tt
 each Q (r ∷ rs) q = (q r.value, each Q rs q)
 
-row_each : {A B : Type 0} (P : B → Type 0) (t : List (Row A)) (n : ℕ) (make : A → Option B) → ((a : A) → IfSome P (make a)) → IfSome P (row t n make)
+row_each : {A B : Type 0} (P : B → Type 0) (t : List (Row A)) (n : ℕ) (make : A → Option B) → ((a : A) → IfSome (make a) P) → IfSome (row t n make) P
 row_each P t n make q = row_says P t n make (each _ t q)
 
 -- A pair, to write a list of proofs one under the other.
@@ -104,26 +99,26 @@ pub guard_in_range : (w : ℕ) → IsPredicate (guard_of w)
 unfolding guard_of
 guard_in_range w = omega arith
 
-pub slot_one_in_range : (w : ℕ) → IfSome OperationInRange (slot_one w)
+pub slot_one_in_range : (w : ℕ) → IfSome (slot_one w) OperationInRange
 unfolding slot_one
 slot_one_in_range w = go (reading alu_formats w) (reading first_formats w) (reading_says _ alu_formats w alu_say) (reading_says _ first_formats w first_say)
   where
-    go : (a : Option AluOperation) (o : Option Operation) → IfSome AluInRange a → IfSome OperationInRange o → IfSome OperationInRange (either a o)
+    go : (a : Option AluOperation) (o : Option Operation) → IfSome a AluInRange → IfSome o OperationInRange → IfSome (either a o) OperationInRange
     go None o p q = q
     go (Some a) o p q = p
 
-pub slot_two_in_range : (w : ℕ) → IfSome AluInRange (slot_two w)
+pub slot_two_in_range : (w : ℕ) → IfSome (slot_two w) AluInRange
 unfolding slot_two
 slot_two_in_range w = go (is_two_words w)
   where
-    go : (t : Bool) → IfSome AluInRange (cond t None (reading alu_formats w))
+    go : (t : Bool) → IfSome (cond t None (reading alu_formats w)) AluInRange
     go true = tt
     go false = reading_says _ alu_formats w alu_say
 
-long_in_range : (first second : ℕ) → second < 2 ^ 32 → IfSome AluInRange (applied (reading long_formats first) second)
+long_in_range : (first second : ℕ) → second < 2 ^ 32 → IfSome (applied (reading long_formats first) second) AluInRange
 long_in_range first second h = go (reading long_formats first) (reading_says _ long_formats first long_say)
   where
-    go : (f : Option (ℕ → AluOperation)) → IfSome (λ f. (c : ℕ) → c < 2 ^ 32 → AluInRange (f c)) f → IfSome AluInRange (applied f second)
+    go : (f : Option (ℕ → AluOperation)) → IfSome f (λ f. (c : ℕ) → c < 2 ^ 32 → AluInRange (f c)) → IfSome (applied f second) AluInRange
     go None p = tt
     go (Some f) p = p second h
 
@@ -140,7 +135,7 @@ decode_in_range first second h =
     (slot_two_in_range second)
   where
     go : (t : Bool) (l : Option AluOperation) (o : Option Operation) (a : Option AluOperation)
-        → IfSome AluInRange l → IfSome OperationInRange o → IfSome AluInRange a
+        → IfSome l AluInRange → IfSome o OperationInRange → IfSome a AluInRange
         → InRange (cond t (long (guard_of first) l (two (guard_of first) o (guard_of second) a)) (one (guard_of first) o))
     go true (Some l) o a p q r = (guard_in_range first, p)
     go true None (Some o) (Some a) p q r = ((guard_in_range first, q), (guard_in_range second, r))

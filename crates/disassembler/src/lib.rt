@@ -1,4 +1,4 @@
-// The text of a bundle, put into a lent buffer.
+// The text of a bundle, put on a page.
 #![tactic(auto)]
 
 pub mod showing;

@@ -20,7 +20,7 @@ fn put_nth(page: &mut Page, form: u32, nth: u32, o: Operand)
     ensures { Puts page.old page.new (operand_text (letter_of form nth) o) }
 {
     let kind = letter(form, nth);
-    put_operand(&mut *page, kind, o);
+    put_operand(page, kind, o);
 }
 
 // A name with its operands.
@@ -29,11 +29,11 @@ fn put_shown(page: &mut Page, s: Shown)
 {
     let m = s.mnemonic;
     let form = m.form;
-    put_name(&mut *page, m);
-    put_nth(&mut *page, form, 0, s.a);
-    put_nth(&mut *page, form, 1, s.b);
-    put_nth(&mut *page, form, 2, s.c);
-    put_nth(&mut *page, form, 3, s.d);
+    put_name(page, m);
+    put_nth(page, form, 0, s.a);
+    put_nth(page, form, 1, s.b);
+    put_nth(page, form, 2, s.c);
+    put_nth(page, form, 3, s.d);
 }
 
 // Whether a guard is p0, which is not written.
@@ -49,18 +49,17 @@ fn is_unguarded(g: PredicateOperand) -> bool
 fn put_guard(page: &mut Page, g: PredicateOperand)
     ensures { Puts page.old page.new (guard_text g) }
 {
-    if is_unguarded(g) {
-        return;
+    if !is_unguarded(g) {
+        put_predicate(page, g.negated, g.predicate);
+        page.put_byte(b' ');
     }
-    put_predicate(&mut *page, g.negated, g.predicate);
-    page.put_byte(b' ');
 }
 
 fn put_slot(page: &mut Page, g: PredicateOperand, o: Operation)
     ensures { Puts page.old page.new (slot_text g o) }
 {
-    put_guard(&mut *page, g);
-    put_shown(&mut *page, show(o));
+    put_guard(page, g);
+    put_shown(page, show(o));
 }
 
 fn put_instruction(page: &mut Page, i: Instruction)
@@ -68,17 +67,17 @@ fn put_instruction(page: &mut Page, i: Instruction)
 {
     let g = i.guard;
     let o = i.operation;
-    put_slot(&mut *page, g, o);
+    put_slot(page, g, o);
 }
 
 fn put_two(page: &mut Page, i: Instruction, j: AluInstruction)
     ensures { Puts page.old page.new (bundle_text (Bundle.Two i j)) }
 {
-    put_instruction(&mut *page, i);
+    put_instruction(page, i);
     page.put(b" ; ");
     let g = j.guard;
     let a = j.operation;
-    put_slot(&mut *page, g, Operation::Alu(a));
+    put_slot(page, g, Operation::Alu(a));
 }
 
 // The text of a bundle. One that cannot be decoded has none.
@@ -87,7 +86,7 @@ pub fn put_bundle(page: &mut Page, b: Bundle)
 {
     match b {
         Bundle::Undecodable => {}
-        Bundle::One(i) | Bundle::Long(i) => put_instruction(&mut *page, i),
-        Bundle::Two(i, j) => put_two(&mut *page, i, j),
+        Bundle::One(i) | Bundle::Long(i) => put_instruction(page, i),
+        Bundle::Two(i, j) => put_two(page, i, j),
     }
 }

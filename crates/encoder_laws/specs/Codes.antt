@@ -1,5 +1,5 @@
 -- The codes of `Fields` and the tables of isa undo each other, and so do the numbers of predicates, of bits and of two's complement.
-use Rattle.std.specs.Prelude.{ℕ, zero, suc, ◌+◌, ◌-◌, ◌/◌, ◌%◌, ◌^◌, ◌<◌, Bool, true, false, cond, List, [], ◌∷◌, ◌≡◌, refl, eqb, ltb, ℤ, pos, negsuc, Option, Some}
+use Rattle.std.specs.Prelude.{ℕ, zero, suc, ◌+◌, ◌-◌, ◌/◌, ◌%◌, ◌^◌, ◌<◌, Bool, true, false, cond, List, [], ◌∷◌, ◌≡◌, refl, eqb, ltb, ℤ, pos, negsuc, Option, Some, IfSome}
 use Rattle.std.proofs.Common.{sym, ap, subst, sub-one, arith, ltb-true, ltb-false, lt-ltb, le-ltb, eqb-true}
 use Rattle.std.proofs.Math.Nat.{two-pow-succ}
 use Rattle.std.proofs.lemmas.Bool.{eqb-false}
@@ -8,7 +8,7 @@ use Rattle.isa.specs.Format.{Row, row}
 use Rattle.isa.specs.Formats.{is_set, predicate_operand}
 use Rattle.isa.specs.Tables.{alu_table, multiply_table, compare_table, predicate_table, special_table, kind_table, load_table, store_table}
 use Rattle.isa.specs.TableLaws.{row_used}
-use Rattle.decoder_laws.specs.RangeLaws.{IfSome, ◌also◌}
+use Rattle.decoder_laws.specs.RangeLaws.{◌also◌}
 use Rattle.fields.specs.CodeLaws.{alu_row_lem, multiply_row_lem, compare_row_lem, predicate_row_lem, special_row_lem, kind_row, load_row, store_row}
 use Rattle.fields.specs.Fields.{alu_code, multiply_code, compare_code, predicate_code, special_code, kind_code, load_code, store_code, bit, operand_number, twos_complement}
 use Rattle.isa.specs.declared.PredicateOperand.{PredicateOperand}
@@ -19,13 +19,13 @@ Each Q (r ∷ rs) = Q r × Each Q rs
 
 -- What holds of each row, with its code, holds of what a table has for a code.
 pub row_back : {A B : Type 0} (Q : ℕ → B → Type 0) (t : List (Row A)) (n : ℕ) (make : A → Option B)
-    → Each (λ r. IfSome (Q r.code) (make r.value)) t → IfSome (Q n) (row t n make)
+    → Each (λ r. IfSome (make r.value) (Q r.code)) t → IfSome (row t n make) (Q n)
 unfolding row
 row_back Q [] n make s = tt
 row_back Q (r ∷ rs) n make s = go (eqb n r.code) refl (row_back Q rs n make s.1)
   where
-    go : (t : Bool) → eqb n r.code ≡ t → IfSome (Q n) (row rs n make) → IfSome (Q n) (cond t (make r.value) (row rs n make))
-    go true e q = subst (λ (c : ℕ). IfSome (Q c) (make r.value)) (sym (eqb-true n r.code e)) s.0
+    go : (t : Bool) → eqb n r.code ≡ t → IfSome (row rs n make) (Q n) → IfSome (cond t (make r.value) (row rs n make)) (Q n)
+    go true e q = subst (λ (c : ℕ). IfSome (make r.value) (Q c)) (sym (eqb-true n r.code e)) s.0
     go false e q = q
 
 -- A table and the codes of its values undo each other: the code of each row's value is the row's code, and each value has a row.
@@ -34,12 +34,12 @@ pub record Inverse {A : Type 0} (t : List (Row A)) (code : A → ℕ) : Type 0 w
   pub has : (a : A) → row t (code a) Some ≡ Some a
 
 pub row_coded : {A B : Type 0} {t : List (Row A)} {code : A → ℕ} → Inverse t code → (Q : ℕ → B → Type 0) (n : ℕ) (make : A → Option B)
-    → ((a : A) → IfSome (Q (code a)) (make a)) → IfSome (Q n) (row t n make)
+    → ((a : A) → IfSome (make a) (Q (code a))) → IfSome (row t n make) (Q n)
 row_coded {A} {t = t} {code = code} v Q n make q = row_back Q t n make (go t v.codes)
   where
-    go : (t : List (Row A)) → Each (λ r. code r.value ≡ r.code) t → Each (λ r. IfSome (Q r.code) (make r.value)) t
+    go : (t : List (Row A)) → Each (λ r. code r.value ≡ r.code) t → Each (λ r. IfSome (make r.value) (Q r.code)) t
     go [] c = tt
-    go (r ∷ rs) c = (subst (λ (x : ℕ). IfSome (Q x) (make r.value)) c.0 (q r.value), go rs c.1)
+    go (r ∷ rs) c = (subst (λ (x : ℕ). IfSome (make r.value) (Q x)) c.0 (q r.value), go rs c.1)
 
 pub row_of : {A B : Type 0} {t : List (Row A)} {code : A → ℕ} → Inverse t code → (a : A) (make : A → Option B)
     → row t (code a) make ≡ make a

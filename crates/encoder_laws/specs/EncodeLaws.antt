@@ -1,6 +1,6 @@
 -- Writing a bundle and decoding it: the decoder reads back what is written, every bundle that it gives can be written, and what is
 -- refused is what no words decode to.
-use Rattle.std.specs.Prelude.{ℕ, ◌<◌, ◌^◌, Bool, true, false, cond, ◌↔◌, ◌≡◌, refl, None, Some, Ok, Err}
+use Rattle.std.specs.Prelude.{ℕ, ◌<◌, ◌^◌, Bool, true, false, cond, ◌↔◌, ◌≡◌, refl, Option, None, Some, IfSome, Ok, Err}
 use Rattle.std.proofs.lemmas.Option.{none-some}
 use Rattle.std.proofs.Common.{sym, ap, ◌∙◌, subst, arith}
 use Rattle.answers.specs.declared.Refusal.{Refusal}
@@ -8,7 +8,6 @@ use Rattle.answers.specs.declared.Refusal.TheVariants as refusal
 use Rattle.isa.specs.Format.{reading}
 use Rattle.isa.specs.Formats.{alu_formats}
 use Rattle.decoder.specs.Decode.{is_two_words, slot_two, decode}
-use Rattle.decoder_laws.specs.RangeLaws.{IfSome}
 use Rattle.encoder.specs.Encode.{either_slot, constant_of, slot_word, long_word, written, Written}
 use Rattle.encoder_laws.specs.SlotLaws.{by_words, by_decode, long_of, alu_read, slot_read, long_read, alu_written, slot_written, long_written}
 use Rattle.isa.specs.declared.PredicateOperand.{PredicateOperand}
@@ -118,7 +117,7 @@ abbrev pub ConstantBelow : Bundle → Type 0
 ConstantBelow bundle.Undecodable = Unit {0}
 ConstantBelow (bundle.One i) = Unit {0}
 ConstantBelow (bundle.Two i j) = Unit {0}
-ConstantBelow (bundle.Long i) = IfSome (λ n. n < 2 ^ 32) (constant_of (either_slot i.operation))
+ConstantBelow (bundle.Long i) = IfSome (constant_of (either_slot i.operation)) (λ n. n < 2 ^ 32)
 
 abbrev pub Below : Type 0 → Written → Type 0
 Below P (Ok (One w)) = w < 2 ^ 32
@@ -129,4 +128,4 @@ pub written_below : (b : Bundle) → Below (ConstantBelow b) (written b)
 written_below = by_words (λ b x. Below (ConstantBelow b) x) (λ b. tt)
     (λ i w e. (slot_read 0 i.guard i.operation w e).word)
     (λ i j w v e f. ((slot_read 1 i.guard i.operation w e).word, λ p. (slot_read 0 j.guard (Alu j.operation) v f).word))
-    (λ g a w n e f. ((long_read g a n w e f).word, λ p. subst (IfSome (λ n. n < 2 ^ 32)) f p))
+    (λ g a w n e f. ((long_read g a n w e f).word, λ p. subst (λ (o : Option ℕ). IfSome o (λ n. n < 2 ^ 32)) f p))

@@ -1,6 +1,6 @@
 -- Lists of formats, of any values: a word written in one of them is read by that one, and what is read can be written. What is asked
 -- of a list is a test on its formats as data, and what its cases and its formats supply (`Tells`, `AllBack`).
-use Rattle.std.specs.Prelude.{ℕ, zero, suc, ◌+◌, ◌-◌, ◌/◌, ◌%◌, ◌^◌, ◌<◌, ◌≤◌, Bool, true, false, cond, ◌&&◌, ◌||◌, List, [], ◌∷◌, ◌++◌, map, ◌≡◌, refl, eqb, leb, Option, None, Some}
+use Rattle.std.specs.Prelude.{ℕ, zero, suc, ◌+◌, ◌-◌, ◌/◌, ◌%◌, ◌^◌, ◌<◌, ◌≤◌, Bool, true, false, cond, ◌&&◌, ◌||◌, List, [], ◌∷◌, ◌++◌, map, ◌≡◌, refl, eqb, leb, Option, None, Some, IfSome}
 use Rattle.std.proofs.lemmas.Option.{same_Some, none-some}
 use Rattle.std.proofs.Common.{true≢false, sym, ap, ◌∙◌, subst, mod-lt, arith, pow_pos, shr-shr, leb-true, eqb-true}
 use Rattle.std.proofs.Math.Pow.{field, mod-mod-pow}
@@ -8,7 +8,6 @@ use Rattle.word.specs.BoolLaws.{and_left, and_right}
 use Rattle.isa.specs.Format.{Range, bits, Fixed, ◌≔◌, Meaning, Format, matches, said, reading}
 use Rattle.decoder_laws.specs.Layout as layout
 use Rattle.decoder_laws.specs.Layout.{Shape, shape, all, below, is_in, fixes, differ, all_differ}
-use Rattle.decoder_laws.specs.RangeLaws.{IfSome}
 use Rattle.fields.specs.Place.{Fields, ◌⟨◌⟩, at, placed, filled, in_format, writing}
 use Rattle.encoder_laws.specs.PutLaws.{in_word, apart}
 use Rattle.encoder_laws.specs.PlaceLaws.{ranges_of, tidy, Fits, fits, tested, fits_both, fits_right, placed_both, placed_fit, fit_placed, placed_below, placed_matches, matches_head, matches_tail, matches_left, matches_right, tidy_filled}
@@ -193,7 +192,7 @@ read_other gs fs outer t w d i = reading_none gs (shape i.form) w
 
 -- What each format supplies: for numbers that fit its fields, P holds of what they say, of the format's place and of the numbers.
 abbrev pub Back : {A : Type 0} → (A → List ℕ → Type 0) → (rs : List Range) → Meaning A rs → Type 0
-Back P [] m = IfSome (λ a. P a []) m
+Back P [] m = IfSome m (λ a. P a [])
 Back P (r ∷ rs) m = (n : ℕ) → n < 2 ^ (suc r.high - r.low) → Back (λ a ns. P a (n ∷ ns)) rs (m n)
 
 abbrev pub AllBack : {A : Type 0} → (A → ℕ → List ℕ → Type 0) → List (Format A) → Type 0
@@ -210,7 +209,7 @@ numbers_fit (r ∷ rs) w = (mod-lt _ (pow_pos _), numbers_fit rs w)
 
 back_said : {A : Type 0} (P : A → List ℕ → Type 0) (rs : List Range) (m : Meaning A rs) (w : ℕ) (a : A) → Back P rs m
     → said rs m w ≡ Some a → P a (numbers_in rs w)
-back_said P [] m w a b e = subst (IfSome (λ a. P a [])) e b
+back_said P [] m w a b e = subst (λ o. IfSome o (λ a. P a [])) e b
 back_said P (r ∷ rs) m w a b e = back_said (λ a ns. P a (bits r w ∷ ns)) rs (m (bits r w)) w a (b (bits r w) (mod-lt _ (pow_pos _))) e
 
 -- A word that is read has a format, and its numbers there say what was read.

@@ -1,4 +1,5 @@
-// The numbers of functions, special registers, memories and widths in their fields.
+// The numbers of functions, special registers, memories and widths in their fields. They stand at the variants (isa). Each type has a function
+// of its own: a trait would need an impl for each, of the same line and more around it.
 ghost use Rattle.std.specs.Prelude.{◌≡◌};
 ghost use Rattle.fields.specs.Fields.{alu_code, multiply_code, compare_code, predicate_code, special_code, kind_code, load_code, store_code, bit};
 

@@ -1,5 +1,5 @@
 // The formats that only slot one can hold.
-#![tactic(auto, using(isa::specs::TableLaws::row_unused, isa::specs::TableLaws::row_used), unfolding(isa::specs::Format::reading))]
+#![tactic(auto, using(isa::specs::TableLaws::rows), unfolding(isa::specs::Format::reading))]
 
 ghost use Rattle.std.specs.Prelude.{◌≡◌, ◌/◌, ◌%◌, Some};
 ghost use Rattle.isa.specs.Format.{reading};

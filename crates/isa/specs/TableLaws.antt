@@ -23,6 +23,8 @@ row_unused t n k e = rw (row_then, e)
 pub row_used : {A B : Type 0} (t : List (Row A)) (n : ℕ) (k : A → Option B) (a : A) → row t n Some ≡ Some a → row t n k ≡ k a
 row_used t n k a e = rw (row_then, e)
 
+pub ruleset rows = (row_unused, row_used)
+
 pub row_applied : {A : Type 0} (t : List (Row A)) (n : ℕ) (k : A → ℕ → AluOperation) (m : ℕ) → applied (row t n (λ a. Some (k a))) m ≡ row t n (λ a. Some (k a m))
 unfolding row
 row_applied [] n k m = refl

@@ -1,5 +1,6 @@
 // The instructions, as the words of sections 2.5 and 2.6 of the handbook tell them apart. An immediate is kept as its
-// field has it, in full width; what it means is left to whoever executes it. Only br's field is a signed number.
+// field has it, in full width; what it means is left to whoever executes it. Only br's field is a signed number. A function, a special register,
+// a memory and a width have the number of their code.
 #![tactic(auto, unfolding(crate::specs::Format::row))]
 
 pub mod tables;

@@ -35,9 +35,9 @@ fn put_refused(page: &mut Page, n: u32)
 fn put_words(page: &mut Page, two: bool, first: u32, second: u32)
     ensures { Puts page.old page.new (words_text two first second) }
 {
-    put_spaced(&mut *page, first);
+    put_spaced(page, first);
     if two {
-        put_spaced(&mut *page, second);
+        put_spaced(page, second);
     }
 }
 
@@ -46,9 +46,9 @@ pub fn put_written(page: &mut Page, w: Written)
     ensures { Puts page.old page.new (written_text w) }
 {
     match w {
-        Ok(CodeWords::One(w)) => put_spaced(&mut *page, w),
-        Ok(CodeWords::Two(w, v)) => put_words(&mut *page, true, w, v),
-        Err(refusal) => put_refused(&mut *page, refusal.number()),
+        Ok(CodeWords::One(w)) => put_spaced(page, w),
+        Ok(CodeWords::Two(w, v)) => put_words(page, true, w, v),
+        Err(refusal) => put_refused(page, refusal.number()),
     }
 }
 
@@ -67,11 +67,10 @@ fn is_fixed(w: Written, first: u32, second: u32) -> bool
 fn put_fixed(page: &mut Page, first: u32, second: u32, w: Written)
     ensures { Puts page.old page.new (fixed_text first second w) }
 {
-    if is_fixed(w, first, second) {
-        return;
+    if !is_fixed(w, first, second) {
+        page.put(b" fixed");
+        put_written(page, w);
     }
-    page.put(b" fixed");
-    put_written(&mut *page, w);
 }
 
 // What is found at an address, behind its words. All that holds a bundle is done here: each function that has one as a local is slow to
@@ -80,11 +79,11 @@ fn put_found(page: &mut Page, first: u32, second: u32, code: &[u8], address: u32
     ensures { Puts page.old page.new (found_text first second (fetched code.now address)) }
 {
     match fetch(code, address) {
-        Err(refusal) => put_refused(&mut *page, refusal.number()),
+        Err(refusal) => put_refused(page, refusal.number()),
         Ok(Fetched { bundle, .. }) => {
-            put_fixed(&mut *page, first, second, write(bundle));
+            put_fixed(page, first, second, write(bundle));
             page.put_byte(b' ');
-            put_bundle(&mut *page, bundle);
+            put_bundle(page, bundle);
         }
     }
 }
@@ -109,9 +108,9 @@ fn put_line(page: &mut Page, code: &[u8], address: u32)
 {
     let first = read_word(code, address);
     let second = read_word(code, add(address, 4));
-    put_at(&mut *page, address);
-    put_words(&mut *page, has_second(code, address), first, second);
-    put_found(&mut *page, first, second, code, address);
+    put_at(page, address);
+    put_words(page, has_second(code, address), first, second);
+    put_found(page, first, second, code, address);
     page.put_byte(b'\n');
 }
 
@@ -137,7 +136,7 @@ pub fn put_list(page: &mut Page, code: &[u8])
         if code.len() <= (address as usize) {
             return;
         }
-        put_line(&mut *page, code, address);
+        put_line(page, code, address);
         address = following(code, address);
     }
 }

@@ -1,5 +1,5 @@
 // The operation that a mnemonic and its operands make, by the places of `forms` (assembly).
-#![tactic(auto, using(isa::specs::TableLaws::row_unused, isa::specs::TableLaws::row_used))]
+#![tactic(auto, using(isa::specs::TableLaws::rows))]
 
 ghost use Rattle.std.specs.Prelude.{◌≡◌, ◌/◌, ◌%◌, Some};
 ghost use Rattle.isa.specs.Format.{row};

@@ -21,15 +21,14 @@ pub enum Checked {
     Broken { address: u32, rule: Rule },
 }
 
-// The bundles one after the other, from 0 on, until one fails. At most one begins at each word, so `left` does not run out before
+// The bundles one after the other, from 0 on, until one fails. At most one begins at each word, so the turns do not run out before
 // the code does.
 fn walk(code: &[u8], marking: Marking) -> Checked
     requires { length code.now ≤ 65536 }
     ensures { (returned result ≡ walk_from marking code.now (length code.now / 4 + 1) 0) × (letter_broken marking code.now result ≡ true) }
 {
     let mut address: u32 = 0;
-    let mut left = code.len() / 4 + 1;
-    while 0 < left {
+    for _ in 0..code.len() / 4 + 1 {
         if code.len() <= address as usize {
             return Checked::Accepted;
         }
@@ -41,7 +40,6 @@ fn walk(code: &[u8], marking: Marking) -> Checked
                     return Checked::Broken { address, rule };
                 }
                 address = next;
-                left = left - 1;
             }
         }
     }

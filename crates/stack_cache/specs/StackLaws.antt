@@ -133,6 +133,17 @@ shift_unit i (suc e) q =
     let h : i ≡ 8 * e + 8 = omega arith in
     rw (h, pow-add 2 (8 * e) 8, shift_unit (8 * e) e refl, pow-suc 256 e)
 
+-- What a part of k bytes counts, as the machine has it.
+pub size_of : (k : ℕ) → k < 4 → 1 * 2 ^ (8 * k) % 4294967296 ≡ 256 ^ k
+size_of k p = rw (shift_unit (8 * k) k refl) (go k p)
+  where
+    go : (k : ℕ) → k < 4 → 1 * 256 ^ k % 4294967296 ≡ 256 ^ k
+    go zero p = omega arith
+    go (suc zero) p = omega arith
+    go (suc (suc zero)) p = omega arith
+    go (suc (suc (suc zero))) p = omega arith
+    go (suc (suc (suc (suc k)))) p = absurd (omega arith)
+
 -- The sizes of a cache among the numbers below k, and up to 600.
 unfoldable sizes_below : ℕ → List ℕ
 sizes_below zero = []

@@ -25,22 +25,12 @@ pub fn put_cache_word(cache: &mut [u32], address: u32, v: u32)
     cache[place] = v;
 }
 
-// How many bits of the word lie below the byte at an address.
-fn byte_shift(address: u32) -> u32
-    ensures { (2 ^ result ≡ unit 1 address) × (result < 32) }
+// How many bits of the word lie below the BYTES bytes from an address on: none where these reach past it.
+fn bits_below<const BYTES: u32>(address: u32) -> u32
+    requires { (0 < BYTES) × (BYTES < 4) }
+    ensures { (2 ^ result ≡ unit BYTES address) × (result < 32) }
 {
-    24 - 8 * (address % 4)
-}
-
-// The same for the half-word at an address: none at the word's last byte.
-fn half_shift(address: u32) -> u32
-    ensures { (2 ^ result ≡ unit 2 address) × (result < 32) }
-{
-    let place = address % 4;
-    if place == 3 {
-        return 0;
-    }
-    16 - 8 * place
+    (4 - BYTES).saturating_sub(address % 4) * 8
 }
 
 // The digit of w, in base `size`, that lies above `shift` bits.
@@ -59,6 +49,31 @@ fn with_part(w: u32, shift: u32, size: u32, v: u32) -> u32
     w - (part(w, shift, size) << shift) + (v % size << shift)
 }
 
+// A part of less than a word read, and replaced.
+fn load_part<const BYTES: u32>(cache: &[u32], address: u32) -> u32
+    requires { (0 < BYTES) × (BYTES < 4) }
+    ensures { result ≡ cache_number BYTES cache.now address }
+{
+    part(
+        cache_word(cache, address),
+        bits_below::<BYTES>(address),
+        1 << (8 * BYTES),
+    )
+}
+
+fn store_part<const BYTES: u32>(cache: &mut [u32], address: u32, v: u32)
+    requires { (0 < BYTES) × (BYTES < 4) }
+    ensures { cache.new ≡ put_cache_number BYTES cache.old address v }
+{
+    let w = with_part(
+        cache_word(&*cache, address),
+        bits_below::<BYTES>(address),
+        1 << (8 * BYTES),
+        v,
+    );
+    put_cache_word(&mut *cache, address, w);
+}
+
 pub fn load_word(cache: &[u32], address: u32) -> u32
     ensures { result ≡ cache_number 4 cache.now address }
 {
@@ -68,13 +83,13 @@ pub fn load_word(cache: &[u32], address: u32) -> u32
 pub fn load_half(cache: &[u32], address: u32) -> u32
     ensures { result ≡ cache_number 2 cache.now address }
 {
-    part(cache_word(cache, address), half_shift(address), 65536)
+    load_part::<2>(cache, address)
 }
 
 pub fn load_byte(cache: &[u32], address: u32) -> u32
     ensures { result ≡ cache_number 1 cache.now address }
 {
-    part(cache_word(cache, address), byte_shift(address), 256)
+    load_part::<1>(cache, address)
 }
 
 pub fn store_word(cache: &mut [u32], address: u32, v: u32)
@@ -86,13 +101,11 @@ pub fn store_word(cache: &mut [u32], address: u32, v: u32)
 pub fn store_half(cache: &mut [u32], address: u32, v: u32)
     ensures { cache.new ≡ put_cache_number 2 cache.old address v }
 {
-    let w = with_part(cache_word(&*cache, address), half_shift(address), 65536, v);
-    put_cache_word(&mut *cache, address, w);
+    store_part::<2>(&mut *cache, address, v);
 }
 
 pub fn store_byte(cache: &mut [u32], address: u32, v: u32)
     ensures { cache.new ≡ put_cache_number 1 cache.old address v }
 {
-    let w = with_part(cache_word(&*cache, address), byte_shift(address), 256, v);
-    put_cache_word(&mut *cache, address, w);
+    store_part::<1>(&mut *cache, address, v);
 }

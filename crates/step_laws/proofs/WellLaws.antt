@@ -1,5 +1,5 @@
 -- A bundle of any code keeps a state well formed: the register of a load is one of 32 by its field alone.
-use Rattle.std.specs.Prelude.{ℕ, Bool, cond, ◌≡◌, Option, None, Some, Ok, Err}
+use Rattle.std.specs.Prelude.{ℕ, Bool, cond, ◌≡◌, Option, None, Some, IfSome, Ok, Err}
 use Rattle.std.proofs.Math.Bool.{true, false}
 use Rattle.std.proofs.Math.Path.{refl}
 use Rattle.std.proofs.Common.{sym, subst, arith}
@@ -15,7 +15,7 @@ use Rattle.decoder.specs.Decode.{is_two_words, guard_of, slot_one as first_slot,
 use Rattle.isa.specs.Formats.{long_formats, applied}
 use Rattle.isa.specs.Format.{reading}
 use Rattle.decoder_laws.specs.Ranges.{OperationInRange}
-use Rattle.decoder_laws.specs.RangeLaws.{IfSome, slot_one_in_range}
+use Rattle.decoder_laws.specs.RangeLaws.{slot_one_in_range}
 use Rattle.method_cache.specs.MethodCache.{capacity_ok}
 use Rattle.settings.specs.SettingsLaws.{capacity_ok_lem}
 use Rattle.settings.specs.declared.Settings.{Settings}
@@ -73,7 +73,7 @@ module _ (b : Buffers) (s : Start) where
   unfolding decode
   decoded_ok first second = go (is_two_words first) (applied (reading long_formats first) second) (first_slot first) (second_slot second) (slot_one_in_range first)
     where
-      go : (t : Bool) (l : Option AluOperation) (o : Option Operation) (a : Option AluOperation) → IfSome OperationInRange o
+      go : (t : Bool) (l : Option AluOperation) (o : Option Operation) (a : Option AluOperation) → IfSome o OperationInRange
           → load_ok (load_begun b (slot_one s (cond t (long (guard_of first) l (two (guard_of first) o (guard_of second) a)) (one (guard_of first) o)))) ≡ true
       go true (Some l) o a p = long_ok (guard_of first) l
       go true None (Some o) (Some a) p = instruction_ok (guard_of first) o p

@@ -1,6 +1,7 @@
 -- Laws of the definitions on fields, one byte at a time.
 use Rattle.std.specs.Prelude.{ℕ, ◌+◌, ◌≤◌, ◌<◌, ◌≡◌, refl, Bool, true, false, ◌&&◌, ◌||◌, List, [], ◌∷◌, length, drop, get_or, eqb}
 use Rattle.std.proofs.Common.{sym, ap, ◌∙◌, add-one, arith, drop_of_length-le, drop-cons}
+use Rattle.std.specs.Cmp.Lexicographic.{pointwise}
 use borrow.Author.Tests.{eq-eqb, ne_eqb, eqb-true}
 use Rattle.text.specs.Field.{spaces, field_length, same_bytes, is_name_byte, are_name_bytes}
 
@@ -72,3 +73,11 @@ same_told a b false f g = go (same_bytes a b) refl
     go : (t : Bool) → same_bytes a b ≡ t → false ≡ t
     go true e = g (same_equal a b e)
     go false e = refl
+
+-- What `==` answers of two slices of bytes.
+pub same_pointwise : (a b : List ℕ) → pointwise eqb a b ≡ same_bytes a b
+unfolding same_bytes
+same_pointwise [] [] = refl
+same_pointwise [] (d ∷ ds) = refl
+same_pointwise (c ∷ cs) [] = refl
+same_pointwise (c ∷ cs) (d ∷ ds) = ap (λ (t : Bool). eqb c d && t) (same_pointwise cs ds)

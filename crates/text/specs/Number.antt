@@ -1,7 +1,5 @@
 -- Numbers in a case file, and as they are written in a report. Bytes are ASCII codes.
-use Rattle.std.specs.Prelude.{ℕ, zero, suc, ◌+◌, ◌*◌, ◌-◌, ◌/◌, ◌%◌, cond, ◌&&◌, List, [], ◌∷◌, length, leb, ltb, eqb}
-use Rattle.text.specs.declared.Number.{Number}
-use Rattle.text.specs.declared.Number.TheVariants.{Value, Bad}
+use Rattle.std.specs.Prelude.{ℕ, zero, suc, ◌+◌, ◌*◌, ◌-◌, ◌/◌, ◌%◌, cond, ◌&&◌, Option, Some, None, List, [], ◌∷◌, length, leb, ltb, eqb}
 
 -- The value of a digit: 0 to 9, A to F or a to f; 16 for every other byte.
 unfoldable pub digit : ℕ → ℕ
@@ -12,18 +10,18 @@ digit c =
     16))
 
 -- A number of 32 bits read on, of which the digits before have the value v.
-unfoldable pub number_from : ℕ → ℕ → List ℕ → Number
-number_from base v [] = Value v
+unfoldable pub number_from : ℕ → ℕ → List ℕ → Option ℕ
+number_from base v [] = Some v
 number_from base v (c ∷ cs) =
-    cond (ltb (digit c) base && leb (v * base + digit c) 4294967295) (number_from base (v * base + digit c) cs) Bad
+    cond (ltb (digit c) base && leb (v * base + digit c) 4294967295) (number_from base (v * base + digit c) cs) None
 
 -- A decimal number: one digit or more, with any zeros in front.
-unfoldable pub decimal_of : List ℕ → Number
-decimal_of s = cond (eqb (length s) 0) Bad (number_from 10 0 s)
+unfoldable pub decimal_of : List ℕ → Option ℕ
+decimal_of s = cond (eqb (length s) 0) None (number_from 10 0 s)
 
 -- A word: exactly eight hexadecimal digits.
-unfoldable pub word_of : List ℕ → Number
-word_of s = cond (eqb (length s) 8) (number_from 16 0 s) Bad
+unfoldable pub word_of : List ℕ → Option ℕ
+word_of s = cond (eqb (length s) 8) (number_from 16 0 s) None
 
 -- The digit of a value below 16, upper case.
 unfoldable pub glyph : ℕ → ℕ

@@ -1,9 +1,10 @@
 -- Laws of the definitions on numbers: one digit at a time, and what is written reads back.
-use Rattle.std.specs.Prelude.{ℕ, zero, suc, ◌+◌, ◌*◌, ◌-◌, ◌/◌, ◌%◌, ◌^◌, ◌≤◌, ◌<◌, ◌≡◌, refl, Bool, true, false, cond, List, [], ◌∷◌, length, drop, get_or, set, ltb, eqb}
+use Rattle.std.specs.Prelude.{ℕ, zero, suc, ◌+◌, ◌*◌, ◌-◌, ◌/◌, ◌%◌, ◌^◌, ◌≤◌, ◌<◌, ◌≡◌, refl, Bool, true, false, cond, Some, None, List, [], ◌∷◌, length, drop, get_or, set, ltb, eqb}
 use Rattle.std.proofs.Common.{sym, ap, ◌∙◌, sub-one, arith, pow-suc, zero-add, length-set, drop-cons, drop-set-lt, get_or-set_same}
 use Rattle.std.proofs.Math.Numerals.{add-one}
 use borrow.Author.Tests.{lt-ltb, le-ltb, le-leb, lt-leb, ne_eqb, eq-eqb, ltb-true, ltb-false, eqb-true}
-use Rattle.text.specs.declared.Number.TheVariants.{Value, Bad}
+use Rattle.std.specs.Char.{digit_value}
+use Rattle.std.proofs.lemmas.Bool.Decides.{nat_tests}
 use Rattle.text.specs.Number.{digit, number_from, decimal_of, word_of, glyph, decimal_before, decimal_text, hex_before, word_text}
 
 module _ (base v i : ℕ) (s : List ℕ) (h : i < length s) where
@@ -11,15 +12,15 @@ module _ (base v i : ℕ) (s : List ℕ) (h : i < length s) where
   unfolding number_from
   number_step d e f g = rw (drop-cons s i 0 h, ← e, lt-ltb _ _ f, le-leb _ _ g, add-one i)
 
-  pub number_not_digit : (d : ℕ) → d ≡ digit (get_or s i 0) → base ≤ d → Bad ≡ number_from base v (drop i s)
+  pub number_not_digit : (d : ℕ) → d ≡ digit (get_or s i 0) → base ≤ d → None ≡ number_from base v (drop i s)
   unfolding number_from
   number_not_digit d e f = rw (drop-cons s i 0 h, ← e, le-ltb _ _ f)
 
-  pub number_too_great : (d : ℕ) → d ≡ digit (get_or s i 0) → d < base → 4294967295 < v * base + d → Bad ≡ number_from base v (drop i s)
+  pub number_too_great : (d : ℕ) → d ≡ digit (get_or s i 0) → d < base → 4294967295 < v * base + d → None ≡ number_from base v (drop i s)
   unfolding number_from
   number_too_great d e f g = rw (drop-cons s i 0 h, ← e, lt-ltb _ _ f, lt-leb _ _ g)
 
-pub number_end : (base v : ℕ) → number_from base v [] ≡ Value v
+pub number_end : (base v : ℕ) → number_from base v [] ≡ Some v
 unfolding number_from
 number_end base v = refl
 
@@ -108,12 +109,21 @@ decimal_some (suc k) n s = go (eqb (n / 10) 0) (decimal_some k (n / 10) (glyph (
     go true h = omega arith
     go false h = h
 
-pub decimal_round : (n : ℕ) → n ≤ 4294967295 → decimal_of (decimal_text n) ≡ Value n
+pub decimal_round : (n : ℕ) → n ≤ 4294967295 → decimal_of (decimal_text n) ≡ Some n
 unfolding decimal_of
 decimal_round n w =
     let h = decimal_some 19 n [] in
     rw (ne_eqb (length (decimal_text n)) 0 (λ (e : length (decimal_text n) ≡ 0). omega arith)) (decimal_reads 20 n [] (omega arith) w ∙ number_end 10 n)
 
-pub word_round : (n : ℕ) → n ≤ 4294967295 → word_of (word_text n) ≡ Value n
+pub word_round : (n : ℕ) → n ≤ 4294967295 → word_of (word_text n) ≡ Some n
 unfolding word_of
 word_round n w = rw (eq-eqb (length (word_text n)) 8 (length_hex_before 8 n [])) (hex_reads 8 n [] (omega arith) w ∙ number_end 16 n)
+
+-- The kit's digits, which go on behind F, and these: the same below any base up to 16.
+pub digit_told : (c base : ℕ) → base ≤ 16 → digit_value c < base → digit_value c ≡ digit c
+unfolding digit
+digit_told c base h l = grind (arith, nat_tests)
+
+pub digit_refused : (c base : ℕ) → base ≤ 16 → base ≤ digit_value c → base ≤ digit c
+unfolding digit
+digit_refused c base h l = grind (arith, nat_tests)

@@ -1,7 +1,6 @@
 -- Tables of texts: rows that each end with a line end.
-use Rattle.std.specs.Prelude.{ℕ, zero, suc, ◌+◌, Bool, true, false, cond, List, [], ◌∷◌, ◌++◌, length, drop, get_or, eqb, leb, ltb}
+use Rattle.std.specs.Prelude.{ℕ, zero, suc, ◌+◌, Option, Some, None, Bool, true, false, cond, List, [], ◌∷◌, ◌++◌, length, drop, get_or, eqb, leb, ltb}
 use Prim.Native.Char.{code}
-use Rattle.std.proofs.Math.Option.{Option, some, none}
 
 unfoldable pub table : List (List ℕ) → List ℕ
 table [] = []
@@ -20,27 +19,27 @@ row_text (b ∷ t) (suc row) = cond (eqb b (code "\n")) (row_text t row) (row_te
 
 -- What is left of a text once a byte of a row was met: none where they differ.
 unfoldable pub met : Option (List ℕ) → ℕ → Option (List ℕ)
-met none b = none
-met (some []) b = none
-met (some (c ∷ w)) b = cond (eqb c b) (some w) none
+met None b = None
+met (Some []) b = None
+met (Some (c ∷ w)) b = cond (eqb c b) (Some w) None
 
 unfoldable pub is_met : Option (List ℕ) → Bool
-is_met none = false
-is_met (some []) = true
-is_met (some (c ∷ w)) = false
+is_met None = false
+is_met (Some []) = true
+is_met (Some (c ∷ w)) = false
 
 -- The number of the first row that is a text, and how many rows there are where none is: from a place in the table on, with what is left
 -- there of the text.
 unfoldable pub row_from : List ℕ → List ℕ → Option (List ℕ) → ℕ
 row_from [] s left = 0
-row_from (b ∷ t) s left = cond (eqb b (code "\n")) (cond (is_met left) 0 (suc (row_from t s (some s)))) (row_from t s (met left b))
+row_from (b ∷ t) s left = cond (eqb b (code "\n")) (cond (is_met left) 0 (suc (row_from t s (Some s)))) (row_from t s (met left b))
 
 abbrev pub row_of : List ℕ → List ℕ → ℕ
-row_of t s = row_from t s (some s)
+row_of t s = row_from t s (Some s)
 
 -- The same by a number: how many bytes of a text were met, and one more than it has where a byte differed.
 abbrev pub left_at : List ℕ → ℕ → Option (List ℕ)
-left_at s j = cond (leb j (length s)) (some (drop j s)) none
+left_at s j = cond (leb j (length s)) (Some (drop j s)) None
 
 abbrev pub met_to : List ℕ → ℕ → ℕ → ℕ
 met_to s j b = cond (ltb j (length s)) (cond (eqb (get_or s j 0) b) (j + 1) (length s + 1)) (length s + 1)

@@ -2,7 +2,7 @@
 ghost use Rattle.std.specs.Prelude.{◌≡◌, ◌<◌, [], length};
 ghost use Rattle.text.specs.Number.{glyph as glyphOf, hex_before};
 
-fn glyph(d: u64) -> u8
+fn glyph(d: u32) -> u8
     requires { d < 16 }
     ensures { result ≡ glyphOf d }
 {
@@ -17,10 +17,8 @@ fn glyph(d: u64) -> u8
 pub(crate) fn put_hex(n: u32, out: &mut [u8])
     ensures { out.new ≡ hex_before (length out.old) n [] }
 {
-    let mut at = out.len();
-    let mut rest = n as u64;
-    while 0 < at {
-        at -= 1;
+    let mut rest = n;
+    for at in (0..out.len()).rev() {
         out[at] = glyph(rest % 16);
         rest /= 16;
     }

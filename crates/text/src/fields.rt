@@ -1,6 +1,6 @@
 // The fields of a line.
-ghost use Rattle.std.specs.Prelude.{◌≡◌, ◌+◌, ◌≤◌, min, length, drop};
-ghost use Rattle.text.specs.Field.{spaces, field_length, field_from, same_bytes, is_name_byte, are_name_bytes, is_name};
+ghost use Rattle.std.specs.Prelude.{◌≡◌, ◌+◌, ◌≤◌, length, drop};
+ghost use Rattle.text.specs.Field.{spaces, field_length, field_from, is_name_byte, are_name_bytes, is_name};
 
 use crate::Field;
 
@@ -9,14 +9,12 @@ fn after_spaces(line: &[u8], a: usize) -> usize
     requires { a ≤ length line.now }
     ensures { (result ≡ a + spaces (drop a line.now)) × (result ≤ length line.now) }
 {
-    let mut i = a;
-    while i < line.len() {
-        if line[i] != 32 {
+    for i in a..line.len() {
+        if line[i] != b' ' {
             return i;
         }
-        i += 1;
     }
-    i
+    line.len()
 }
 
 // The first position from a on at which a field has ended.
@@ -24,37 +22,22 @@ fn after_field(line: &[u8], a: usize) -> usize
     requires { a ≤ length line.now }
     ensures { (result ≡ a + field_length (drop a line.now)) × (a ≤ result) × (result ≤ length line.now) }
 {
-    let mut i = a;
-    while i < line.len() {
+    for i in a..line.len() {
         let c = line[i];
-        if (c == 32) | (c == 35) {
+        if (c == b' ') | (c == b'#') {
             return i;
         }
-        i += 1;
     }
-    i
-}
-
-fn least(a: usize, b: usize) -> usize
-    ensures { (result ≡ min a b) × (result ≤ b) }
-{
-    if a < b { a } else { b }
+    line.len()
 }
 
 // The next field from a on. It is empty where no field is left.
 pub fn next_field(line: &[u8], a: usize) -> Field
     ensures { (result ≡ field_from line.now a) × (result.start ≤ result.end) × (result.end ≤ length line.now) }
 {
-    let start = after_spaces(line, least(a, line.len()));
+    let start = after_spaces(line, a.min(line.len()));
     let end = after_field(line, start);
     Field { start, end }
-}
-
-// Whether two slices hold the same bytes.
-pub fn same(a: &[u8], b: &[u8]) -> bool
-    ensures { result ≡ same_bytes a.now b.now }
-{
-    check::same(a, b)
 }
 
 fn is_name_byte(c: u8) -> bool
@@ -67,14 +50,7 @@ fn is_name_byte(c: u8) -> bool
 fn are_name_bytes(s: &[u8]) -> bool
     ensures { result ≡ are_name_bytes s.now }
 {
-    let mut i = 0;
-    while i < s.len() {
-        if !is_name_byte(s[i]) {
-            return false;
-        }
-        i += 1;
-    }
-    true
+    s.iter().all(|c| is_name_byte(*c))
 }
 
 // Whether a field is the name of a case.

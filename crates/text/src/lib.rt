@@ -1,4 +1,4 @@
-// Text: the fields of a line, the numbers that are read from them, tables of texts, and texts and digits put into a buffer.
+// Text: the fields of a line, the numbers that are read from them, tables of texts, and texts and digits put on a page.
 #![tactic(auto)]
 
 mod digits;
@@ -8,15 +8,8 @@ pub mod page;
 pub mod table;
 
 // A part of a line, from start up to, not including, end.
-#[derive(Clone, Copy)]
+#[derive(Clone, Copy, PartialEq, Eq, Debug)]
 pub struct Field {
     pub start: usize,
     pub end: usize,
-}
-
-// A number of 32 bits, or a field that is none.
-#[derive(Clone, Copy)]
-pub enum Number {
-    Value(u32),
-    Bad,
 }

@@ -1,5 +1,5 @@
 // A lent buffer of which the bytes at its front are used, and texts put behind them. What the buffer has no room for is left out.
-ghost use Rattle.std.specs.Prelude.{◌≡◌, [], ◌∷◌, take};
+ghost use Rattle.std.specs.Prelude.{◌≡◌, [], ◌∷◌};
 ghost use Rattle.text.specs.Number.{decimal_text, word_text, byte_text};
 ghost use Rattle.text.specs.Page.{Puts, page, shown};
 
@@ -18,14 +18,6 @@ impl<'a> Page<'a> {
         ensures empty { shown result ≡ page 0 out.old }
     {
         Page { out, used: 0 }
-    }
-
-    // What stands on the page.
-    pub fn text(&self) -> &[u8]
-        ensures { result.now ≡ take self.now.used self.now.out.now }
-    {
-        let end = self.used.min(self.out.len());
-        &self.out[..end]
     }
 
     pub fn put_byte(&mut self, b: u8)

@@ -43,19 +43,16 @@ pub fn row_of(table: &[u8], s: &[u8]) -> usize
 {
     let mut row = 0;
     let mut j = 0;
-    let mut i = 0;
-    while i < table.len() {
-        let b = table[i];
-        if b == b'\n' {
+    for b in table {
+        if *b == b'\n' {
             if j == s.len() {
                 return row;
             }
             j = 0;
             row += 1;
         } else {
-            j = matched(s, j, b);
+            j = matched(s, j, *b);
         }
-        i += 1;
     }
     row
 }

@@ -1,13 +1,13 @@
 use Rattle.case_words.specs.Names.{item_of}
 use Rattle.case_words.proofs.marking_item.Goals as goal
 
-pub returns-in-Value : goal.returns-in-Value
+pub returns-in-Some : goal.returns-in-Some
 unfolding item_of
-returns-in-Value c = rw (← c.numbered.ensures, c.in-Value.is)
+returns-in-Some c = rw (← c.numbered.ensures, c.in-Some.is)
 
-pub returns-in-Value-numbered : goal.returns-in-Value-numbered
+pub returns-in-Some-numbered : goal.returns-in-Some-numbered
 unfolding item_of
-returns-in-Value-numbered c = rw (← c.numbered.ensures, c.in_default.is, ← c.numbered-2.ensures, c.in-Value-numbered.is)
+returns-in-Some-numbered c = rw (← c.numbered.ensures, c.in_default.is, ← c.numbered-2.ensures, c.in-Some-numbered.is)
 
 pub returns : goal.returns
 unfolding item_of

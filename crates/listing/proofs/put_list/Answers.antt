@@ -1,6 +1,6 @@
 use Rattle.std.specs.Prelude.{◌-◌}
 use Rattle.std.proofs.Common.{arith}
-use Rattle.text.specs.PageLaws.{puts_then, leaves_all, leaves_less, leaves_none}
+use Rattle.text.specs.PageLaws.{puts_then, leaves_less, leaves_none}
 use Rattle.listing.specs.Listing.{list_text}
 use Rattle.listing.specs.ListingLaws.{lines_over, lines_out, lines_more}
 use Rattle.listing.proofs.put_list.Goals as goal
@@ -9,9 +9,6 @@ pub returns-then-code-address : goal.returns-then-code-address
 unfolding list_text
 returns-then-code-address c = let l = c.loop in
     puts_then _ _ _ _ _ c.put.ensures (leaves_none _ _ _ _ l.invariant.left (lines_over (16384 - l.counter) _ l.address c.if-code-address.true))
-
-pub loop-init : goal.loop-init
-loop-init c = record { near = omega arith; left = leaves_all _ _ }
 
 pub loop-preserved : goal.loop-preserved
 loop-preserved c = let l = c.loop in record {

@@ -1,5 +1,5 @@
 use native.Mathlib.Omega.{arith}
-use mathlib.Core.Option.{some}
+use Rattle.std.specs.Prelude.{Some}
 use Rattle.assembly.specs.TableLaws.{row_within}
 use Rattle.text.specs.Table.{table}
 use Rattle.assembly.specs.Forms.{forms, mnemonics}
@@ -8,7 +8,7 @@ use Rattle.assembly.proofs.table.mnemonic_of.Goals as goal
 
 pub overflow_cast-row_of : goal.overflow_cast-row_of
 unfolding table mnemonics forms
-overflow_cast-row_of c = let s = c.args.s.now in omega (arith, c.row_of.ensures, row_within mnemonic_table s (some s))
+overflow_cast-row_of c = let s = c.args.s.now in omega (arith, c.row_of.ensures, row_within mnemonic_table s (Some s))
 
 pub returns : goal.returns
 unfolding mnemonic_of table mnemonics forms

@@ -31,7 +31,7 @@ unfolding sizes forms
 overflow_cast-start-in-loop-i c =
     let l = c.loop-i in
     let k = c.args.form in
-    let e = next l.i k c.loop-i-test.true (omega (arith, l.invariant.1, c.if-i-form.false)) in
+    let e = next l.i k (omega arith) (omega (arith, l.invariant.1, c.if-i-form.false)) in
     omega (arith, e, all_rows k, l.invariant.2)
 
 pub overflow_add-start : goal.overflow_add-start
@@ -39,14 +39,8 @@ unfolding sizes forms
 overflow_add-start c =
     let l = c.loop-i in
     let k = c.args.form in
-    let e = next l.i k c.loop-i-test.true (omega (arith, l.invariant.1, c.if-i-form.false)) in
+    let e = next l.i k (omega arith) (omega (arith, l.invariant.1, c.if-i-form.false)) in
     omega (arith, e, all_rows k, l.invariant.2)
-
-pub overflow_add-i : goal.overflow_add-i
-overflow_add-i c = omega arith
-
-pub loop-i-smaller : goal.loop-i-smaller
-loop-i-smaller c = omega arith
 
 pub loop-i-preserved : goal.loop-i-preserved
 unfolding sizes forms
@@ -54,12 +48,12 @@ loop-i-preserved c =
     let l = c.loop-i in
     let k = c.args.form in
     let less : l.i < k = omega (arith, l.invariant.1, c.if-i-form.false) in
-    let e = next l.i k c.loop-i-test.true less in
+    let e = next l.i k (omega arith) less in
     (omega arith, omega (arith, less), omega (arith, e, l.invariant.2))
 
 pub returns : goal.returns
 unfolding sizes forms
 returns c =
     let l = c.loop-i in
-    let e = start_end (sizes forms) l.i (c.args.form - l.i) c.loop-i-test.false in
+    let e = start_end (sizes forms) l.i (c.args.form - l.i) (omega arith) in
     omega (arith, e, l.invariant.2)

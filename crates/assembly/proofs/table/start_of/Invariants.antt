@@ -6,6 +6,3 @@ use Rattle.assembly.proofs.table.start_of.Given as goal
 
 abbrev pub invariant-loop-i : goal.invariant-loop-i
 invariant-loop-i l = (l.i ≤ 27) × (l.i ≤ l.form) × (l.start + start_of (drop l.i (sizes forms)) (l.form - l.i) ≡ start_of (sizes forms) l.form)
-
-abbrev pub decreases-loop-i : goal.decreases-loop-i
-decreases-loop-i l = 27 - l.i

@@ -19,12 +19,9 @@ use Rattle.run_model.specs.LoopLaws.{goes_none, goes_ended, turn_stops, turn_goe
 use Rattle.bundle.specs.AttemptLaws.{not_done}
 use Rattle.bundle.proofs.advance.bundles.Given as goal
 
-abbrev pub invariant-loop-left : goal.invariant-loop-left
-invariant-loop-left l =
-    (l.left ≤ l.budget) × Few (l.budget - l.left) (counts_in l.counts) × (length l.main ≡ length l.initial.main) × (length l.local ≡ length l.initial.local) × (length l.cache ≡ length l.initial.cache)
-    × (counted (counts_in l.counts) (goes_on (replaying l.list l.table (setup_of l.code l.g)) l.left (with_held (joined l.registers l.predicates l.core) (held_in l.held)) (buffers l.main l.local l.cache))
+abbrev pub invariant-loop : goal.invariant-loop
+invariant-loop l =
+    (l.counter ≤ l.budget) × Few l.counter (counts_in l.counts) × (length l.main ≡ length l.initial.main) × (length l.local ≡ length l.initial.local) × (length l.cache ≡ length l.initial.cache)
+    × (counted (counts_in l.counts) (goes_on (replaying l.list l.table (setup_of l.code l.g)) (l.budget - l.counter) (with_held (joined l.registers l.predicates l.core) (held_in l.held)) (buffers l.main l.local l.cache))
     ≡ goes_on (replaying l.list l.table (setup_of l.code l.g)) l.budget (with_held (joined l.initial.registers l.initial.predicates l.initial.core) (held_in l.initial.held)) (buffers l.initial.main l.initial.local l.initial.cache))
     × (Canonical l.initial.core → Canonical l.core) × (FixedHeld l.initial.held → FixedHeld l.held)
-
-abbrev pub decreases-loop-left : goal.decreases-loop-left
-decreases-loop-left l = l.left

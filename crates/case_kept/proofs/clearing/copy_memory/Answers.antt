@@ -1,40 +1,11 @@
-use Prim.Native.Nat.{ℕ}
-use mathlib.Core.List.{List}
-use Rattle.case_kept.specs.Clearing.{set_each}
-use lib.ListN.{get_or}
-use Rattle.case_kept.specs.ClearingLaws.{set_none, set_more, get_in_front}
 use native.Mathlib.Omega.{arith}
-use mathlib.Core.Path.{◌≡◌, refl, ap, ◌∙◌}
+use mathlib.Core.Path.{ap, ◌∙◌}
+use lib.ListN.{get_or}
+use Rattle.case_kept.specs.Clearing.{set_each}
+use Rattle.case_kept.specs.ClearingLaws.{copied_behind}
 use Rattle.case_kept.proofs.clearing.copy_memory.Goals as goal
 
-pub loop-i-init : goal.loop-i-init
-loop-i-init c = (omega arith, set_none _ _ _)
-
-pub bounds-memory-i : goal.bounds-memory-i
-bounds-memory-i c = omega (arith, c.least-end.ensures.1)
-
-pub overflow_add-memory : goal.overflow_add-memory
-overflow_add-memory c = omega (arith, c.least-end.ensures.1)
-
-pub bounds-memory-i-in-loop-i : goal.bounds-memory-i-in-loop-i
-bounds-memory-i-in-loop-i c = omega (arith, c.least-end.ensures.1)
-
-pub overflow_add-i : goal.overflow_add-i
-overflow_add-i c = omega (arith, c.least-end.ensures.1)
-
-pub loop-i-smaller : goal.loop-i-smaller
-loop-i-smaller c = omega arith
-
-pub loop-i-preserved : goal.loop-i-preserved
-loop-i-preserved c = let l = c.loop-i in
-    let m = c.args.memory.now in (
-      omega arith,
-      set_more 65536 l.i _ _ (λ (j : ℕ). get_or m j 0) m l.memory refl
-          (ap (λ (k : List ℕ). get_or k l.i 0) l.invariant.1 ∙ get_in_front 65536 l.i (λ (j : ℕ). get_or m j 0) m l.i (omega (arith, c.least-end.ensures.1))) l.invariant.1,
-    )
-
 pub returns : goal.returns
-returns c = let l = c.loop-i in
+returns c = let s = c.split_at_mut-memory.ensures in
     let m = c.args.memory.now in
-    let e : l.i ≡ c.least-end.result = omega arith in
-    l.invariant.1 ∙ ap (λ (k : ℕ). set_each 65536 k (λ (j : ℕ). get_or m j 0) m) (e ∙ c.least-end.ensures.2)
+    rw (c.copy_from_slice.ensures.after, s.front, s.back) (copied_behind 65536 c.min-end.result m (omega arith) (omega arith) ∙ ap (λ k. set_each 65536 k (λ i. get_or c.args.memory.now i 0) m) c.min-end.ensures)

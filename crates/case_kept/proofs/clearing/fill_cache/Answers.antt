@@ -1,41 +1,12 @@
-use Prim.Native.Nat.{ℕ, ◌+◌}
-use mathlib.Core.List.{List}
-use Rattle.case_kept.specs.Clearing.{set_each}
-use native.Mathlib.Nat.{zero-add}
-use lib.ListN.{get_or}
-use Rattle.case_kept.specs.ClearingLaws.{set_none, set_more, get_behind}
 use native.Mathlib.Omega.{arith}
-use mathlib.Core.Path.{◌≡◌, sym, ap, ◌∙◌}
+use Prim.Native.Nat.{◌+◌}
+use mathlib.Core.Path.{ap, ◌∙◌}
+use lib.ListN.{get_or}
+use Rattle.case_kept.specs.Clearing.{set_each}
+use Rattle.case_kept.specs.ClearingLaws.{copied_in_front}
 use Rattle.case_kept.proofs.clearing.fill_cache.Goals as goal
 
-pub loop-i-init : goal.loop-i-init
-loop-i-init c = (omega arith, set_none _ _ _)
-
-pub overflow_add-cache : goal.overflow_add-cache
-overflow_add-cache c = omega (arith, c.least-end.ensures.1)
-
-pub bounds-cache-i : goal.bounds-cache-i
-bounds-cache-i c = omega (arith, c.least-end.ensures.1)
-
-pub bounds-cache-i-in-loop-i : goal.bounds-cache-i-in-loop-i
-bounds-cache-i-in-loop-i c = omega (arith, c.least-end.ensures.1)
-
-pub overflow_add-i : goal.overflow_add-i
-overflow_add-i c = omega (arith, c.least-end.ensures.1)
-
-pub loop-i-smaller : goal.loop-i-smaller
-loop-i-smaller c = omega arith
-
-pub loop-i-preserved : goal.loop-i-preserved
-loop-i-preserved c = let l = c.loop-i in
-    let m = c.args.cache.now in (
-      omega arith,
-      set_more 0 l.i l.i _ (λ (j : ℕ). get_or m (513 + j) 0) m l.cache (sym (zero-add l.i))
-          (ap (λ (k : List ℕ). get_or k (513 + l.i) 0) l.invariant.1 ∙ get_behind 0 l.i (λ (j : ℕ). get_or m (513 + j) 0) m (513 + l.i) (omega arith)) l.invariant.1,
-    )
-
 pub returns : goal.returns
-returns c = let l = c.loop-i in
+returns c = let s = c.split_at_mut-cache.ensures in
     let m = c.args.cache.now in
-    let e : l.i ≡ c.least-end.result = omega arith in
-    l.invariant.1 ∙ ap (λ (k : ℕ). set_each 0 k (λ (j : ℕ). get_or m (513 + j) 0) m) (e ∙ c.least-end.ensures.2)
+    rw (c.copy_from_slice.ensures.after, s.front, s.back) (copied_in_front 513 c.min-end.result m (omega arith) (omega arith) ∙ ap (λ k. set_each 0 k (λ i. get_or c.args.cache.now (513 + i) 0) m) c.min-end.ensures)

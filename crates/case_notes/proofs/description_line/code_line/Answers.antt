@@ -1,32 +1,27 @@
 use native.Mathlib.Omega.{arith}
-use mathlib.Core.Path.{refl}
-use Rattle.case_notes.specs.DescriptionLineLaws.{append_none, append_some}
+use Rattle.std.proofs.Common.{rules, ◌≡◌, ◌+◌, ◌-◌, length}
+use Rattle.case_notes.specs.DescriptionLineLaws.{append_some, append_none}
 use Rattle.case_notes.proofs.description_line.code_line.Goals as goal
 
-pub loop-left-init : goal.loop-left-init
-loop-left-init c = refl
+pub loop-init : goal.loop-init
+loop-init c =
+    let e : length c.args.line.now - 0 ≡ length c.args.line.now = omega arith in
+    rw e
 
-pub overflow_sub-left : goal.overflow_sub-left
-overflow_sub-left c = omega arith
+pub returns-in_err-word : goal.returns-in_err-word
+returns-in_err-word c = rw (← c.loop.invariant, append_some (length c.args.line.now - c.loop.counter) _ _ _ _ (omega arith), ← c.code_entry.ensures, c.in_err-word.was) (search rules)
 
-pub returns-in-End : goal.returns-in-End
-returns-in-End c = let l = c.loop-left in
-    rw (← l.invariant, append_some l.left _ _ _ _ c.loop-left-test.true, ← c.code_entry.ensures, c.in-End.is)
+pub returns-in_default : goal.returns-in_default
+returns-in_default c = rw (← c.loop.invariant, append_some (length c.args.line.now - c.loop.counter) _ _ _ _ (omega arith), ← c.code_entry.ensures, c.in_ok-word.was, c.in_default.is)
 
-pub returns-in-Mistake : goal.returns-in-Mistake
-returns-in-Mistake c = let l = c.loop-left in
-    rw (← l.invariant, append_some l.left _ _ _ _ c.loop-left-test.true, ← c.code_entry.ensures, c.in-Mistake.is)
+pub returns-in_err-append_word : goal.returns-in_err-append_word
+returns-in_err-append_word c =
+    rw (← c.loop.invariant, append_some (length c.args.line.now - c.loop.counter) _ _ _ _ (omega arith), ← c.code_entry.ensures, c.in_ok-word.was, c.in-Some.is, ← c.append_word.ensures, c.in_err-append_word.was) (search rules)
 
-pub returns-in-Mistake-append_word : goal.returns-in-Mistake-append_word
-returns-in-Mistake-append_word c = let l = c.loop-left in
-    rw (← l.invariant, append_some l.left _ _ _ _ c.loop-left-test.true, ← c.code_entry.ensures, c.in-Word.is, ← c.append_word.ensures, c.in-Mistake-append_word.is)
-
-pub loop-left-smaller : goal.loop-left-smaller
-loop-left-smaller c = omega arith
-
-pub loop-left-preserved : goal.loop-left-preserved
-loop-left-preserved c = let l = c.loop-left in
-    rw (← l.invariant, append_some l.left _ _ _ _ c.loop-left-test.true, ← c.code_entry.ensures, c.in-Word.is, ← c.append_word.ensures, c.in_default.is)
+pub loop-preserved : goal.loop-preserved
+loop-preserved c =
+    let left : length c.args.line.now - (c.loop.counter + 1) ≡ length c.args.line.now - c.loop.counter - 1 = omega arith in
+    rw (← c.loop.invariant, left, append_some (length c.args.line.now - c.loop.counter) _ _ _ _ (omega arith), ← c.code_entry.ensures, c.in_ok-word.was, c.in-Some.is, ← c.append_word.ensures, c.in_ok-append_word.was)
 
 pub returns : goal.returns
-returns c = let l = c.loop-left in rw (← l.invariant, append_none l.left _ _ _ _ c.loop-left-test.false)
+returns c = rw (← c.loop.invariant, append_none (length c.args.line.now - c.loop.counter) _ _ _ _ (omega arith))

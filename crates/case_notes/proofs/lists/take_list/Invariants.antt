@@ -1,10 +1,7 @@
-use lib.ListN.{length}
+use Prim.Native.Nat.{◌-◌}
 use mathlib.Core.Path.{◌≡◌}
-use Rattle.case_notes.specs.Lists.{take_from}
+use Rattle.case_notes.specs.Lists.{take_from, taken}
 use Rattle.case_notes.proofs.lists.take_list.Given as goal
 
-abbrev pub invariant-loop-left : goal.invariant-loop-left
-invariant-loop-left l = take_from l.l l.left l.line l.at l.kept ≡ take_from l.l (length l.line) l.line l.list l.initial.kept
-
-abbrev pub decreases-loop-left : goal.decreases-loop-left
-decreases-loop-left l = l.left
+abbrev pub invariant-loop : goal.invariant-loop
+invariant-loop l = take_from l.l (l.end - l.counter) l.line l.at l.kept ≡ taken l.l l.line l.list l.initial.kept

@@ -1,28 +1,23 @@
-use Rattle.case_notes.specs.MarkingLaws.{mark_none, mark_some}
 use native.Mathlib.Omega.{arith}
-use mathlib.Core.Path.{refl}
+use Rattle.std.proofs.Common.{rules, ◌≡◌, ◌+◌, ◌-◌, length}
+use Rattle.case_notes.specs.MarkingLaws.{mark_some, mark_none}
 use Rattle.case_notes.proofs.marked.mark_items.Goals as goal
 
-pub loop-left-init : goal.loop-left-init
-loop-left-init c = refl
+pub loop-init : goal.loop-init
+loop-init c =
+    let e : length c.args.line.now - 0 ≡ length c.args.line.now = omega arith in
+    rw e
 
-pub overflow_sub-left : goal.overflow_sub-left
-overflow_sub-left c = omega arith
+pub returns-in_err-item : goal.returns-in_err-item
+returns-in_err-item c = rw (← c.loop.invariant, mark_some (length c.args.line.now - c.loop.counter) _ _ _ (omega arith), ← c.private_entry.ensures, c.in_err-item.was) (search rules)
 
-pub returns-in-End : goal.returns-in-End
-returns-in-End c = let l = c.loop-left in
-    rw (← l.invariant, mark_some l.left _ _ _ c.loop-left-test.true, ← c.private_entry.ensures, c.in-End.is)
+pub returns-in_default : goal.returns-in_default
+returns-in_default c = rw (← c.loop.invariant, mark_some (length c.args.line.now - c.loop.counter) _ _ _ (omega arith), ← c.private_entry.ensures, c.in_ok-item.was, c.in_default.is)
 
-pub returns-in-Mistake : goal.returns-in-Mistake
-returns-in-Mistake c = let l = c.loop-left in
-    rw (← l.invariant, mark_some l.left _ _ _ c.loop-left-test.true, ← c.private_entry.ensures, c.in-Mistake.is)
-
-pub loop-left-smaller : goal.loop-left-smaller
-loop-left-smaller c = omega arith
-
-pub loop-left-preserved : goal.loop-left-preserved
-loop-left-preserved c = let l = c.loop-left in
-    rw (← l.invariant, mark_some l.left _ _ _ c.loop-left-test.true, ← c.private_entry.ensures, c.in-Item.is, c.mark.ensures)
+pub loop-preserved : goal.loop-preserved
+loop-preserved c =
+    let left : length c.args.line.now - (c.loop.counter + 1) ≡ length c.args.line.now - c.loop.counter - 1 = omega arith in
+    rw (← c.loop.invariant, left, mark_some (length c.args.line.now - c.loop.counter) _ _ _ (omega arith), ← c.private_entry.ensures, c.in_ok-item.was, c.in-Some.is, c.mark.ensures)
 
 pub returns : goal.returns
-returns c = let l = c.loop-left in rw (← l.invariant, mark_none l.left _ _ _ c.loop-left-test.false)
+returns c = rw (← c.loop.invariant, mark_none (length c.args.line.now - c.loop.counter) _ _ _ (omega arith))

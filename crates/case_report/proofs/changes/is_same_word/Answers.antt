@@ -1,7 +1,8 @@
 use native.Mathlib.Omega.{arith}
-use Prim.Native.Nat.{◌*◌}
-use mathlib.Core.Path.{refl}
-use lib.ListN.{length}
+use Prim.Native.Nat.{◌-◌, ◌*◌}
+use mathlib.Core.Path.{refl, ◌∙◌}
+use lib.ListN.{length, take, drop}
+use Rattle.text.specs.FieldLaws.{same_pointwise}
 use Rattle.case_report.specs.ChangesLaws.{same_four, last_word}
 use Rattle.case_report.proofs.changes.is_same_word.Goals as goal
 
@@ -9,7 +10,9 @@ pub returns-then-after-a-lt4 : goal.returns-then-after-a-lt4
 returns-then-after-a-lt4 c = let a = c.args in
     let e = last_word a.after.now (length a.after.now) a.k refl c.if-after-a-lt4.true in
     let f = last_word a.before.now (length a.before.now) a.k refl (omega (arith, c.requires.1, c.if-after-a-lt4.true)) in
-    rw (e, f) at c.same.ensures
+    c.eq.ensures
+    ∙ same_pointwise (take (length a.after.now - 4 * a.k) (drop (4 * a.k) a.after.now)) (take (length a.before.now - 4 * a.k) (drop (4 * a.k) a.before.now))
+    ∙ rw (e, f)
 
 pub returns : goal.returns
 returns c = let a = c.args in

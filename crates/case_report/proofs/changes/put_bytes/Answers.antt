@@ -1,9 +1,6 @@
-use Rattle.text.specs.PageLaws.{leaves_all, leaves_less, leaves_none}
+use Rattle.text.specs.PageLaws.{leaves_less, leaves_none}
 use Rattle.case_report.specs.ChangesLaws.{bytes_more, bytes_over}
 use Rattle.case_report.proofs.changes.put_bytes.Goals as goal
-
-pub loop-b-init : goal.loop-b-init
-loop-b-init c = leaves_all _ _
 
 pub loop-b-preserved : goal.loop-b-preserved
 loop-b-preserved c = let l = c.loop-b in

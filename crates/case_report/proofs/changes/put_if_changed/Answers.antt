@@ -1,13 +1,7 @@
 use Rattle.std.specs.Prelude.{ℕ, ◌+◌, ◌*◌}
 use Rattle.std.proofs.Common.{ap, sym, ◌∙◌}
-use Rattle.case_report.specs.Changes.{change_at}
 use Rattle.case_report.specs.ChangesLaws.{changed_text}
-use Rattle.text.specs.PageLaws.{puts_none}
 use Rattle.case_report.proofs.changes.put_if_changed.Goals as goal
-
-pub returns-then-is_same_word : goal.returns-then-is_same_word
-unfolding change_at
-returns-then-is_same_word c = rw (← c.is_same_word.ensures, c.if-is_same_word.true) (puts_none _)
 
 pub returns : goal.returns
 returns c = let a = c.args in

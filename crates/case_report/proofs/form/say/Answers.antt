@@ -1,10 +1,7 @@
 use Rattle.std.proofs.Common.{arith}
-use Rattle.text.specs.PageLaws.{leaves_all, leaves_less, leaves_none}
+use Rattle.text.specs.PageLaws.{leaves_less, leaves_none}
 use Rattle.case_report.specs.FormLaws.{fill_more, fill_over}
 use Rattle.case_report.proofs.form.say.Goals as goal
-
-pub loop-b-init : goal.loop-b-init
-loop-b-init c = record { near = omega arith; left = leaves_all _ _ }
 
 pub loop-b-preserved : goal.loop-b-preserved
 loop-b-preserved c = let l = c.loop-b in record {

@@ -45,4 +45,4 @@ returns c =
     let l = buffers a.main.now a.local.now a.cache.now in
     let yes : admits (lent x l) ≡ true = cc in
     let built = nothing_refused x l a.entry yes (c.if-not-inside.false) in
-    record { opened = (λ i. open_of accepted (c.fresh.ensures.0 i) (c.clear.ensures i)) ∙ sym built; fixed = c.fresh.ensures.1 }
+    record { opened = (λ i. open_of accepted (c.fresh.ensures.0 i) (c.fill.ensures.after (λ y e. e) i)) ∙ sym built; fixed = c.fresh.ensures.1 }

@@ -1,4 +1,3 @@
-use Prim.Native.Nat.{◌≤◌}
 use mathlib.Core.Path.{◌≡◌}
 use mathlib.Core.List.{[]}
 use lib.ListN.{length, drop}
@@ -6,7 +5,4 @@ use Rattle.text.specs.Number.{hex_before}
 use Rattle.text.proofs.digits.put_hex.Given as goal
 
 abbrev pub invariant-loop-at : goal.invariant-loop-at
-invariant-loop-at l = (l.at ≤ length l.out) × (length l.out ≡ length l.initial.out) × (hex_before l.at l.rest (drop l.at l.out) ≡ hex_before (length l.initial.out) l.n [])
-
-abbrev pub decreases-loop-at : goal.decreases-loop-at
-decreases-loop-at l = l.at
+invariant-loop-at l = hex_before l.at l.rest (drop l.at l.out) ≡ hex_before (length l.initial.out) l.n []

@@ -1,27 +1,14 @@
-use native.Mathlib.Omega.{arith}
-use mathlib.Core.Path.{refl, sym, ◌∙◌}
-use Rattle.text.specs.FieldLaws.{names_step, names_stop, names_end}
+use Rattle.std.proofs.Common.{refl, ◌∙◌, ◌&&◌, rules, tests}
+use Rattle.std.specs.List.{list_all}
+use Rattle.std.proofs.lemmas.Iterator.{YieldsList-from_slice}
+use Rattle.std.proofs.lemmas.Iterator.Search.{all_from_yields_List}
+use Rattle.std.proofs.lemmas.List.Recursion.{same_from_clauses}
+use Rattle.text.specs.Field.{is_name_byte, are_name_bytes}
 use Rattle.text.proofs.fields.are_name_bytes.Goals as goal
 
-pub loop-i-init : goal.loop-i-init
-loop-i-init c = (omega arith, refl)
-
-pub bounds-s-i : goal.bounds-s-i
-bounds-s-i c = omega arith
-
-pub returns-then-not-is_name_byte : goal.returns-then-not-is_name_byte
-returns-then-not-is_name_byte c = let l = c.loop-i in
-    names_stop _ l.i c.loop-i-test.true (sym c.is_name_byte.ensures ∙ c.if-not-is_name_byte.true) ∙ l.invariant.1
-
-pub overflow_add-i : goal.overflow_add-i
-overflow_add-i c = omega arith
-
-pub loop-i-smaller : goal.loop-i-smaller
-loop-i-smaller c = omega arith
-
-pub loop-i-preserved : goal.loop-i-preserved
-loop-i-preserved c = let l = c.loop-i in
-    (omega arith, names_step _ l.i c.loop-i-test.true (sym c.is_name_byte.ensures ∙ c.if-not-is_name_byte.false) ∙ l.invariant.1)
-
 pub returns : goal.returns
-returns c = let l = c.loop-i in names_end _ l.i c.loop-i-test.false ∙ l.invariant.1
+unfolding are_name_bytes
+returns c =
+    let s = c.args.s.now in
+    all_from_yields_List is_name_byte _ _ _ c.all.ensures.ran (YieldsList-from_slice s cc) (λ x b q k. search (rules, tests))
+    ∙ same_from_clauses (list_all is_name_byte) are_name_bytes (λ b r. is_name_byte b && r) refl (λ _ _. refl) (λ _ _. refl) s

@@ -1,11 +1,11 @@
-use borrow.Author.Tests.{eq-eqb, ne_eqb}
+use mathlib.Core.Path.{sym, ◌∙◌}
 use Rattle.text.specs.Number.{decimal_of}
 use Rattle.text.proofs.numbers.decimal.Goals as goal
 
-pub returns-then-s-eq0 : goal.returns-then-s-eq0
+pub returns-then-is_empty : goal.returns-then-is_empty
 unfolding decimal_of
-returns-then-s-eq0 c = rw (eq-eqb _ _ c.if-s-eq0.true)
+returns-then-is_empty c = rw (sym c.is_empty.ensures ∙ c.if-is_empty.true)
 
 pub returns : goal.returns
 unfolding decimal_of
-returns c = rw (ne_eqb _ _ c.if-s-eq0.false) c.digits.ensures
+returns c = rw (sym c.is_empty.ensures ∙ c.if-is_empty.false) c.digits.ensures

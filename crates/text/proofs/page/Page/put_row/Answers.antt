@@ -1,5 +1,5 @@
-use Rattle.std.proofs.Common.{sym, arith}
-use Rattle.text.specs.PageLaws.{leaves_all, leaves_less, leaves_equal, leaves_none}
+use Rattle.std.proofs.Common.{sym}
+use Rattle.text.specs.PageLaws.{leaves_less, leaves_equal, leaves_none}
 use Rattle.text.specs.TableLaws.{row_over, row_ends, row_next, row_more, row_past}
 use Rattle.text.proofs.page.Page.put_row.Goals as goal
 use Rattle.text.proofs.page.Page.put_row.Goals.{then-b-eq10+else-left-eq0, else-b-eq10+then-left-eq0-2, else-b-eq10+else-left-eq0-2}

@@ -1,7 +1,0 @@
-use Rattle.case_file.proofs.lines.list_line.Goals as goal
-
-pub returns-then-ended : goal.returns-then-ended
-returns-then-ended c = rw (← c.ended.ensures, c.if-ended.true)
-
-pub returns : goal.returns
-returns c = rw (← c.ended.ensures, c.if-ended.false)
