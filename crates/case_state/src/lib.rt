@@ -1,8 +1,9 @@
 // Parts of a state among the kept numbers of a case.
 #![tactic(auto)]
 
-ghost use Rattle.std.specs.Prelude.{◌≡◌, ◌<◌};
+ghost use Rattle.std.specs.Prelude.{◌≡◌, ◌+◌, ◌<◌, ◌≤◌};
 ghost use Rattle.case_kept.specs.Indices.{ALL};
+ghost use Rattle.case_kept.specs.Kept.{kept_words};
 ghost use Rattle.case_state.specs.KeptState.{registers_of, specials_of, list_of, with_words, with_predicates, transfer_with, transfer_of, load_of, with_target, with_waiting, with_waiting_load, product_of, wait_behind, products_of, with_products, held_of, with_held};
 
 use alu_effects::Specials;
@@ -15,17 +16,23 @@ use core_state::{WaitingLoad, WaitingTransfer};
 use effects::Transfer;
 use products::{Product, Products};
 
+// So many words from an index on.
+fn words_of<const N: usize>(kept: &Kept, first: usize) -> [u32; N]
+    requires { first + N ≤ ALL }
+    ensures { result ≡ kept_words N kept.now first }
+{
+    let mut words = [0u32; N];
+    for i in 0..N {
+        words[i] = word(kept, first + i);
+    }
+    words
+}
+
 // All 32 registers.
 pub fn registers_of(kept: &Kept) -> [u32; 32]
     ensures { result ≡ registers_of kept.now }
 {
-    let mut registers = [0u32; 32];
-    let mut i = 0;
-    while i < 32 {
-        registers[i] = word(kept, REGISTERS + i);
-        i += 1;
-    }
-    registers
+    words_of(kept, REGISTERS)
 }
 
 pub fn specials_of(kept: &Kept) -> Specials
@@ -47,23 +54,15 @@ pub fn specials_of(kept: &Kept) -> Specials
 pub fn held_of(kept: &Kept) -> [u32; 17]
     ensures { result ≡ held_of kept.now }
 {
-    let mut held = [0u32; 17];
-    let mut i = 0;
-    while i < 17 {
-        held[i] = word(kept, HELD + i);
-        i += 1;
-    }
-    held
+    words_of(kept, HELD)
 }
 
 // Words, as registers or special registers, from an index on.
 pub fn keep_words(kept: &mut Kept, first: usize, words: &[u32])
     ensures { kept.new ≡ with_words kept.old first words.now }
 {
-    let mut i = 0;
-    while i < words.len() {
-        keep_after(&mut *kept, first, i, words[i] as u64);
-        i += 1;
+    for (i, w) in words.iter().enumerate() {
+        keep_after(&mut *kept, first, i, u64::from(*w));
     }
 }
 
@@ -76,10 +75,8 @@ pub fn keep_held(kept: &mut Kept, held: [u32; 17])
 pub fn keep_predicates(kept: &mut Kept, predicates: [bool; 8])
     ensures { kept.new ≡ with_predicates kept.old predicates }
 {
-    let mut i = 0;
-    while i < 8 {
+    for i in 0..8 {
         keep_flag(&mut *kept, PREDICATES + i, predicates[i]);
-        i += 1;
     }
 }
 

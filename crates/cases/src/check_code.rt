@@ -1,7 +1,7 @@
 // The check of a case's code under its marking.
 use crate::kept_state::config_of;
 use answers::Refusal;
-use case_kept::buffers::{Bytes, least};
+use case_kept::buffers::Bytes;
 use case_kept::extent::extents_of;
 use case_kept::kept::Kept;
 use case_notes::marked::marking_of;
@@ -50,7 +50,7 @@ fn put_checked(page: &mut Page, c: Checked) {
 
 pub(crate) fn do_check(code: &Bytes, kept: &Kept, page: &mut Page) {
     let e = extents_of(kept);
-    let n = least(e.code, 65536);
+    let n = e.code.min(65536);
     let config = config_of(e, kept);
     let bytes = &code[..];
     let c = single_path::check(

@@ -1,17 +1,15 @@
 // Lines of the file, one after the other. What a line has to report is put on a page, which is written out before the next line is read.
 use crate::check_code::do_check;
-use crate::kinds::{kind_in, kind_of, reason};
+use crate::kinds::{read_kind, reason};
 use crate::opening::{judge_places, open_case, start_case};
 use crate::operation::do_operation;
 use crate::resuming::{do_resume, do_save};
 use crate::writing::{do_list, do_write};
 use crate::{Asked, Kind, Shown};
-use case_file::lines::read_line;
-use case_file::{Line, Reason};
+use case_file::Reason;
 use case_input::{Found, look, no_input};
-use case_kept::buffers::{Bytes, Cache, LineBytes, Memory, Report, least};
+use case_kept::buffers::{Bytes, Cache, LineBytes, Memory, Report};
 use case_kept::kept::{Kept, LINE, OPEN, PHASE, STOPPED};
-use case_notes::Judged;
 use case_notes::description_line::describe;
 use case_report::mistake::fail;
 use case_report::output::{say_failure, write_out};
@@ -64,10 +62,10 @@ fn showing_line(shown: Shown, code: &Bytes, kept: &mut Kept, page: &mut Page) {
 }
 
 // What came of a line of the case's description.
-fn described(j: Judged, kept: &mut Kept, page: &mut Page) {
-    match j {
-        Judged::Fine => {}
-        Judged::Mistake(r) => fail_here(kept, r, page),
+fn described(judged: Result<(), Reason>, kept: &mut Kept, page: &mut Page) {
+    match judged {
+        Ok(()) => {}
+        Err(r) => fail_here(kept, r, page),
     }
 }
 
@@ -82,14 +80,15 @@ fn take_line(
     page: &mut Page,
 ) {
     kept[LINE] = wrapping_add_u64(kept[LINE], 1);
-    let said = read_line(line);
-    match kind_in(kept[PHASE], kind_of(said, line)) {
-        Kind::Empty => {}
-        Kind::Mistake(r) => fail_here(kept, reason(line, r), page),
-        Kind::Start(name) => start_case(line, name, main, local, cache, kept, page),
-        Kind::Show(shown) => showing_line(shown, code, kept, page),
-        Kind::Operation(asked) => operation_line(asked, code, main, local, cache, kept, page),
-        Kind::Description => described(
+    match read_kind(kept[PHASE], line) {
+        Err(r) => fail_here(kept, reason(line, r), page),
+        Ok(Kind::Empty) => {}
+        Ok(Kind::Start(name)) => start_case(line, name, main, local, cache, kept, page),
+        Ok(Kind::Show(shown)) => showing_line(shown, code, kept, page),
+        Ok(Kind::Operation(asked)) => {
+            operation_line(asked, code, main, local, cache, kept, page)
+        }
+        Ok(Kind::Description(said)) => described(
             describe(said, line, code, main, local, cache, kept),
             kept,
             page,
@@ -122,7 +121,7 @@ fn take(
 ) {
     match found {
         Found::Line(n) => {
-            let end = least(n, 4000);
+            let end = n.min(4000);
             let bytes = &line[..];
             take_line(&bytes[0..end], code, main, local, cache, kept, page)
         }

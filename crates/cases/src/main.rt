@@ -12,7 +12,7 @@ mod operation;
 mod resuming;
 mod writing;
 
-use case_file::{Reason, Resumption, Room};
+use case_file::{Line, Resumption, Room};
 use case_report::output::say_failure;
 use encoder::Written;
 use lines::read_all;
@@ -44,11 +44,10 @@ enum Shown {
 #[derive(Clone, Copy)]
 enum Kind {
     Empty,
-    Mistake(Reason),
     Start(usize),
     Operation(Asked),
     Show(Shown),
-    Description,
+    Description(Line),
 }
 
 // All buffers stand in this frame.

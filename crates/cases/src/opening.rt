@@ -10,7 +10,7 @@ use case_kept::kept::{
     BASE, DESCRIBED, ENTRY, FETCH, JUDGED, Kept, LOCAL, MAIN, OPEN, PHASE, REFUSED, SPECIALS,
     forget_case, keep_word, number, word,
 };
-use case_kept::places::{Outside, Store, first_outside, reach_index};
+use case_kept::places::{Store, first_outside, reach_index};
 use case_notes::description::is_given;
 use case_report::form::say;
 use case_report::mistake::fail;
@@ -90,10 +90,8 @@ fn keep_built(kept: &mut Kept, index: usize, w: u32) {
 }
 
 fn keep_built_specials(kept: &mut Kept, specials: [u32; 8]) {
-    let mut i = 0;
-    while i < 8 {
-        keep_built(kept, SPECIALS + i, specials[i]);
-        i += 1;
+    for (i, w) in specials.iter().enumerate() {
+        keep_built(kept, SPECIALS + i, *w);
     }
 }
 
@@ -144,8 +142,8 @@ pub(crate) fn judge_places(kept: &mut Kept, page: &mut Page) {
         return;
     }
     match first_outside(kept) {
-        Outside::Line(n) => fail(page, kept, n, Reason::PlaceOutside),
-        Outside::Nowhere => kept[PHASE] = JUDGED,
+        Some(n) => fail(page, kept, n, Reason::PlaceOutside),
+        None => kept[PHASE] = JUDGED,
     }
 }
 

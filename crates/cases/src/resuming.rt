@@ -6,7 +6,7 @@ use crate::kept_state::{config_of, counts_of, state_of};
 use crate::operation::report_changes;
 use bundle_model::Counts;
 use case_file::{Resumption, Room};
-use case_kept::buffers::{Bytes, Cache, Memory, RECORD_ROOM, Record, least};
+use case_kept::buffers::{Bytes, Cache, Memory, RECORD_ROOM, Record};
 use case_kept::extent::extents_of;
 use case_kept::kept::{Kept, METHOD, is_set};
 use case_notes::record::{lay_record, record_length};
@@ -25,7 +25,7 @@ fn save(cache: &Cache, kept: &Kept, bytes: &mut Record) -> usize {
 }
 
 fn put_saved(page: &mut Page, bytes: &Record, length: usize) {
-    let n = least(length, RECORD_ROOM);
+    let n = length.min(RECORD_ROOM);
     let all = &bytes[..];
     say(page, b"save %\n", &[(n / 4) as u64]);
     put_record(page, &all[0..n]);
@@ -42,8 +42,8 @@ fn room_of(room: Room, words: usize) -> usize
     ensures { result ≤ 8192 }
 {
     match room {
-        Room::Longest => least(record::writing::longest(words), RECORD_ROOM),
-        Room::Bytes(n) => least(n as usize, RECORD_ROOM),
+        Room::Longest => record::writing::longest(words).min(RECORD_ROOM),
+        Room::Bytes(n) => (n as usize).min(RECORD_ROOM),
     }
 }
 
@@ -164,8 +164,8 @@ fn put_resumed(
 ) {
     let answer = r.answer;
     let counts = r.counts;
-    let end = least(room, RECORD_ROOM);
-    let n = least(r.written, end);
+    let end = room.min(RECORD_ROOM);
+    let n = r.written.min(end);
     let all = &bytes[..];
     put_reply(page, row_of(asked), answer);
     put_counted(page, counts, method, n);

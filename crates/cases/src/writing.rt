@@ -1,6 +1,6 @@
 // Words written for a bundle, and the listing of a case's code. A line of a listing has at most 55 bytes for each word, so that the
 // listing of the longest code fits the report's buffer.
-use case_kept::buffers::{Bytes, least};
+use case_kept::buffers::Bytes;
 use case_kept::extent::extents_of;
 use case_kept::kept::Kept;
 use encoder::Written;
@@ -15,7 +15,7 @@ pub(crate) fn do_write(w: Written, page: &mut Page) {
 
 pub(crate) fn do_list(code: &Bytes, kept: &Kept, page: &mut Page) {
     let e = extents_of(kept);
-    let n = least(e.code, 65536);
+    let n = e.code.min(65536);
     let bytes = &code[..];
     put_list(page, &bytes[0..n]);
 }

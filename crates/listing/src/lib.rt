@@ -125,7 +125,7 @@ fn following(code: &[u8], address: u32) -> u32
     address + 8
 }
 
-// The listing. Its lines are numbered, as a proved loop has to end. Their number is such that no address passes 32 bits, however long the
+// The listing. A proved loop has to end, so it is one over a range. Their number is such that no address passes 32 bits, however long the
 // code is.
 pub fn put_list(page: &mut Page, code: &[u8])
     ensures { Puts page.old page.new (list_text code.now) }

@@ -21,7 +21,8 @@ fn copy_words(part: &[u8], to: &mut [u32])
     requires { length (words_in part.now) ≤ length to.old }
     ensures { to.new ≡ over to.old (words_in part.now) }
 {
-    for i in 0..part.len() / 4 {
+    let n = part.len() / 4;
+    for i in 0..n {
         to[i] = word_at(part, i);
     }
 }

@@ -12,8 +12,6 @@ use state::State;
 use std::env::FillError;
 use std::io::{Result, Write};
 use std::rt::Env;
-use text::Number;
-use text::fields::same;
 use text::numbers::decimal;
 
 // What is handed in beside the workload's name, and what belongs to the workload: its entry, its method cache, and how many interrupts are
@@ -30,11 +28,9 @@ pub struct Setting {
 
 fn put_code(code: &mut [u8], words: &[u32]) {
     let mut at: u32 = 0;
-    let mut i = 0;
-    while i < words.len() {
-        big_endian::write_word(&mut *code, at, words[i]);
+    for w in words {
+        big_endian::write_word(&mut *code, at, *w);
         at = std::num::wrapping_add_u32(at, 4);
-        i += 1;
     }
 }
 
@@ -48,27 +44,23 @@ pub type List = [u8; 1048576];
 fn put_list(list: &mut List, records: u32) {
     let mut number: u32 = 0;
     let mut at: u32 = 0;
-    let mut i: u32 = 0;
-    while i < records {
+    for i in 0..records {
         number = std::num::wrapping_add_u32(number, 100);
         big_endian::write_word(&mut *list, at, number);
         big_endian::write_word(&mut *list, std::num::wrapping_add_u32(at, 4), 1 + i % 2);
         at = std::num::wrapping_add_u32(at, 8);
-        i += 1;
     }
 }
 
 // The registers in one number: each is exclusive-ored to what came before, turned left by one bit.
 fn checksum(registers: [u32; 32]) -> u32 {
     let mut sum: u32 = 0;
-    let mut i = 0;
-    while i < 32 {
+    for register in registers.iter() {
         let turned = word::bits::or(
             word::bits::shift_left(sum, 1),
             word::bits::shift_right(sum, 31),
         );
-        sum = word::bits::xor(turned, registers[i]);
-        i += 1;
+        sum = word::bits::xor(turned, *register);
     }
     sum
 }
@@ -94,12 +86,6 @@ fn print_ran(rt: &HostRuntime, r: Ran, on: bool) -> Result<()> {
         print!(rt; " misses {} fetched {}", counts.misses, counts.fetched)?;
     }
     println!(rt; " checksum {:08x}", checksum(registers))
-}
-
-fn least(a: usize, b: usize) -> usize
-    ensures { result ≤ b }
-{
-    if a < b { a } else { b }
 }
 
 // A workload run on what is lent. The stack area is the upper half of main memory.
@@ -153,9 +139,9 @@ fn cut(
     local: &mut [u8],
     cache: &mut [u32],
 ) -> Result<()> {
-    let n = least(words.len(), code.len() / 4) * 4;
-    let m = least(s.main as usize, main.len());
-    let w = least(s.words as usize, cache.len());
+    let n = words.len().min(code.len() / 4) * 4;
+    let m = (s.main as usize).min(main.len());
+    let w = (s.words as usize).min(cache.len());
     run_workload(
         rt,
         s,
@@ -190,7 +176,7 @@ fn measure_on(rt: &HostRuntime, name: &str, words: &[u32], s: Setting, list: &[u
 }
 
 fn cut_list(rt: &HostRuntime, name: &str, words: &[u32], s: Setting, list: &List) -> Result<()> {
-    let r = least(s.records as usize * 8, 1048576);
+    let r = (s.records as usize * 8).min(1048576);
     let all = &list[..];
     measure_on(rt, name, words, s, &all[0..r])
 }
@@ -212,10 +198,7 @@ fn put_argument(rt: &HostRuntime, i: usize, text: &mut Text) -> usize
 fn argument(rt: &HostRuntime, i: usize) -> u32 {
     let mut text = [0u8; 4096];
     let n = put_argument(rt, i, &mut text);
-    match decimal(&text[..n]) {
-        Number::Value(v) => v,
-        Number::Bad => 0,
-    }
+    decimal(&text[..n]).unwrap_or(0)
 }
 
 // Whether there is a word of the command line.
@@ -226,35 +209,27 @@ fn has_argument(rt: &HostRuntime, i: usize) -> bool {
 
 // Whether a workload is asked for, by its name or with all.
 fn wanted(asked: &[u8], name: &str) -> bool {
-    same(asked, b"all") | same(asked, name.as_bytes())
+    (asked == b"all".as_slice()) | (asked == name.as_bytes())
 }
 
 // The same with a method cache of four blocks and 96 bytes, and an entry behind the first block's size.
 fn with_method(s: Setting) -> Setting {
     Setting {
-        budget: s.budget,
-        main: s.main,
-        words: s.words,
         entry: 4,
         method: Method {
             on: true,
             blocks: 4,
             bytes: 96,
         },
-        records: 0,
+        ..s
     }
 }
 
 // The same with an interrupt every hundred bundles.
 fn with_interrupts(s: Setting) -> Setting {
-    let method = s.method;
     Setting {
-        budget: s.budget,
-        main: s.main,
-        words: s.words,
-        entry: s.entry,
-        method,
         records: 131072,
+        ..s
     }
 }
 

@@ -9,6 +9,6 @@ use native.Mathlib.Omega.{arith}
 use mathlib.Core.Path.{◌≡◌, refl, sym, ap, ◌∙◌}
 use Rattle.record.proofs.putting.put_section.Given as goal
 
-abbrev pub invariant-loop-i : goal.invariant-loop-i
-invariant-loop-i l =
-    (l.i ≤ length l.words) × (l.next ≡ l.initial.next + 4 * l.i) × (length l.out ≡ length l.initial.out) × (put_words l.out l.next (drop l.i l.words) ≡ put_words l.initial.out l.initial.next l.words)
+abbrev pub invariant-loop-word : goal.invariant-loop-word
+invariant-loop-word l =
+    (l.word-index ≤ length l.words) × (l.next ≡ l.initial.next + 4 * l.word-index) × (length l.out ≡ length l.initial.out) × (put_words l.out l.next (drop l.word-index l.words) ≡ put_words l.initial.out l.initial.next l.words)

@@ -1,8 +1,0 @@
-use Rattle.std.proofs.Common.{◌-◌, rules}
-use Rattle.cases.proofs.opening.keep_built_specials.Given as goal
-
-abbrev pub invariant-loop-i : goal.invariant-loop-i
-invariant-loop-i l = Unit {0}
-
-abbrev pub decreases-loop-i : goal.decreases-loop-i
-decreases-loop-i l = 8 - l.i
