@@ -215,33 +215,25 @@ fn beside(w: Option<u32>, v: Option<u32>) -> Written
 pub(crate) fn write_one(i: Instruction) -> Written
     ensures { result ≡ written (Bundle.One i) }
 {
-    let guard = i.guard;
-    let operation = i.operation;
-    alone(slot_word(0, guard, operation))
+    alone(slot_word(0, i.guard, i.operation))
 }
 
 // A bundle of two instructions.
 pub(crate) fn write_two(i: Instruction, j: AluInstruction) -> Written
     ensures { result ≡ written (Bundle.Two i j) }
 {
-    let guard = i.guard;
-    let operation = i.operation;
-    let second = j.guard;
-    let other = j.operation;
-    let w = slot_word(1, guard, operation);
-    beside(w, slot_word(0, second, Operation::Alu(other)))
+    let w = slot_word(1, i.guard, i.operation);
+    beside(w, slot_word(0, j.guard, Operation::Alu(j.operation)))
 }
 
 // A long immediate and its constant.
 pub(crate) fn write_long(i: Instruction) -> Written
     ensures { result ≡ written (Bundle.Long i) }
 {
-    let guard = i.guard;
-    let operation = i.operation;
-    let Some(a) = either_slot(operation) else {
+    let Some(a) = either_slot(i.operation) else {
         return Err(Refusal::NoWords);
     };
-    beside(long_in_format(guarded(guard), a), constant_of(a))
+    beside(long_in_format(guarded(i.guard), a), constant_of(a))
 }
 
 // The words of a bundle: 12 for a number that does not fit its field, and for a bundle that the slots do not allow.
