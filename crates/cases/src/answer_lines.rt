@@ -2,33 +2,16 @@
 use case_kept::buffers::Report;
 use case_report::form::say;
 use resume::Reply;
-use text::page::put_decimal;
-use text::table::put_row;
+use text::page::put;
 
-// The names of the operations, by their rows.
-pub(crate) const STEP: usize = 0;
-
-pub(crate) const RUN: usize = 1;
-
-pub(crate) const RESTEP: usize = 2;
-
-pub(crate) const RESUME: usize = 3;
-
-fn row_of(r: Reply) -> usize {
+// An operation by its name, and how it ended.
+pub(crate) fn put_reply(out: &mut Report, operation: &str, r: Reply) -> usize {
+    let used = put(&mut *out, 0, operation.as_bytes());
     match r {
-        Reply::Done => 0,
-        Reply::Ended => 1,
-        Reply::Spent => 2,
-        Reply::Refused(_) => 3,
-    }
-}
-
-pub(crate) fn put_reply(out: &mut Report, operation: usize, r: Reply) -> usize {
-    let a = put_row(&mut *out, 0, b"step \nrun \nrestep \nresume \n", operation);
-    let b = put_row(&mut *out, a, b"done\nended\nspent\nrefused \n", row_of(r));
-    match r {
-        Reply::Refused(n) => put_decimal(&mut *out, b, n as u64),
-        _ => b,
+        Reply::Done => put(&mut *out, used, b" done"),
+        Reply::Ended => put(&mut *out, used, b" ended"),
+        Reply::Spent => put(&mut *out, used, b" spent"),
+        Reply::Refused(n) => say(&mut *out, used, b" refused %", &[n as u64]),
     }
 }
 

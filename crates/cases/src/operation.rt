@@ -2,7 +2,7 @@
 ghost use Rattle.std.specs.Prelude.{◌≤◌, length};
 
 use crate::Asked;
-use crate::answer_lines::{RUN, STEP, put_counts, put_reply};
+use crate::answer_lines::{put_counts, put_reply};
 use crate::kept_state::{config_of, keep_counts, keep_far, keep_state, state_of};
 use bundle_model::Answer;
 use case_kept::buffers::{Bytes, Cache, Memory, Report};
@@ -139,16 +139,16 @@ fn replay_on(
     )
 }
 
-fn row_of(asked: Asked) -> usize {
+fn name_of(asked: Asked) -> &'static str {
     match asked {
-        Asked::Run(_) => RUN,
-        _ => STEP,
+        Asked::Run(_) => "run",
+        _ => "step",
     }
 }
 
 // The answer, and the counts, which are kept.
 fn put_outcome(out: &mut Report, asked: Asked, r: Reply, kept: &Kept) -> usize {
-    let used = put_reply(&mut *out, row_of(asked), r);
+    let used = put_reply(&mut *out, name_of(asked), r);
     let numbers = &kept[..];
     put_counts(
         &mut *out,
