@@ -2,7 +2,7 @@
 ghost use Rattle.std.specs.Prelude.{◌≤◌, length};
 
 use crate::Asked;
-use crate::answer_lines::{RUN, STEP, put_counts, put_reply};
+use crate::answer_lines::{put_counts, put_reply};
 use crate::kept_state::{config_of, keep_counts, keep_far, keep_state, state_of};
 use case_kept::buffers::{Bytes, Cache, Memory};
 use case_kept::clearing::{copy_cache, copy_memory};
@@ -120,16 +120,16 @@ fn replay_on(
     )
 }
 
-fn row_of(asked: Asked) -> usize {
+fn name_of(asked: Asked) -> &'static str {
     match asked {
-        Asked::Run(_) => RUN,
-        _ => STEP,
+        Asked::Run(_) => "run",
+        _ => "step",
     }
 }
 
 // The answer, and the counts, which are kept.
 fn put_outcome(page: &mut Page, asked: Asked, r: Reply, kept: &Kept) {
-    put_reply(page, row_of(asked), r);
+    put_reply(page, name_of(asked), r);
     let numbers = &kept[..];
     put_counts(page, &numbers[COUNTS..COUNTS + 6], is_set(kept, METHOD));
 }

@@ -1,7 +1,7 @@
 // The record of a case's state, and what goes on from the record that a case gives. Neither changes the case's own state or cache.
 ghost use Rattle.std.specs.Prelude.{◌≤◌, length};
 
-use crate::answer_lines::{RESTEP, RESUME, put_counts, put_reply};
+use crate::answer_lines::{put_counts, put_reply};
 use crate::kept_state::{config_of, counts_of, state_of};
 use crate::operation::report_changes;
 use bundle_model::Counts;
@@ -131,10 +131,10 @@ fn replay_from(
     )
 }
 
-fn row_of(asked: Resumption) -> usize {
+fn name_of(asked: Resumption) -> &'static str {
     match asked {
-        Resumption::Run(_) => RESUME,
-        Resumption::Step => RESTEP,
+        Resumption::Run(_) => "resume",
+        Resumption::Step => "restep",
     }
 }
 
@@ -167,7 +167,7 @@ fn put_resumed(
     let end = room.min(RECORD_ROOM);
     let n = r.written.min(end);
     let all = &bytes[..];
-    put_reply(page, row_of(asked), answer);
+    put_reply(page, name_of(asked), answer);
     put_counted(page, counts, method, n);
     put_record(page, &all[0..n]);
     put_rest(page, &all[n..end]);
