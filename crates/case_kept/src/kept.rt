@@ -219,6 +219,7 @@ pub fn keep_flag(kept: &mut Kept, index: usize, flag: bool)
 }
 
 // So many flags from an index on.
+#[tactic(auto, using(crate::specs::KeptLaws::from_fn_up_to, crate::specs::Kept::is_set, std::proofs::Common::rules))]
 pub fn flags_of<const N: usize>(kept: &Kept, first: usize) -> [bool; N]
     ensures { result ≡ kept_flags N kept.now first }
 {
