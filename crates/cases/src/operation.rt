@@ -1,10 +1,9 @@
 // Operations that go on from a state, on the parts of the buffers that a case has, and their reports.
 ghost use Rattle.std.specs.Prelude.{◌≤◌, length};
 
-use crate::answer_lines::{RUN, STEP, put_counts, put_reply};
+use crate::answer_lines::{put_counts, put_reply};
 use crate::kept_state::{config_of, keep_counts, keep_far, keep_state, state_of};
 use crate::{Asked, Case};
-use bundle_model::Answer;
 use case_kept::clearing::{copy_cache, copy_memory};
 use case_kept::extent::extents_of;
 use case_kept::kept::{COUNTS, Kept, METHOD, is_set};
@@ -12,26 +11,10 @@ use case_notes::replay::{lay_list, lay_table, list_length, table_length};
 use case_report::changes::put_changes;
 use case_report::state_lines::put_state;
 use resume::Reply;
-use run::{Ran, RunAnswer};
+use run::Ran;
 use settings::Config;
 use state::Stepped;
 use text::page::Page;
-
-fn step_reply(a: Answer) -> Reply {
-    match a {
-        Answer::Done => Reply::Done,
-        Answer::Ended => Reply::Ended,
-        Answer::Refused(refusal) => Reply::Refused(refusal),
-    }
-}
-
-fn run_reply(a: RunAnswer) -> Reply {
-    match a {
-        RunAnswer::Ended => Reply::Ended,
-        RunAnswer::Spent => Reply::Spent,
-        RunAnswer::Refused(refusal) => Reply::Refused(refusal),
-    }
-}
 
 // The state that is left is kept, and the counts.
 fn keep_step(r: Stepped, kept: &mut Kept) -> Reply {
@@ -42,7 +25,7 @@ fn keep_step(r: Stepped, kept: &mut Kept) -> Reply {
     keep_state(kept, state);
     keep_far(kept, replay);
     keep_counts(kept, counts);
-    step_reply(answer)
+    Reply::from(answer)
 }
 
 fn keep_run(r: Ran, kept: &mut Kept) -> Reply {
@@ -53,7 +36,7 @@ fn keep_run(r: Ran, kept: &mut Kept) -> Reply {
     keep_state(kept, state);
     keep_far(kept, replay);
     keep_counts(kept, counts);
-    run_reply(answer)
+    Reply::from(answer)
 }
 
 fn operate(
@@ -109,16 +92,16 @@ fn operate_on(
     )
 }
 
-fn row_of(asked: Asked) -> usize {
+fn name_of(asked: Asked) -> &'static str {
     match asked {
-        Asked::Run(_) => RUN,
-        _ => STEP,
+        Asked::Run(_) => "run",
+        _ => "step",
     }
 }
 
 // The answer, and the counts, which are kept.
 fn put_outcome(page: &mut Page, asked: Asked, r: Reply, kept: &Kept) {
-    put_reply(page, row_of(asked), r);
+    put_reply(page, name_of(asked), r);
     put_counts(page, &kept[COUNTS..COUNTS + 6], is_set(kept, METHOD));
 }
 

@@ -2,7 +2,7 @@
 ghost use Rattle.std.specs.Prelude.{◌≤◌, length};
 
 use crate::Case;
-use crate::answer_lines::{RESTEP, RESUME, put_counts, put_reply};
+use crate::answer_lines::{put_counts, put_reply};
 use crate::kept_state::{config_of, counts_of, state_of};
 use bundle_model::Counts;
 use case_file::{Resumption, Room};
@@ -90,10 +90,10 @@ fn go_on_from(
     )
 }
 
-fn row_of(asked: Resumption) -> usize {
+fn name_of(asked: Resumption) -> &'static str {
     match asked {
-        Resumption::Run(_) => RESUME,
-        Resumption::Step => RESTEP,
+        Resumption::Run(_) => "resume",
+        Resumption::Step => "restep",
     }
 }
 
@@ -125,7 +125,7 @@ fn put_resumed(
     let counts = r.counts;
     let end = room.min(RECORD_ROOM);
     let n = r.written.min(end);
-    put_reply(page, row_of(asked), answer);
+    put_reply(page, name_of(asked), answer);
     put_counted(page, counts, method, n);
     put_record(page, &bytes[0..n]);
     put_rest(page, &bytes[n..end]);
