@@ -4,7 +4,7 @@
 pub mod either_slot;
 pub mod special;
 
-// What either slot can do.
+// What either slot can do. Nothing is one of three things that it does, so this is no Option of the other two.
 #[derive(Clone, Copy)]
 pub enum AluEffect {
     Nothing,

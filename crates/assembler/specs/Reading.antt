@@ -4,12 +4,11 @@ use Rattle.text.specs.Field.{field_from, same_bytes}
 use Rattle.case_words.specs.Names.{bytes}
 use Rattle.case_file.specs.Arguments.{is_empty, bytes_of, is_end}
 use Rattle.case_file.specs.declared.Reason.{Reason}
-use Rattle.encoder.specs.Encode.{single, pair, written}
+use Rattle.encoder.specs.Encode.{single, pair, written, Written}
 use Rattle.assembly.specs.Forms.{predicate, letter, made, mnemonic_of}
 use Rattle.assembly.specs.Operands.{OperandRead, plain, predicate_read, operand_at}
 use Rattle.assembly.specs.declared.Operand.{Operand}
 use Rattle.assembly.specs.declared.Mnemonic.{Mnemonic}
-use Rattle.encoder.specs.declared.Written.{Written}
 use Rattle.isa.specs.declared.PredicateOperand.{PredicateOperand}
 use Rattle.isa.specs.declared.Operation.{Operation}
 use Rattle.isa.specs.declared.Instruction.{Instruction}

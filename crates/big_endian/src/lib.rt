@@ -25,6 +25,7 @@ fn put(s: &mut [u8], i: usize, v: u32)
 }
 
 // The number in the N bytes from an address on.
+#[tactic(auto, using(std::proofs::Common::refl, std::proofs::Common::arith, crate::specs::BytesLaws::number_small, crate::specs::BytesLaws::number_next, std::proofs::Common::ap), unfolding(crate::specs::Bytes::number_at))]
 fn read<const N: usize>(s: &[u8], at: u32) -> u32
     requires { N ≤ 4 }
     ensures { result ≡ number_at N s.now at }
@@ -44,6 +45,7 @@ fn read<const N: usize>(s: &[u8], at: u32) -> u32
 }
 
 // The low 8 N bits of v, put in the N bytes from an address on.
+#[tactic(auto, using(crate::specs::BytesLaws::put_last, std::proofs::Common::sym, crate::specs::BytesLaws::put_none, std::proofs::Common::ap, crate::specs::Bytes::put_number))]
 fn write<const N: usize>(s: &mut [u8], at: u32, v: u32)
     requires { N ≤ 4 }
     ensures { s.new ≡ put_number N s.old at v }

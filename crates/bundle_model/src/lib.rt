@@ -8,7 +8,7 @@ pub mod ready;
 use answers::Refusal;
 use core_state::Core;
 
-// What a step answers.
+// What a step answers: a way to end more than a Result has.
 #[derive(Clone, Copy)]
 pub enum Answer {
     Done,
@@ -16,7 +16,7 @@ pub enum Answer {
     Refused(Refusal),
 }
 
-// What is judged before a bundle is tried.
+// What is judged before a bundle is tried: one thing more than a Result can tell.
 #[derive(Clone, Copy)]
 pub enum Readiness {
     Ready,

@@ -9,7 +9,8 @@ use std::io::{Error, Read};
 
 const LONGEST: usize = 4000;
 
-// What a look at the file gave: a line of some bytes, or why there is none.
+// What a look at the file gave: a line of some bytes, or why there is none. No Result of an Option is plainer: the end is no error, and
+// that nothing is found yet is no end.
 #[derive(Clone, Copy, PartialEq, Eq, Debug)]
 pub enum Found {
     Nothing,

@@ -5,6 +5,7 @@ ghost use Rattle.case_kept.specs.Clearing.{cleared_memory, cleared_cache_copy, c
 use crate::buffers::{CACHE_COPY, COPY, Cache, Memory};
 
 // The first n bytes of a memory are made zero.
+#[tactic(auto, using(crate::specs::ClearingLaws::zeros_in_front, std::proofs::Common::rules, std::proofs::lemmas::Grind::common_steps, crate::specs::Clearing::set_each))]
 pub fn clear_memory(memory: &mut Memory, n: usize)
     ensures { memory.new ≡ cleared_memory memory.old n }
 {

@@ -35,7 +35,7 @@ pub const SPECIALS: usize = 9;
 // The kind of the waiting transfer, and at TARGET the numbers of its line: target, base where it has one, and wait.
 pub const TRANSFER: usize = 17;
 
-// The kinds. Where no transfer waits, the kind is 0.
+// The kinds, as numbers, since they stand in the lent list of numbers (no heap). Where no transfer waits, the kind is 0.
 pub const BR: u64 = 1;
 
 pub const CALL: u64 = 2;
@@ -137,8 +137,8 @@ pub const NOTES: usize = 2400;
 // and the numbers past it are never read.
 pub const INTERRUPTS: usize = 152400;
 
-// No case has started; a case is described; its state is open; its opening was refused; the report has ended; its places are judged,
-// and its state is not yet open.
+// The phases, as numbers of the lent list too. No case has started; a case is described; its state is open; its opening was refused;
+// the report has ended; its places are judged, and its state is not yet open.
 pub const NO_CASE: u64 = 0;
 
 pub const DESCRIBED: u64 = 1;
@@ -219,6 +219,7 @@ pub fn keep_flag(kept: &mut Kept, index: usize, flag: bool)
 }
 
 // So many flags from an index on.
+#[tactic(auto, using(crate::specs::KeptLaws::from_fn_up_to, crate::specs::Kept::is_set, std::proofs::Common::rules))]
 pub fn flags_of<const N: usize>(kept: &Kept, first: usize) -> [bool; N]
     ensures { result ≡ kept_flags N kept.now first }
 {

@@ -17,6 +17,7 @@ pub enum Store {
 const ROOM: u64 = 50000;
 
 // The last byte of the word at an address of a memory, or one that no memory has.
+#[tactic(auto, unfolding(crate::specs::Places::last_byte))]
 pub fn last_byte(address: u32) -> u32
     ensures { result ≡ last_byte address }
 {
@@ -69,6 +70,7 @@ fn note_if_room(kept: &mut Kept, store: Store, last: u32)
 }
 
 // A place that does not reach further than those before it need not be noted.
+#[tactic(auto, unfolding(crate::specs::Places::note_place))]
 pub fn note(kept: &mut Kept, store: Store, last: u32)
     ensures { kept.new ≡ note_place kept.old store last }
 {
@@ -82,6 +84,7 @@ pub fn note(kept: &mut Kept, store: Store, last: u32)
 }
 
 // The line of the first noted place that lies outside.
+#[tactic(auto, using(crate::specs::PlacesLaws::outside_some, crate::specs::PlacesLaws::outside_none), unfolding(crate::specs::Places::first_outside))]
 pub fn first_outside(kept: &Kept) -> Option<u64>
     ensures { result ≡ first_outside kept.now }
 {

@@ -62,8 +62,7 @@ fn put_words(page: &mut Page, label: &[u8], after: &[u8], before: &[u8])
     requires { length before.now ≡ length after.now }
     ensures { Puts page.old page.new (word_changes label.now after.now before.now) }
 {
-    let words = after.len() / 4 + 1;
-    for k in 0..words {
+    for k in 0..after.len() / 4 + 1 {
         put_if_changed(page, label, after, before, k);
     }
 }
@@ -99,8 +98,7 @@ fn put_cache_word(page: &mut Page, cache: &Cache, k: usize)
 fn put_cache(page: &mut Page, cache: &Cache, n: usize)
     ensures { Puts page.old page.new (cache_changes cache.now n) }
 {
-    let end = n.min(CACHE_COPY);
-    for k in 0..end {
+    for k in 0..n.min(CACHE_COPY) {
         put_cache_word(page, cache, k);
     }
 }

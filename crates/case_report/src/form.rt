@@ -35,10 +35,7 @@ fn next_number(b: u8, k: usize) -> usize
 fn nth(numbers: &[u64], k: usize) -> u64
     ensures { result ≡ get_or numbers.now k 0 }
 {
-    if k < numbers.len() {
-        return numbers[k];
-    }
-    0
+    numbers.get(k).copied().unwrap_or(0)
 }
 
 // A form with its numbers.

@@ -64,10 +64,8 @@ fn filled(bytes: &[u8]) -> usize
     ensures { result ≡ filled_to (length bytes.now) bytes.now }
 {
     let mut n = 0;
-    let mut i = 0;
-    while i < bytes.len() {
-        n = counted_with(n, bytes[i]);
-        i += 1;
+    for b in bytes {
+        n = counted_with(n, *b);
     }
     n
 }

@@ -97,6 +97,7 @@ pub enum Item {
 }
 
 // What the row of a keyword means.
+#[tactic(auto, unfolding(crate::specs::Names::meaning_from, crate::specs::Names::keywords))]
 fn keyword_at(row: usize) -> Option<Keyword>
     ensures { result ≡ meaning_at keywords row }
 {
@@ -155,6 +156,7 @@ interrupt\nhandler\nlistbytes\ntablebytes\nactive\nplace\nreplayed\n",
     ))
 }
 
+#[tactic(auto, unfolding(crate::specs::Names::meaning_from, crate::specs::Names::transfer_kinds))]
 fn transfer_kind_at(row: usize) -> Option<TransferKind>
     ensures { result ≡ meaning_at transfer_kinds row }
 {
@@ -173,6 +175,7 @@ pub fn transfer_kind(s: &[u8]) -> Option<TransferKind>
     transfer_kind_at(row_of(b"br\ncall\nblock\nxret\n", s))
 }
 
+#[tactic(auto, unfolding(crate::specs::Names::meaning_from, crate::specs::Names::special_names))]
 fn special_name_at(row: usize) -> Option<SpecialName>
     ensures { result ≡ meaning_at special_names row }
 {
@@ -196,6 +199,7 @@ pub fn special_name(s: &[u8]) -> Option<SpecialName>
 }
 
 // A letter and a decimal number up to greatest.
+#[tactic(auto, unfolding(crate::specs::Names::numbered))]
 pub fn numbered(s: &[u8], letter: u8, greatest: u32) -> Option<u32>
     ensures { result ≡ numbered letter greatest s.now }
 {
@@ -206,6 +210,7 @@ pub fn numbered(s: &[u8], letter: u8, greatest: u32) -> Option<u32>
     decimal(digits).filter(|n| *n <= greatest)
 }
 
+#[tactic(auto, unfolding(crate::specs::Names::meaning_from, crate::specs::Names::other_items))]
 fn other_item_at(row: usize) -> Option<Item>
     ensures { result ≡ meaning_at other_items row }
 {
@@ -225,6 +230,7 @@ fn other_item(s: &[u8]) -> Option<Item>
     other_item_at(row_of(b"sl\nsh\nmain\nlocal\nstack\n", s))
 }
 
+#[tactic(auto, unfolding(crate::specs::Names::item_of))]
 pub fn marking_item(s: &[u8]) -> Option<Item>
     ensures { result ≡ item_of s.now }
 {

@@ -3,29 +3,14 @@ use case_report::form::say;
 use resume::Reply;
 use text::page::Page;
 
-// The names of the operations, by their rows.
-pub(crate) const STEP: usize = 0;
-
-pub(crate) const RUN: usize = 1;
-
-pub(crate) const RESTEP: usize = 2;
-
-pub(crate) const RESUME: usize = 3;
-
-fn row_of(r: Reply) -> usize {
+// An operation by its name, and how it ended.
+pub(crate) fn put_reply(page: &mut Page, operation: &str, r: Reply) {
+    page.put(operation.as_bytes());
     match r {
-        Reply::Done => 0,
-        Reply::Ended => 1,
-        Reply::Spent => 2,
-        Reply::Refused(_) => 3,
-    }
-}
-
-pub(crate) fn put_reply(page: &mut Page, operation: usize, r: Reply) {
-    page.put_row(b"step \nrun \nrestep \nresume \n", operation);
-    page.put_row(b"done\nended\nspent\nrefused \n", row_of(r));
-    if let Reply::Refused(refusal) = r {
-        page.put_decimal(refusal.number() as u64);
+        Reply::Done => page.put(b" done"),
+        Reply::Ended => page.put(b" ended"),
+        Reply::Spent => page.put(b" spent"),
+        Reply::Refused(refusal) => say(page, b" refused %", &[refusal.number() as u64]),
     }
 }
 

@@ -1,9 +1,8 @@
 // The check of a case's code under its marking.
+use crate::Case;
 use crate::kept_state::config_of;
 use answers::Refusal;
-use case_kept::buffers::Bytes;
 use case_kept::extent::extents_of;
-use case_kept::kept::Kept;
 use case_notes::marked::marking_of;
 use case_report::form::say;
 use single_path::{Checked, Rule};
@@ -48,18 +47,20 @@ fn put_checked(page: &mut Page, c: Checked) {
     }
 }
 
-pub(crate) fn do_check(code: &Bytes, kept: &Kept, page: &mut Page) {
-    let e = extents_of(kept);
-    let n = e.code.min(65536);
-    let config = config_of(e, kept);
-    let bytes = &code[..];
-    let c = single_path::check(
-        &bytes[0..n],
-        e.main,
-        e.local,
-        e.words,
-        config,
-        marking_of(kept),
-    );
-    put_checked(page, c);
+impl Case {
+    pub(crate) fn check(&self, page: &mut Page) {
+        let kept = &self.kept;
+        let e = extents_of(kept);
+        let n = e.code.min(65536);
+        let config = config_of(e, kept);
+        let c = single_path::check(
+            &self.code[0..n],
+            e.main,
+            e.local,
+            e.words,
+            config,
+            marking_of(kept),
+        );
+        put_checked(page, c);
+    }
 }

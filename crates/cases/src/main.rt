@@ -13,6 +13,8 @@ mod resuming;
 mod writing;
 
 use case_file::{Line, Resumption, Room};
+use case_kept::buffers::{Bytes, Cache, Memory};
+use case_kept::kept::Kept;
 use case_report::output::say_failure;
 use encoder::Written;
 use lines::read_all;
@@ -21,6 +23,16 @@ use std::fs::File;
 use std::io::{Error, Result, Write};
 use std::rt::Env;
 use std::str::from_utf8;
+
+// A case from line to line: its code, its memories and its cache, with room for what they held before an operation, and its numbers.
+#[derive(Drop)]
+struct Case {
+    code: Bytes,
+    main: Memory,
+    local: Memory,
+    cache: Cache,
+    kept: Kept,
+}
 
 // What is asked for of an opened case: the check of its code, a step, a run with a budget, the record of its state, or to go on from
 // the record that it gives.
@@ -54,16 +66,15 @@ enum Kind {
 fn read_cases(rt: &HostRuntime, file: &mut File, path: &[u8]) {
     let mut piece = [0u8; 65536];
     let mut line = [0u8; 4000];
-    let mut code = [0u8; 65536];
-    let mut main = [0u8; 131072];
-    let mut local = [0u8; 131072];
-    let mut cache = [0u32; 1026];
-    let mut kept = [0u64; 160600];
+    let mut case = Case {
+        code: [0; 65536],
+        main: [0; 131072],
+        local: [0; 131072],
+        cache: [0; 1026],
+        kept: [0; 160600],
+    };
     let mut out = [0u8; 1048576];
-    read_all(
-        rt, file, path, &mut piece, &mut line, &mut code, &mut main, &mut local, &mut cache,
-        &mut kept, &mut out,
-    );
+    read_all(rt, file, path, &mut piece, &mut line, &mut case, &mut out);
 }
 
 // The system's numbers for a name that is too long, and for bytes that are no text.

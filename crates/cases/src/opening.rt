@@ -1,9 +1,9 @@
 // How a case starts, how its places are judged at its first operation, and how its state is opened at the first that needs it.
 ghost use Rattle.std.specs.Prelude.{◌≤◌, length};
 
+use crate::Case;
 use crate::kept_state::config_of;
 use case_file::Reason;
-use case_kept::buffers::{Bytes, Cache, Memory};
 use case_kept::clearing::{clear_cache_copy, clear_memory, copy_memory, fill_cache};
 use case_kept::extent::{Extents, extents_of};
 use case_kept::kept::{
@@ -36,24 +36,6 @@ fn written(kept: &Kept, length: usize, store: Store) -> usize {
         return reach as usize;
     }
     number(kept, length) as usize
-}
-
-// The next case: what the one before put into the buffers is cleared.
-pub(crate) fn start_case(
-    line: &[u8],
-    name: usize,
-    main: &mut Memory,
-    local: &mut Memory,
-    cache: &mut Cache,
-    kept: &mut Kept,
-    page: &mut Page,
-) {
-    clear_memory(main, written(kept, MAIN, Store::Main));
-    clear_memory(local, written(kept, LOCAL, Store::Local));
-    clear_cache_copy(cache);
-    forget_case(kept);
-    kept[PHASE] = DESCRIBED;
-    put_name(page, line, name);
 }
 
 // The opening over the parts of what is lent that the case asks for.
@@ -116,49 +98,55 @@ fn keep_opened(o: Opened, kept: &mut Kept, page: &mut Page) {
     }
 }
 
-// Makes the copies that later tell what an operation changed. The case's cache words stand in the cache's copy. Of a case that is
-// refused nothing is done, so the copies are made in any case.
-fn open(
-    code: &Bytes,
-    main: &mut Memory,
-    local: &mut Memory,
-    cache: &mut Cache,
-    kept: &mut Kept,
-    page: &mut Page,
-) {
-    let e = extents_of(kept);
-    let entry = word(kept, ENTRY);
-    let config = config_of(e, kept);
-    let o = open_parts(e, config, entry, code, main, local, cache);
-    copy_memory(main, e.main);
-    copy_memory(local, e.local);
-    fill_cache(cache, e.words);
-    keep_opened(o, kept, page);
-}
+impl Case {
+    // The next case: what the one before put into the buffers is cleared.
+    pub(crate) fn start(&mut self, line: &[u8], name: usize, page: &mut Page) {
+        clear_memory(&mut self.main, written(&self.kept, MAIN, Store::Main));
+        clear_memory(&mut self.local, written(&self.kept, LOCAL, Store::Local));
+        clear_cache_copy(&mut self.cache);
+        forget_case(&mut self.kept);
+        self.kept[PHASE] = DESCRIBED;
+        put_name(page, line, name);
+    }
 
-// At a case's first operation its places are judged.
-pub(crate) fn judge_places(kept: &mut Kept, page: &mut Page) {
-    if kept[PHASE] != DESCRIBED {
-        return;
+    // At a case's first operation its places are judged.
+    pub(crate) fn judge_places(&mut self, page: &mut Page) {
+        if self.kept[PHASE] != DESCRIBED {
+            return;
+        }
+        match first_outside(&self.kept) {
+            Some(n) => fail(page, &mut self.kept, n, Reason::PlaceOutside),
+            None => self.kept[PHASE] = JUDGED,
+        }
     }
-    match first_outside(kept) {
-        Some(n) => fail(page, kept, n, Reason::PlaceOutside),
-        None => kept[PHASE] = JUDGED,
-    }
-}
 
-// A case is opened once, when its places are judged.
-pub(crate) fn open_case(
-    code: &Bytes,
-    main: &mut Memory,
-    local: &mut Memory,
-    cache: &mut Cache,
-    kept: &mut Kept,
-    page: &mut Page,
-) {
-    judge_places(kept, page);
-    if kept[PHASE] != JUDGED {
-        return;
+    // A case is opened once, when its places are judged.
+    pub(crate) fn open(&mut self, page: &mut Page) {
+        self.judge_places(page);
+        if self.kept[PHASE] != JUDGED {
+            return;
+        }
+        self.open_judged(page);
     }
-    open(code, main, local, cache, kept, page);
+
+    // Makes the copies that later tell what an operation changed. The case's cache words stand in the cache's copy. Of a case that is
+    // refused nothing is done, so the copies are made in any case.
+    fn open_judged(&mut self, page: &mut Page) {
+        let e = extents_of(&self.kept);
+        let entry = word(&self.kept, ENTRY);
+        let config = config_of(e, &self.kept);
+        let o = open_parts(
+            e,
+            config,
+            entry,
+            &self.code,
+            &self.main,
+            &self.local,
+            &mut self.cache,
+        );
+        copy_memory(&mut self.main, e.main);
+        copy_memory(&mut self.local, e.local);
+        fill_cache(&mut self.cache, e.words);
+        keep_opened(o, &mut self.kept, page);
+    }
 }

@@ -1,11 +1,9 @@
 // Operations that go on from a state, on the parts of the buffers that a case has, and their reports.
 ghost use Rattle.std.specs.Prelude.{◌≤◌, length};
 
-use crate::Asked;
-use crate::answer_lines::{RUN, STEP, put_counts, put_reply};
+use crate::answer_lines::{put_counts, put_reply};
 use crate::kept_state::{config_of, keep_counts, keep_far, keep_state, state_of};
-use bundle_model::Answer;
-use case_kept::buffers::{Bytes, Cache, Memory};
+use crate::{Asked, Case};
 use case_kept::clearing::{copy_cache, copy_memory};
 use case_kept::extent::extents_of;
 use case_kept::kept::{COUNTS, Kept, METHOD, is_set};
@@ -13,26 +11,10 @@ use case_notes::replay::{lay_list, lay_table, list_length, table_length};
 use case_report::changes::put_changes;
 use case_report::state_lines::put_state;
 use resume::Reply;
-use run::{Ran, RunAnswer};
+use run::Ran;
 use settings::Given;
 use state::Stepped;
 use text::page::Page;
-
-fn step_reply(a: Answer) -> Reply {
-    match a {
-        Answer::Done => Reply::Done,
-        Answer::Ended => Reply::Ended,
-        Answer::Refused(refusal) => Reply::Refused(refusal),
-    }
-}
-
-fn run_reply(a: RunAnswer) -> Reply {
-    match a {
-        RunAnswer::Ended => Reply::Ended,
-        RunAnswer::Spent => Reply::Spent,
-        RunAnswer::Refused(refusal) => Reply::Refused(refusal),
-    }
-}
 
 // The state that is left is kept, and the counts.
 fn keep_step(r: Stepped, kept: &mut Kept) -> Reply {
@@ -43,7 +25,7 @@ fn keep_step(r: Stepped, kept: &mut Kept) -> Reply {
     keep_state(kept, state);
     keep_far(kept, replay);
     keep_counts(kept, counts);
-    step_reply(answer)
+    Reply::from(answer)
 }
 
 fn keep_run(r: Ran, kept: &mut Kept) -> Reply {
@@ -54,7 +36,7 @@ fn keep_run(r: Ran, kept: &mut Kept) -> Reply {
     keep_state(kept, state);
     keep_far(kept, replay);
     keep_counts(kept, counts);
-    run_reply(answer)
+    Reply::from(answer)
 }
 
 fn operate(
@@ -106,79 +88,55 @@ fn operate_on(
     )
 }
 
-// The operation on the list and the table of the case, which are laid as bytes.
-fn replay_on(
-    asked: Asked,
-    code: &Bytes,
-    main: &mut Memory,
-    local: &mut Memory,
-    cache: &mut Cache,
-    kept: &mut Kept,
-) -> Reply {
-    let mut list = [0u8; 65536];
-    let mut table = [0u8; 256];
-    lay_list(kept, &mut list);
-    lay_table(kept, &mut table);
-    let n = list_length(kept);
-    let k = table_length(kept);
-    operate_on(
-        asked,
-        code,
-        &list[0..n],
-        &table[0..k],
-        main,
-        local,
-        cache,
-        kept,
-    )
-}
-
-fn row_of(asked: Asked) -> usize {
+fn name_of(asked: Asked) -> &'static str {
     match asked {
-        Asked::Run(_) => RUN,
-        _ => STEP,
+        Asked::Run(_) => "run",
+        _ => "step",
     }
 }
 
 // The answer, and the counts, which are kept.
 fn put_outcome(page: &mut Page, asked: Asked, r: Reply, kept: &Kept) {
-    put_reply(page, row_of(asked), r);
-    let numbers = &kept[..];
-    put_counts(page, &numbers[COUNTS..COUNTS + 6], is_set(kept, METHOD));
+    put_reply(page, name_of(asked), r);
+    put_counts(page, &kept[COUNTS..COUNTS + 6], is_set(kept, METHOD));
 }
 
-// The change lines. What is reported is changed no longer: the copies of the memories are brought up to date.
-pub(crate) fn report_changes(
-    page: &mut Page,
-    main: &mut Memory,
-    local: &mut Memory,
-    cache: &Cache,
-    kept: &Kept,
-) {
-    let e = extents_of(kept);
-    put_changes(page, main, local, cache, e);
-    copy_memory(main, e.main);
-    copy_memory(local, e.local);
-}
+impl Case {
+    // The operation on the list and the table of the case, which are laid as bytes.
+    fn replay_on(&mut self, asked: Asked) -> Reply {
+        let mut list = [0u8; 65536];
+        let mut table = [0u8; 256];
+        lay_list(&self.kept, &mut list);
+        lay_table(&self.kept, &mut table);
+        let n = list_length(&self.kept);
+        let k = table_length(&self.kept);
+        operate_on(
+            asked,
+            &self.code,
+            &list[0..n],
+            &table[0..k],
+            &mut self.main,
+            &mut self.local,
+            &mut self.cache,
+            &mut self.kept,
+        )
+    }
 
-// The state lines and the change lines.
-fn report(page: &mut Page, main: &mut Memory, local: &mut Memory, cache: &mut Cache, kept: &Kept) {
-    let e = extents_of(kept);
-    put_state(page, kept);
-    report_changes(page, main, local, cache, kept);
-    copy_cache(cache, e.words);
-}
+    // The change lines. What is reported is changed no longer: the copies of the memories are brought up to date.
+    pub(crate) fn report_changes(&mut self, page: &mut Page) {
+        let e = extents_of(&self.kept);
+        put_changes(page, &self.main, &self.local, &self.cache, e);
+        copy_memory(&mut self.main, e.main);
+        copy_memory(&mut self.local, e.local);
+    }
 
-pub(crate) fn do_operation(
-    asked: Asked,
-    code: &Bytes,
-    main: &mut Memory,
-    local: &mut Memory,
-    cache: &mut Cache,
-    kept: &mut Kept,
-    page: &mut Page,
-) {
-    let r = replay_on(asked, code, main, local, cache, kept);
-    put_outcome(page, asked, r, kept);
-    report(page, main, local, cache, kept);
+    // A step or a run, with its answer, the state lines and the change lines.
+    pub(crate) fn operate(&mut self, asked: Asked, page: &mut Page) {
+        let r = self.replay_on(asked);
+        put_outcome(page, asked, r, &self.kept);
+        put_state(page, &self.kept);
+        self.report_changes(page);
+        let e = extents_of(&self.kept);
+        copy_cache(&mut self.cache, e.words);
+    }
 }

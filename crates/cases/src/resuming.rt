@@ -1,12 +1,12 @@
 // The record of a case's state, and what goes on from the record that a case gives. Neither changes the case's own state or cache.
 ghost use Rattle.std.specs.Prelude.{◌≤◌, length};
 
-use crate::answer_lines::{RESTEP, RESUME, put_counts, put_reply};
+use crate::Case;
+use crate::answer_lines::{put_counts, put_reply};
 use crate::kept_state::{config_of, counts_of, state_of};
-use crate::operation::report_changes;
 use bundle_model::Counts;
 use case_file::{Resumption, Room};
-use case_kept::buffers::{Bytes, Cache, Memory, RECORD_ROOM, Record};
+use case_kept::buffers::{RECORD_ROOM, Record};
 use case_kept::extent::extents_of;
 use case_kept::kept::{Kept, METHOD, is_set};
 use case_notes::record::{lay_record, record_length};
@@ -17,24 +17,10 @@ use resume::Resumed;
 use settings::Given;
 use text::page::Page;
 
-fn save(cache: &Cache, kept: &Kept, bytes: &mut Record) -> usize {
-    let e = extents_of(kept);
-    let w = e.words;
-    let words = &cache[..];
-    record::writing::write_record(state_of(kept), counts_of(kept), &words[0..w], &mut *bytes)
-}
-
 fn put_saved(page: &mut Page, bytes: &Record, length: usize) {
     let n = length.min(RECORD_ROOM);
-    let all = &bytes[..];
     say(page, b"save %\n", &[(n / 4) as u64]);
-    put_record(page, &all[0..n]);
-}
-
-pub(crate) fn do_save(cache: &Cache, kept: &Kept, page: &mut Page) {
-    let mut bytes = [FILL; 8192];
-    let n = save(cache, kept, &mut bytes);
-    put_saved(page, &bytes, n);
+    put_record(page, &bytes[0..n]);
 }
 
 // How many bytes the record is written into.
@@ -99,37 +85,10 @@ fn go_on_from(
     )
 }
 
-// The same with the list and the table of the case, which are laid as bytes.
-fn replay_from(
-    asked: Resumption,
-    code: &Bytes,
-    main: &mut Memory,
-    local: &mut Memory,
-    kept: &Kept,
-    out: &mut [u8],
-) -> Resumed {
-    let mut list = [0u8; 65536];
-    let mut table = [0u8; 256];
-    lay_list(kept, &mut list);
-    lay_table(kept, &mut table);
-    let n = list_length(kept);
-    let k = table_length(kept);
-    go_on_from(
-        asked,
-        code,
-        main,
-        local,
-        kept,
-        out,
-        &list[0..n],
-        &table[0..k],
-    )
-}
-
-fn row_of(asked: Resumption) -> usize {
+fn name_of(asked: Resumption) -> &'static str {
     match asked {
-        Resumption::Run(_) => RESUME,
-        Resumption::Step => RESTEP,
+        Resumption::Run(_) => "resume",
+        Resumption::Step => "restep",
     }
 }
 
@@ -161,27 +120,52 @@ fn put_resumed(
     let counts = r.counts;
     let end = room.min(RECORD_ROOM);
     let n = r.written.min(end);
-    let all = &bytes[..];
-    put_reply(page, row_of(asked), answer);
+    put_reply(page, name_of(asked), answer);
     put_counted(page, counts, method, n);
-    put_record(page, &all[0..n]);
-    put_rest(page, &all[n..end]);
+    put_record(page, &bytes[0..n]);
+    put_rest(page, &bytes[n..end]);
 }
 
-pub(crate) fn do_resume(
-    asked: Resumption,
-    room: Room,
-    code: &Bytes,
-    main: &mut Memory,
-    local: &mut Memory,
-    cache: &Cache,
-    kept: &Kept,
-    page: &mut Page,
-) {
-    let mut bytes = [FILL; 8192];
-    let e = extents_of(kept);
-    let n = room_of(room, e.words);
-    let r = replay_from(asked, code, main, local, kept, &mut bytes[0..n]);
-    put_resumed(page, asked, r, is_set(kept, METHOD), &bytes, n);
-    report_changes(page, main, local, cache, kept);
+impl Case {
+    pub(crate) fn save(&self, page: &mut Page) {
+        let mut bytes = [FILL; 8192];
+        let kept = &self.kept;
+        let e = extents_of(kept);
+        let n = record::writing::write_record(
+            state_of(kept),
+            counts_of(kept),
+            &self.cache[0..e.words],
+            &mut bytes,
+        );
+        put_saved(page, &bytes, n);
+    }
+
+    // What goes on from the case's record, with the list and the table of the case, which are laid as bytes.
+    fn replay_from(&mut self, asked: Resumption, out: &mut [u8]) -> Resumed {
+        let mut list = [0u8; 65536];
+        let mut table = [0u8; 256];
+        lay_list(&self.kept, &mut list);
+        lay_table(&self.kept, &mut table);
+        let n = list_length(&self.kept);
+        let k = table_length(&self.kept);
+        go_on_from(
+            asked,
+            &self.code,
+            &mut self.main,
+            &mut self.local,
+            &self.kept,
+            out,
+            &list[0..n],
+            &table[0..k],
+        )
+    }
+
+    pub(crate) fn resume(&mut self, asked: Resumption, room: Room, page: &mut Page) {
+        let mut bytes = [FILL; 8192];
+        let e = extents_of(&self.kept);
+        let n = room_of(room, e.words);
+        let r = self.replay_from(asked, &mut bytes[0..n]);
+        put_resumed(page, asked, r, is_set(&self.kept, METHOD), &bytes, n);
+        self.report_changes(page);
+    }
 }

@@ -27,7 +27,8 @@ pub enum WaitingLoad {
     Waits { register: u32, value: u32 },
 }
 
-// A waiting transfer as words. kind: 0 none, 1 br, 2 call, 3 block, and any other xret.
+// A waiting transfer as words. kind: 0 none, 1 br, 2 call, 3 block, and any other xret. A number and no Option: inside a bundle an enum is
+// copied byte by byte, which took a quarter more instructions.
 #[derive(Clone, Copy)]
 pub struct TransferWords {
     pub kind: u32,
@@ -36,7 +37,7 @@ pub struct TransferWords {
     pub wait: u32,
 }
 
-// A waiting load as words. None waits if waits is 0.
+// A waiting load as words, for the same reason. None waits if waits is 0.
 #[derive(Clone, Copy)]
 pub struct LoadWords {
     pub waits: u32,

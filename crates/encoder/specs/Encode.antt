@@ -1,5 +1,8 @@
 -- Writing a bundle: the words of its instructions, to be read beside `Decode` of decoder.
-use Rattle.std.specs.Prelude.{ℕ, Option, None, Some}
+use Rattle.std.specs.Prelude.{ℕ, Option, None, Some, Ok, Err, Result}
+use Rattle.encoder.specs.declared.CodeWords.{CodeWords}
+use Rattle.answers.specs.declared.Refusal.{Refusal}
+use Rattle.answers.specs.declared.Refusal.TheVariants as refusal
 use Rattle.isa.specs.Format.{◌⋯◌, ◌≔◌}
 use Rattle.isa.specs.Formats.{long_formats, alu_formats, first_formats}
 use Rattle.fields.specs.Place.{put, writing}
@@ -14,8 +17,7 @@ use Rattle.isa.specs.declared.Operation.TheVariants.{Alu, Multiply, Mts, Mfs, Lo
 use Rattle.isa.specs.declared.Instruction.{Instruction}
 use Rattle.isa.specs.declared.Bundle.{Bundle}
 use Rattle.isa.specs.declared.Bundle.TheVariants as bundle
-use Rattle.encoder.specs.declared.Written.{Written}
-use Rattle.encoder.specs.declared.Written.TheVariants.{One, Two, Refused}
+use Rattle.encoder.specs.declared.CodeWords.TheVariants.{One, Two}
 
 -- The operation as one that either slot may hold, if it is one.
 abbrev pub either_slot : Operation → Option AluOperation
@@ -60,19 +62,23 @@ abbrev pub long_word : PredicateOperand → Option AluOperation → Option ℕ
 long_word g None = None
 long_word g (Some a) = writing long_formats (guarded g) (long_fields a)
 
+-- The words of a bundle, or why there are none.
+abbrev pub Written : Type 0
+Written = Result CodeWords Refusal
+
 -- One word, or two; 12 where one is missing.
 abbrev pub alone : Option ℕ → Written
-alone None = Refused 12
-alone (Some w) = One w
+alone None = Err refusal.NoWords
+alone (Some w) = Ok (One w)
 
 abbrev pub beside : Option ℕ → Option ℕ → Written
-beside None v = Refused 12
-beside (Some w) None = Refused 12
-beside (Some w) (Some v) = Two w v
+beside None v = Err refusal.NoWords
+beside (Some w) None = Err refusal.NoWords
+beside (Some w) (Some v) = Ok (Two w v)
 
 -- The words of a bundle, or the refusal.
 unfoldable pub written : Bundle → Written
-written bundle.Undecodable = Refused 12
+written bundle.Undecodable = Err refusal.NoWords
 written (bundle.One i) = alone (slot_word 0 i.guard i.operation)
 written (bundle.Two i j) = beside (slot_word 1 i.guard i.operation) (slot_word 0 j.guard (Alu j.operation))
 written (bundle.Long i) = beside (long_word i.guard (either_slot i.operation)) (constant_of (either_slot i.operation))

@@ -4,6 +4,7 @@ ghost use Rattle.encoder.specs.Encode.{either_slot, constant_in, constant_of, si
 
 use crate::Written;
 use crate::words::{write_long, write_one, write_two};
+use answers::Refusal;
 use isa::{AluInstruction, AluOperation, Instruction, Op2, Operation};
 
 // The operation as one that either slot may hold.
@@ -39,8 +40,7 @@ pub(crate) fn constant_of(a: AluOperation) -> Option<u32>
 pub fn write_single(i: Instruction) -> Written
     ensures { result ≡ written (single i) }
 {
-    let operation = i.operation;
-    let Some(a) = either_slot(operation) else {
+    let Some(a) = either_slot(i.operation) else {
         return write_one(i);
     };
     if constant_of(a).is_none() {
@@ -53,10 +53,14 @@ pub fn write_single(i: Instruction) -> Written
 pub fn write_pair(i: Instruction, j: Instruction) -> Written
     ensures { result ≡ written (pair i j) }
 {
-    let guard = j.guard;
-    let operation = j.operation;
-    let Some(operation) = either_slot(operation) else {
-        return Written::Refused(12);
+    let Some(operation) = either_slot(j.operation) else {
+        return Err(Refusal::NoWords);
     };
-    write_two(i, AluInstruction { guard, operation })
+    write_two(
+        i,
+        AluInstruction {
+            guard: j.guard,
+            operation,
+        },
+    )
 }

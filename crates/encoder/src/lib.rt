@@ -4,10 +4,14 @@
 pub mod bundles;
 pub mod words;
 
-// What a bundle is written as.
+use answers::Refusal;
+
+// The words of a bundle.
 #[derive(Clone, Copy)]
-pub enum Written {
+pub enum CodeWords {
     One(u32),
     Two(u32, u32),
-    Refused(u32),
 }
+
+// What a bundle is written as.
+pub type Written = Result<CodeWords, Refusal>;

@@ -5,8 +5,9 @@ ghost use Rattle.fields.specs.Place.{writing};
 ghost use Rattle.fields.specs.Fields.{long_fields, alu_fields, amount_fields, first_fields};
 ghost use Rattle.encoder.specs.Encode.{guarded, slot_word, alone, beside, written};
 
-use crate::Written;
 use crate::bundles::{constant_of, either_slot};
+use crate::{CodeWords, Written};
+use answers::Refusal;
 use fields::codes::{
     alu_code, bit, compare_code, kind_code, load_code, multiply_code, predicate_code, special_code,
     store_code,
@@ -199,52 +200,40 @@ fn long_in_format(w: Option<u32>, a: AluOperation) -> Option<u32>
 fn alone(w: Option<u32>) -> Written
     ensures { result ≡ alone w }
 {
-    match w {
-        Some(x) => Written::One(x),
-        None => Written::Refused(12),
-    }
+    w.map(CodeWords::One).ok_or(Refusal::NoWords)
 }
 
 fn beside(w: Option<u32>, v: Option<u32>) -> Written
     ensures { result ≡ beside w v }
 {
-    match (w, v) {
-        (Some(x), Some(y)) => Written::Two(x, y),
-        _ => Written::Refused(12),
-    }
+    let first = w.ok_or(Refusal::NoWords)?;
+    let second = v.ok_or(Refusal::NoWords)?;
+    Ok(CodeWords::Two(first, second))
 }
 
 // A bundle of one word.
 pub(crate) fn write_one(i: Instruction) -> Written
     ensures { result ≡ written (Bundle.One i) }
 {
-    let guard = i.guard;
-    let operation = i.operation;
-    alone(slot_word(0, guard, operation))
+    alone(slot_word(0, i.guard, i.operation))
 }
 
 // A bundle of two instructions.
 pub(crate) fn write_two(i: Instruction, j: AluInstruction) -> Written
     ensures { result ≡ written (Bundle.Two i j) }
 {
-    let guard = i.guard;
-    let operation = i.operation;
-    let second = j.guard;
-    let other = j.operation;
-    let w = slot_word(1, guard, operation);
-    beside(w, slot_word(0, second, Operation::Alu(other)))
+    let w = slot_word(1, i.guard, i.operation);
+    beside(w, slot_word(0, j.guard, Operation::Alu(j.operation)))
 }
 
 // A long immediate and its constant.
 pub(crate) fn write_long(i: Instruction) -> Written
     ensures { result ≡ written (Bundle.Long i) }
 {
-    let guard = i.guard;
-    let operation = i.operation;
-    let Some(a) = either_slot(operation) else {
-        return Written::Refused(12);
+    let Some(a) = either_slot(i.operation) else {
+        return Err(Refusal::NoWords);
     };
-    beside(long_in_format(guarded(guard), a), constant_of(a))
+    beside(long_in_format(guarded(i.guard), a), constant_of(a))
 }
 
 // The words of a bundle: 12 for a number that does not fit its field, and for a bundle that the slots do not allow.
@@ -252,7 +241,7 @@ pub fn write(b: Bundle) -> Written
     ensures { result ≡ written b }
 {
     match b {
-        Bundle::Undecodable => Written::Refused(12),
+        Bundle::Undecodable => Err(Refusal::NoWords),
         Bundle::One(i) => write_one(i),
         Bundle::Two(i, j) => write_two(i, j),
         Bundle::Long(i) => write_long(i),

@@ -1,10 +1,11 @@
 -- Asking for an instruction, or for two: what is refused is what no words decode to, the rules of the slots included.
-use Rattle.std.specs.Prelude.{ℕ, ◌<◌, ◌^◌, ◌↔◌, ◌≡◌, refl, Option, None, Some}
+use Rattle.std.specs.Prelude.{ℕ, ◌<◌, ◌^◌, ◌↔◌, ◌≡◌, refl, Option, None, Some, Ok, Err}
 use mathlib.Core.List.{List, [], ◌∷◌, cons≢nil, nil≢cons, head-eq_of_cons-eq, tail-eq_of_cons-eq}
 use Rattle.std.proofs.Common.{sym, ap, ap₂, ◌∙◌, subst, arith}
+use Rattle.answers.specs.declared.Refusal.TheVariants as refusal
 use Rattle.decoder.specs.Decode.{guard_of, decode}
 use Rattle.fields.specs.Place.{writing}
-use Rattle.encoder.specs.Encode.{either_slot, constant_of, in_slot, slot_word, long_word, alone, beside, written, of_length, single, beside_alu, pair}
+use Rattle.encoder.specs.Encode.{either_slot, constant_of, in_slot, slot_word, long_word, alone, beside, written, of_length, single, beside_alu, pair, Written}
 use Rattle.encoder_laws.specs.SlotLaws.{by_slot, by_decode, alu_written, slot_written, long_written}
 use Rattle.encoder_laws.specs.EncodeLaws.{Decodes, written_decodes, IsWords, slot_two_reads, decoded_written, refused_twelve, refused_iff, ConstantBelow, Below, written_below}
 use Rattle.isa.specs.declared.PredicateOperand.{PredicateOperand}
@@ -16,8 +17,7 @@ use Rattle.isa.specs.declared.Operation.TheVariants.{Alu}
 use Rattle.isa.specs.declared.Instruction.{Instruction}
 use Rattle.isa.specs.declared.Bundle.{Bundle}
 use Rattle.isa.specs.declared.Bundle.TheVariants as bundle
-use Rattle.encoder.specs.declared.Written.{Written}
-use Rattle.encoder.specs.declared.Written.TheVariants.{One, Two, Refused}
+use Rattle.encoder.specs.declared.CodeWords.TheVariants.{One, Two}
 
 -- The instructions of a bundle, in the order of their slots.
 abbrev pub instructions_of : Bundle → List Instruction
@@ -102,7 +102,7 @@ abbrev NoWords : List Instruction → Type 0
 NoWords is = (w v : ℕ) → instructions_of (decode w v) ≡ is → ⊥
 
 asked : (b : Bundle) (i : Instruction) (is : List Instruction) → instructions_of b ≡ i ∷ is
-    → ((w v : ℕ) → instructions_of (decode w v) ≡ i ∷ is → decode w v ≡ b) → ((written b ≡ Refused 12) ↔ NoWords (i ∷ is))
+    → ((w v : ℕ) → instructions_of (decode w v) ≡ i ∷ is → decode w v ≡ b) → ((written b ≡ Err refusal.NoWords) ↔ NoWords (i ∷ is))
 asked b i is e d =
     let r = refused_iff b (not_undecodable b i is e) in
     (λ x w v q. r.0 x w v (d w v q), λ n. r.1 (λ w v q. n w v (ap instructions_of q ∙ e)))
@@ -115,26 +115,26 @@ single_instructions i = go (constant_of (either_slot i.operation))
     go None = refl
     go (Some n) = refl
 
-pub single_refused : (i : Instruction) → ((written (single i) ≡ Refused 12) ↔ ((w v : ℕ) → instructions_of (decode w v) ≡ i ∷ [] → ⊥))
+pub single_refused : (i : Instruction) → ((written (single i) ≡ Err refusal.NoWords) ↔ ((w v : ℕ) → instructions_of (decode w v) ≡ i ∷ [] → ⊥))
 single_refused i = asked (single i) i [] (single_instructions i) (λ w v. single_decoded w v i)
 
 -- What slot two cannot hold is refused too, as in `nop ; mul`: no words have it there.
-pub pair_refused : (i j : Instruction) → ((written (pair i j) ≡ Refused 12) ↔ ((w v : ℕ) → instructions_of (decode w v) ≡ i ∷ j ∷ [] → ⊥))
+pub pair_refused : (i j : Instruction) → ((written (pair i j) ≡ Err refusal.NoWords) ↔ ((w v : ℕ) → instructions_of (decode w v) ≡ i ∷ j ∷ [] → ⊥))
 unfolding pair written
 pair_refused i j =
     by_slot (λ o x. let k : Instruction = record { guard = j.guard; operation = o } in
     ((w v : ℕ) → instructions_of (decode w v) ≡ i ∷ k ∷ [] → decode w v ≡ beside_alu i j.guard x)
-    → ((written (beside_alu i j.guard x) ≡ Refused 12) ↔ NoWords (i ∷ k ∷ [])))
+    → ((written (beside_alu i j.guard x) ≡ Err refusal.NoWords) ↔ NoWords (i ∷ k ∷ [])))
     (λ a. asked _ i _ refl)
     (λ o d. (λ x w v q. not_undecodable (decode w v) i _ q (d w v q), λ n. refl))
     j.operation (λ w v. pair_decoded w v i j)
 
 -- A bundle that no words of 32 bits decode to is refused.
 pub refused_words : (b : Bundle) → ConstantBelow b
-    → ((w v : ℕ) → w < 2 ^ 32 → v < 2 ^ 32 → decode w v ≡ b → ⊥) → written b ≡ Refused 12
+    → ((w v : ℕ) → w < 2 ^ 32 → v < 2 ^ 32 → decode w v ≡ b → ⊥) → written b ≡ Err refusal.NoWords
 refused_words b c n = go (written b) refl (written_decodes b) (written_below b)
   where
-    go : (x : Written) → written b ≡ x → Decodes x b → Below (ConstantBelow b) x → written b ≡ Refused 12
-    go (One w) e q l = absurd (n w 0 l (omega arith) (q 0))
-    go (Two w v) e q l = absurd (n w v l.0 (l.1 c) q)
-    go (Refused m) e q l = e ∙ ap Refused (refused_twelve b m e)
+    go : (x : Written) → written b ≡ x → Decodes x b → Below (ConstantBelow b) x → written b ≡ Err refusal.NoWords
+    go (Ok (One w)) e q l = absurd (n w 0 l (omega arith) (q 0))
+    go (Ok (Two w v)) e q l = absurd (n w v l.0 (l.1 c) q)
+    go (Err m) e q l = e ∙ ap Err (refused_twelve b m e)

@@ -1,12 +1,14 @@
 -- Writing a bundle and decoding it: the decoder reads back what is written, every bundle that it gives can be written, and what is
 -- refused is what no words decode to.
-use Rattle.std.specs.Prelude.{ℕ, ◌<◌, ◌^◌, Bool, true, false, cond, ◌↔◌, ◌≡◌, refl, Option, None, Some, IfSome}
+use Rattle.std.specs.Prelude.{ℕ, ◌<◌, ◌^◌, Bool, true, false, cond, ◌↔◌, ◌≡◌, refl, Option, None, Some, IfSome, Ok, Err}
 use Rattle.std.proofs.lemmas.Option.{none-some}
 use Rattle.std.proofs.Common.{sym, ap, ◌∙◌, subst, arith}
+use Rattle.answers.specs.declared.Refusal.{Refusal}
+use Rattle.answers.specs.declared.Refusal.TheVariants as refusal
 use Rattle.isa.specs.Format.{reading}
 use Rattle.isa.specs.Formats.{alu_formats}
 use Rattle.decoder.specs.Decode.{is_two_words, slot_two, decode}
-use Rattle.encoder.specs.Encode.{either_slot, constant_of, slot_word, long_word, written}
+use Rattle.encoder.specs.Encode.{either_slot, constant_of, slot_word, long_word, written, Written}
 use Rattle.encoder_laws.specs.SlotLaws.{by_words, by_decode, long_of, alu_read, slot_read, long_read, alu_written, slot_written, long_written}
 use Rattle.isa.specs.declared.PredicateOperand.{PredicateOperand}
 use Rattle.isa.specs.declared.AluOperation.{AluOperation}
@@ -15,14 +17,13 @@ use Rattle.isa.specs.declared.Instruction.{Instruction}
 use Rattle.isa.specs.declared.AluInstruction.{AluInstruction}
 use Rattle.isa.specs.declared.Bundle.{Bundle}
 use Rattle.isa.specs.declared.Bundle.TheVariants as bundle
-use Rattle.encoder.specs.declared.Written.{Written}
-use Rattle.encoder.specs.declared.Written.TheVariants.{One, Two, Refused}
+use Rattle.encoder.specs.declared.CodeWords.TheVariants.{One, Two}
 
 -- The words that are written decode to the bundle: one word whatever stands after it.
 abbrev pub Decodes : Written → Bundle → Type 0
-Decodes (One w) b = (second : ℕ) → decode w second ≡ b
-Decodes (Two w v) b = decode w v ≡ b
-Decodes (Refused n) b = Unit {0}
+Decodes (Ok (One w)) b = (second : ℕ) → decode w second ≡ b
+Decodes (Ok (Two w v)) b = decode w v ≡ b
+Decodes (Err n) b = Unit {0}
 
 one_decodes : (i : Instruction) (w s : ℕ) → slot_word 0 i.guard i.operation ≡ Some w → decode w s ≡ bundle.One i
 unfolding decode
@@ -46,9 +47,9 @@ written_decodes = by_words (λ b x. Decodes x b) (λ b. tt) (λ i w e s. one_dec
 
 -- Every bundle that the decoder gives has words.
 abbrev pub IsWords : Written → Type 0
-IsWords (One w) = Unit {0}
-IsWords (Two w v) = Unit {0}
-IsWords (Refused n) = ⊥
+IsWords (Ok (One w)) = Unit {0}
+IsWords (Ok (Two w v)) = Unit {0}
+IsWords (Err n) = ⊥
 
 pub slot_two_reads : (w : ℕ) (a : AluOperation) → slot_two w ≡ Some a → reading alu_formats w ≡ Some a
 unfolding slot_two
@@ -78,38 +79,38 @@ unfolding fixed_form
 fixed_form_same first second = written_decodes (decode first second)
 
 abbrev pub Again : Written → Type 0
-Again (One w) = (s : ℕ) → fixed_form w s ≡ One w
-Again (Two w v) = fixed_form w v ≡ Two w v
-Again (Refused n) = Unit {0}
+Again (Ok (One w)) = (s : ℕ) → fixed_form w s ≡ Ok (One w)
+Again (Ok (Two w v)) = fixed_form w v ≡ Ok (Two w v)
+Again (Err n) = Unit {0}
 
 pub fixed_form_again : (first second : ℕ) → Again (fixed_form first second)
 unfolding fixed_form
 fixed_form_again first second = go (fixed_form first second) refl (fixed_form_same first second)
   where
     go : (x : Written) → written (decode first second) ≡ x → Decodes x (decode first second) → Again x
-    go (One w) e d = λ s. ap written (d s) ∙ e
-    go (Two w v) e d = ap written d ∙ e
-    go (Refused n) e d = tt
+    go (Ok (One w)) e d = λ s. ap written (d s) ∙ e
+    go (Ok (Two w v)) e d = ap written d ∙ e
+    go (Err n) e d = tt
 
 -- A refusal is 12, and what is refused is what no two words decode to. (Undecodable words decode to `Undecodable`, which has no words.)
 abbrev IsTwelve : Written → Type 0
-IsTwelve (One w) = Unit {0}
-IsTwelve (Two w v) = Unit {0}
-IsTwelve (Refused n) = n ≡ 12
+IsTwelve (Ok (One w)) = Unit {0}
+IsTwelve (Ok (Two w v)) = Unit {0}
+IsTwelve (Err r) = r ≡ refusal.NoWords
 
-pub refused_twelve : (b : Bundle) (n : ℕ) → written b ≡ Refused n → n ≡ 12
+pub refused_twelve : (b : Bundle) (r : Refusal) → written b ≡ Err r → r ≡ refusal.NoWords
 refused_twelve b n e = subst IsTwelve e (by_words (λ b x. IsTwelve x) (λ b. refl) (λ i w e. tt) (λ i j w v e f. tt) (λ g a w n e f. tt) b)
 
-pub refused_iff : (b : Bundle) → (b ≡ bundle.Undecodable → ⊥) → ((written b ≡ Refused 12) ↔ ((w v : ℕ) → decode w v ≡ b → ⊥))
+pub refused_iff : (b : Bundle) → (b ≡ bundle.Undecodable → ⊥) → ((written b ≡ Err refusal.NoWords) ↔ ((w v : ℕ) → decode w v ≡ b → ⊥))
 refused_iff b d = (no_words, λ n. go n (written b) refl (written_decodes b))
   where
-    no_words : written b ≡ Refused 12 → (w v : ℕ) → decode w v ≡ b → ⊥
+    no_words : written b ≡ Err refusal.NoWords → (w v : ℕ) → decode w v ≡ b → ⊥
     no_words e w v q = subst IsWords (ap written q ∙ e) (decoded_written w v (λ u. d (sym q ∙ u)))
 
-    go : ((w v : ℕ) → decode w v ≡ b → ⊥) → (x : Written) → written b ≡ x → Decodes x b → written b ≡ Refused 12
-    go n (One w) e q = absurd (n w 0 (q 0))
-    go n (Two w v) e q = absurd (n w v q)
-    go n (Refused m) e q = e ∙ ap Refused (refused_twelve b m e)
+    go : ((w v : ℕ) → decode w v ≡ b → ⊥) → (x : Written) → written b ≡ x → Decodes x b → written b ≡ Err refusal.NoWords
+    go n (Ok (One w)) e q = absurd (n w 0 (q 0))
+    go n (Ok (Two w v)) e q = absurd (n w v q)
+    go n (Err m) e q = e ∙ ap Err (refused_twelve b m e)
 
 -- What is written are words: below 2 ^ 32, if the constant of a long immediate is.
 abbrev pub ConstantBelow : Bundle → Type 0
@@ -119,9 +120,9 @@ ConstantBelow (bundle.Two i j) = Unit {0}
 ConstantBelow (bundle.Long i) = IfSome (constant_of (either_slot i.operation)) (λ n. n < 2 ^ 32)
 
 abbrev pub Below : Type 0 → Written → Type 0
-Below P (One w) = w < 2 ^ 32
-Below P (Two w v) = (w < 2 ^ 32) × (P → v < 2 ^ 32)
-Below P (Refused n) = Unit {0}
+Below P (Ok (One w)) = w < 2 ^ 32
+Below P (Ok (Two w v)) = (w < 2 ^ 32) × (P → v < 2 ^ 32)
+Below P (Err n) = Unit {0}
 
 pub written_below : (b : Bundle) → Below (ConstantBelow b) (written b)
 written_below = by_words (λ b x. Below (ConstantBelow b) x) (λ b. tt)

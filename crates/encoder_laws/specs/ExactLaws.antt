@@ -1,6 +1,6 @@
 -- Bits without a meaning in the words of a bundle: the writer leaves them zero, and words that decode and have zeros there are exactly
 -- what is written for the bundle that they decode to.
-use Rattle.std.specs.Prelude.{ℕ, ◌<◌, ◌^◌, Bool, true, false, cond, ◌&&◌, ◌≡◌, refl, eqb, Option, None, Some}
+use Rattle.std.specs.Prelude.{ℕ, ◌<◌, ◌^◌, Bool, true, false, cond, ◌&&◌, ◌≡◌, refl, eqb, Option, None, Some, Ok, Err}
 use Rattle.std.proofs.lemmas.Option.{same_Some, none-some}
 use Rattle.std.proofs.Common.{sym, ap, ◌∙◌, subst, arith, eq-eqb, eqb-true}
 use Rattle.std.proofs.lemmas.Bool.{eqb-false}
@@ -10,7 +10,7 @@ use Rattle.isa.specs.Formats.{long_formats, alu_formats, first_formats, applied}
 use Rattle.decoder.specs.Decode.{is_two_words, guard_of, either, slot_one, slot_two, decode}
 use Rattle.fields.specs.Place.{◌⟨◌⟩, at, placed, writing}
 use Rattle.fields.specs.Fields.{operand_number, long_fields, alu_fields, first_fields}
-use Rattle.encoder.specs.Encode.{constant_of, guarded, in_slot, slot_word, long_word, written}
+use Rattle.encoder.specs.Encode.{constant_of, guarded, in_slot, slot_word, long_word, written, Written}
 use Rattle.encoder_laws.specs.FormatLaws.{in_format_lem, find}
 use Rattle.encoder_laws.specs.UnusedLaws.{blanks, unused_zero, bare, write_bare, other_bare, read_whole}
 use Rattle.encoder_laws.specs.Codes.{operand_back}
@@ -23,8 +23,7 @@ use Rattle.isa.specs.declared.Operation.{Operation}
 use Rattle.isa.specs.declared.Operation.TheVariants.{Alu}
 use Rattle.isa.specs.declared.Bundle.{Bundle}
 use Rattle.isa.specs.declared.Bundle.TheVariants as bundle
-use Rattle.encoder.specs.declared.Written.{Written}
-use Rattle.encoder.specs.declared.Written.TheVariants.{One, Two, Refused}
+use Rattle.encoder.specs.declared.CodeWords.TheVariants.{One, Two}
 
 -- A written word has zeros in the bits that its format leaves without a meaning, for each of the three lists.
 pub long_unused_zero : (g : PredicateOperand) (a : AluOperation) (w : ℕ) (f : Format (ℕ → AluOperation))
@@ -169,9 +168,9 @@ Bare first second (bundle.Two i j) = (bare_word first ≡ true) × (bare_word se
 Bare first second (bundle.Long i) = bare_word first ≡ true
 
 abbrev pub BareWords : Written → Bundle → Type 0
-BareWords (One w) b = (second : ℕ) → Bare w second b
-BareWords (Two w v) b = Bare w v b
-BareWords (Refused n) b = Unit {0}
+BareWords (Ok (One w)) b = (second : ℕ) → Bare w second b
+BareWords (Ok (Two w v)) b = Bare w v b
+BareWords (Err n) b = Unit {0}
 
 pub written_bare : (b : Bundle) → BareWords (written b) b
 written_bare = by_words (λ b x. BareWords x b) (λ b. tt)
@@ -181,14 +180,14 @@ written_bare = by_words (λ b x. BareWords x b) (λ b. tt)
 
 -- The words that a bundle is decoded from.
 abbrev pub words_of : ℕ → ℕ → Written
-words_of first second = cond (is_two_words first) (Two first second) (One first)
+words_of first second = cond (is_two_words first) (Ok (Two first second)) (Ok (One first))
 
 -- Bare words that decode are their own fixed form.
 pub written_exactly : (first second : ℕ) → first < 2 ^ 32 → second < 2 ^ 32 → (decode first second ≡ bundle.Undecodable → ⊥)
     → Bare first second (decode first second) → fixed_form first second ≡ words_of first second
 unfolding fixed_form written
 written_exactly first second h k = by_decode
-    (λ t b. (b ≡ bundle.Undecodable → ⊥) → Bare first second b → written b ≡ cond t (Two first second) (One first)) first second
+    (λ t b. (b ≡ bundle.Undecodable → ⊥) → Bare first second b → written b ≡ cond t (Ok (Two first second)) (Ok (One first))) first second
     (λ t d b. absurd (d refl))
     (λ a e d b. let v = long_exact first second a b h e in rw (v.0, v.1) refl)
     (λ o a p f g d b.
@@ -203,6 +202,6 @@ unfolding fixed_form
 exactly_bare first second e =
     go (is_two_words first) (decode first second) (subst (λ (x : Written). BareWords x (decode first second)) e (written_bare (decode first second)))
   where
-    go : (t : Bool) (b : Bundle) → BareWords (cond t (Two first second) (One first)) b → Bare first second b
+    go : (t : Bool) (b : Bundle) → BareWords (cond t (Ok (Two first second)) (Ok (One first))) b → Bare first second b
     go true b h = h
     go false b h = h second

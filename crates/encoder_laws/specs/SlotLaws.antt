@@ -1,14 +1,15 @@
 -- The word of a slot, and the first word of a long immediate: read back whole, and written for whatever is read. Bundles have these words.
-use Rattle.std.specs.Prelude.{ℕ, ◌^◌, ◌<◌, Bool, true, false, cond, [], ◌∷◌, ◌≡◌, refl, Option, None, Some}
+use Rattle.std.specs.Prelude.{ℕ, ◌^◌, ◌<◌, Bool, true, false, cond, [], ◌∷◌, ◌≡◌, refl, Option, None, Some, Ok, Err}
 use Rattle.std.proofs.lemmas.Option.{same_Some, none-some}
 use Rattle.std.proofs.Common.{sym, ap, ◌∙◌, subst, arith}
+use Rattle.answers.specs.declared.Refusal.TheVariants as refusal
 use Rattle.isa.specs.Format.{◌⋯◌, ◌≔◌, bits, matches, reading}
 use Rattle.isa.specs.Formats.{predicate_operand, long_formats, alu_formats, first_formats, applied}
 use Rattle.decoder.specs.Decode.{is_two_words, guard_of, either, slot_one, slot_two, one, two, long, decode}
 use Rattle.decoder_laws.specs.Layout.{fixes}
 use Rattle.fields.specs.Place.{◌⟨◌⟩, placed, writing}
 use Rattle.fields.specs.Fields.{operand_number, long_fields, alu_fields, first_fields}
-use Rattle.encoder.specs.Encode.{either_slot, constant_of, guarded, in_slot, slot_word, long_word, alone, beside, written}
+use Rattle.encoder.specs.Encode.{either_slot, constant_of, guarded, in_slot, slot_word, long_word, alone, beside, written, Written}
 use Rattle.encoder_laws.specs.PlaceLaws.{matches_head, matches_tail}
 use Rattle.encoder_laws.specs.FormatLaws.{fixed_bit, at_all, InFormat, in_format_lem, write_read, read_other, find, read_write}
 use Rattle.encoder_laws.specs.Codes.{operand_back, operand_forth}
@@ -21,8 +22,7 @@ use Rattle.isa.specs.declared.Instruction.{Instruction}
 use Rattle.isa.specs.declared.AluInstruction.{AluInstruction}
 use Rattle.isa.specs.declared.Bundle.{Bundle}
 use Rattle.isa.specs.declared.Bundle.TheVariants as bundle
-use Rattle.encoder.specs.declared.Written.{Written}
-use Rattle.encoder.specs.declared.Written.TheVariants.{One, Two, Refused}
+use Rattle.encoder.specs.declared.CodeWords.TheVariants.{One, Two}
 
 -- An operation is one that either slot may hold, or is not.
 pub by_slot : (P : Operation → Option AluOperation → Type 0) → ((a : AluOperation) → P (Alu a) (Some a)) → ((o : Operation) → P o None)
@@ -172,12 +172,12 @@ abbrev pub long_of : PredicateOperand → Operation → Bundle
 long_of g o = bundle.Long (record { guard = g; operation = o })
 
 pub by_words : (P : Bundle → Written → Type 0)
-    → ((b : Bundle) → P b (Refused 12))
-    → ((i : Instruction) (w : ℕ) → slot_word 0 i.guard i.operation ≡ Some w → P (bundle.One i) (One w))
+    → ((b : Bundle) → P b (Err refusal.NoWords))
+    → ((i : Instruction) (w : ℕ) → slot_word 0 i.guard i.operation ≡ Some w → P (bundle.One i) (Ok (One w)))
     → ((i : Instruction) (j : AluInstruction) (w v : ℕ) → slot_word 1 i.guard i.operation ≡ Some w
-    → slot_word 0 j.guard (Alu j.operation) ≡ Some v → P (bundle.Two i j) (Two w v))
+    → slot_word 0 j.guard (Alu j.operation) ≡ Some v → P (bundle.Two i j) (Ok (Two w v)))
     → ((g : PredicateOperand) (a : AluOperation) (w n : ℕ) → long_word g (Some a) ≡ Some w → constant_of (Some a) ≡ Some n
-    → P (long_of g (Alu a)) (Two w n))
+    → P (long_of g (Alu a)) (Ok (Two w n)))
     → (b : Bundle) → P b (written b)
 unfolding written
 by_words P r one two long bundle.Undecodable = r bundle.Undecodable

@@ -1,5 +1,6 @@
 -- What bundles are written as, and the listing of code, as texts of a report (docs/CASES.md, "The report").
 use Rattle.std.specs.Prelude.{ℕ, zero, suc, ◌+◌, Bool, true, cond, ◌&&◌, List, [], ◌++◌, leb, eqb, length, Result, Ok, Err}
+use Rattle.answers.specs.declared.Refusal.TheVariants as refusal
 use Rattle.answers.specs.declared.Refusal.{Refusal}
 use Rattle.answers.specs.Refusal.{number}
 use Rattle.text.specs.Number.{decimal_text, word_text}
@@ -9,9 +10,8 @@ use Rattle.big_endian.specs.Bytes.{word_at}
 use Rattle.decoder.specs.Decode.{bundle_words}
 use Rattle.fetch.specs.Fetch.{following_at, fetched}
 use Rattle.fetch.specs.declared.Fetched.{Fetched}
-use Rattle.encoder.specs.Encode.{written}
-use Rattle.encoder.specs.declared.Written.{Written}
-use Rattle.encoder.specs.declared.Written.TheVariants.{One, Two, Refused}
+use Rattle.encoder.specs.Encode.{written, Written}
+use Rattle.encoder.specs.declared.CodeWords.TheVariants.{One, Two}
 use Rattle.disassembler.specs.Text.{bundle_text}
 
 -- A word, and a refusal, with a space in front.
@@ -23,16 +23,16 @@ refused_text n = bytes " refused " ++ decimal_text n
 
 -- What is written: its words, or the refusal.
 unfoldable pub written_text : Written → List ℕ
-written_text (One w) = spaced w
-written_text (Two w v) = spaced w ++ spaced v
-written_text (Refused n) = refused_text n
+written_text (Ok (One w)) = spaced w
+written_text (Ok (Two w v)) = spaced w ++ spaced v
+written_text (Err r) = refused_text (number r)
 
 -- The fixed form is shown where it differs from the words that stand in the code. What was decoded is never refused (encoder_laws), so for
 -- a refusal nothing is shown.
 abbrev pub is_fixed : Written → ℕ → ℕ → Bool
-is_fixed (One w) first second = eqb w first
-is_fixed (Two w v) first second = eqb w first && eqb v second
-is_fixed (Refused n) first second = true
+is_fixed (Ok (One w)) first second = eqb w first
+is_fixed (Ok (Two w v)) first second = eqb w first && eqb v second
+is_fixed (Err n) first second = true
 
 unfoldable pub fixed_text : ℕ → ℕ → Written → List ℕ
 fixed_text first second w = cond (is_fixed w first second) [] (bytes " fixed" ++ written_text w)

@@ -12,8 +12,8 @@ ghost use Rattle.listing.specs.Listing.{has_second, words_text, line_text, list_
 use big_endian::read_word;
 use decoder::bundle_words;
 use disassembler::writing::put_bundle;
-use encoder::Written;
 use encoder::words::write;
+use encoder::{CodeWords, Written};
 use fetch::{Fetched, fetch};
 use text::page::Page;
 use word::arithmetic::add;
@@ -46,9 +46,9 @@ pub fn put_written(page: &mut Page, w: Written)
     ensures { Puts page.old page.new (written_text w) }
 {
     match w {
-        Written::One(w) => put_spaced(page, w),
-        Written::Two(w, v) => put_words(page, true, w, v),
-        Written::Refused(n) => put_refused(page, n),
+        Ok(CodeWords::One(w)) => put_spaced(page, w),
+        Ok(CodeWords::Two(w, v)) => put_words(page, true, w, v),
+        Err(refusal) => put_refused(page, refusal.number()),
     }
 }
 
@@ -57,9 +57,9 @@ fn is_fixed(w: Written, first: u32, second: u32) -> bool
     ensures { result ≡ is_fixed w first second }
 {
     match w {
-        Written::One(w) => w == first,
-        Written::Two(w, v) => (w == first) & (v == second),
-        Written::Refused(_) => true,
+        Ok(CodeWords::One(w)) => w == first,
+        Ok(CodeWords::Two(w, v)) => (w == first) & (v == second),
+        Err(_) => true,
     }
 }
 

@@ -8,7 +8,8 @@ ghost use Rattle.method_cache.specs.MethodCache.{capacity_ok};
 pub mod lookup;
 pub mod words;
 
-// Whether there is a method cache, and how many blocks and bytes it holds at most. Switched off, its numbers have no meaning.
+// Whether there is a method cache, and how many blocks and bytes it holds at most. Switched off, its numbers have no meaning. A flag beside
+// numbers, as C and the record have them, and no Option: it goes by value through every bundle, where an enum is dearer.
 #[derive(Clone, Copy)]
 pub struct Method {
     pub on: bool,

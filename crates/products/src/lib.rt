@@ -21,7 +21,7 @@ pub enum Products {
     Two { first: Product, second: Product },
 }
 
-// The same as words. count: 0 none, 1 the first, and any other both.
+// The same as words. count: 0 none, 1 the first, and any other both. A number and no enum, as it is copied in every bundle.
 #[derive(Clone, Copy)]
 pub struct ProductWords {
     pub count: u32,

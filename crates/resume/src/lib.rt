@@ -6,14 +6,15 @@ ghost use Rattle.answers.specs.Refusal.{number};
 ghost use Rattle.settings.specs.Settings.{admits};
 ghost use Rattle.settings.specs.Setup.{given_setup, settings};
 ghost use Rattle.state.specs.Whole.{state_of};
+ghost use Rattle.bundle_model.specs.Bundle.{returned as answered};
 ghost use Rattle.run.specs.Ran.{returned as ran};
 ghost use Rattle.record_model.specs.Record.{longest};
 ghost use Rattle.resume_model.specs.Resume.{as_found, as_step, resumed, restepped};
 ghost use Rattle.resume.specs.Resumed.{returned, judged_by, resumed_with};
 
 use answers::{Refusal, Verdict};
-use bundle_model::Counts;
 use bundle_model::outcome::no_counts;
+use bundle_model::{Answer, Counts};
 use core_state::judged::parts_ok;
 use method_cache::lookup::held_ok;
 use record::reading::read_record;
@@ -50,13 +51,27 @@ fn turned_away(refusal: Refusal) -> Resumed
     }
 }
 
-fn reply_of(a: RunAnswer) -> Reply
-    ensures { returned result ≡ ran a }
-{
-    match a {
-        RunAnswer::Ended => Reply::Ended,
-        RunAnswer::Spent => Reply::Spent,
-        RunAnswer::Refused(refusal) => Reply::Refused(refusal),
+impl From<RunAnswer> for Reply {
+    ghost from_gives = { λ a r. returned r ≡ ran a };
+
+    fn from(a: RunAnswer) -> Reply {
+        match a {
+            RunAnswer::Ended => Reply::Ended,
+            RunAnswer::Spent => Reply::Spent,
+            RunAnswer::Refused(refusal) => Reply::Refused(refusal),
+        }
+    }
+}
+
+impl From<Answer> for Reply {
+    ghost from_gives = { λ a r. returned r ≡ answered a };
+
+    fn from(a: Answer) -> Reply {
+        match a {
+            Answer::Done => Reply::Done,
+            Answer::Ended => Reply::Ended,
+            Answer::Refused(refusal) => Reply::Refused(refusal),
+        }
     }
 }
 
@@ -108,7 +123,7 @@ fn go_on(
     let counts = r.counts;
     let written = write_record(state, counts, &*cache, &mut *out);
     Resumed {
-        answer: reply_of(answer),
+        answer: Reply::from(answer),
         counts,
         written,
     }

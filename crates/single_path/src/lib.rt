@@ -12,8 +12,8 @@ pub use marking::Marking;
 pub use marking_rules::Rule;
 use settings::Config;
 
-// What the check answers: Refused holds the address of the bundle (0 for Limits), Broken, which is refusal 9, that address and a rule that
-// the bundle breaks.
+// What the check answers, one thing more than a Result can tell: Refused holds the address of the bundle (0 for Limits), Broken, which is
+// refusal 9, that address and a rule that the bundle breaks.
 #[derive(Clone, Copy)]
 pub enum Checked {
     Accepted,

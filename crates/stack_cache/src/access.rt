@@ -4,6 +4,7 @@ ghost use Rattle.std.specs.Prelude.{◌≡◌, ◌+◌, ◌-◌, ◌*◌, ◌/�
 ghost use Rattle.stack_cache.specs.Stack.{unit, cache_word, put_cache_word, cache_number, put_cache_number};
 
 // The cache's word for an address.
+#[tactic(auto, unfolding(crate::specs::Stack::cache_word))]
 pub fn cache_word(cache: &[u32], address: u32) -> u32
     ensures { result ≡ cache_word cache.now address }
 {
@@ -15,6 +16,7 @@ pub fn cache_word(cache: &[u32], address: u32) -> u32
 }
 
 // v becomes the cache's word for an address.
+#[tactic(auto, unfolding(crate::specs::Stack::put_cache_word))]
 pub fn put_cache_word(cache: &mut [u32], address: u32, v: u32)
     ensures { cache.new ≡ put_cache_word cache.old address v }
 {
@@ -26,6 +28,7 @@ pub fn put_cache_word(cache: &mut [u32], address: u32, v: u32)
 }
 
 // How many bits of the word lie below the BYTES bytes from an address on: none where these reach past it.
+#[tactic(auto, using(crate::specs::StackLaws::shift_unit, std::proofs::Common::arith))]
 fn bits_below<const BYTES: u32>(address: u32) -> u32
     requires { (0 < BYTES) × (BYTES < 4) }
     ensures { (2 ^ result ≡ unit BYTES address) × (result < 32) }
@@ -50,6 +53,7 @@ fn with_part(w: u32, shift: u32, size: u32, v: u32) -> u32
 }
 
 // A part of less than a word read, and replaced.
+#[tactic(auto, using(crate::specs::StackLaws::size_of, std::proofs::Common::arith), unfolding(crate::specs::Stack::cache_number, crate::specs::Stack::part_of))]
 fn load_part<const BYTES: u32>(cache: &[u32], address: u32) -> u32
     requires { (0 < BYTES) × (BYTES < 4) }
     ensures { result ≡ cache_number BYTES cache.now address }
@@ -61,6 +65,7 @@ fn load_part<const BYTES: u32>(cache: &[u32], address: u32) -> u32
     )
 }
 
+#[tactic(auto, using(crate::specs::StackLaws::size_of, std::proofs::Common::arith, crate::specs::StackLaws::put_part_word), unfolding(crate::specs::Stack::part_of, crate::specs::Stack::put_part, crate::specs::Stack::put_cache_number))]
 fn store_part<const BYTES: u32>(cache: &mut [u32], address: u32, v: u32)
     requires { (0 < BYTES) × (BYTES < 4) }
     ensures { cache.new ≡ put_cache_number BYTES cache.old address v }
@@ -74,6 +79,7 @@ fn store_part<const BYTES: u32>(cache: &mut [u32], address: u32, v: u32)
     put_cache_word(&mut *cache, address, w);
 }
 
+#[tactic(auto, using(crate::specs::StackLaws::part_4), unfolding(crate::specs::Stack::cache_number))]
 pub fn load_word(cache: &[u32], address: u32) -> u32
     ensures { result ≡ cache_number 4 cache.now address }
 {
@@ -92,6 +98,7 @@ pub fn load_byte(cache: &[u32], address: u32) -> u32
     load_part::<1>(cache, address)
 }
 
+#[tactic(auto, using(crate::specs::StackLaws::put_part_4), unfolding(crate::specs::Stack::put_cache_number, crate::specs::Stack::cache_word))]
 pub fn store_word(cache: &mut [u32], address: u32, v: u32)
     ensures { cache.new ≡ put_cache_number 4 cache.old address v }
 {

@@ -40,6 +40,7 @@ impl StackCache {
     pub const GREATEST: u32 = 512;
 
     // A cache of W words: W is a power of two within the limits, that is, a divisor of the greatest.
+    #[tactic(auto, unfolding(crate::specs::Stack::make_cache, crate::specs::Stack::is_cache_size))]
     pub fn new(words: usize) -> Result<StackCache, Refusal>
         ensures { result ≡ make_cache words }
     {

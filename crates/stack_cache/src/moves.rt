@@ -7,6 +7,7 @@ use big_endian::{read_word, write_word};
 use word::arithmetic::{add, sub};
 
 // As many words as asked below ss are spilled, the one at ss - 4 first.
+#[tactic(auto, using(big_endian::specs::BytesLaws::length_put_number, crate::specs::StackLaws::spilled_step, crate::specs::StackLaws::spilled_none))]
 pub fn spill(area: &mut [u8], cache: &[u32], lo: u32, ss: u32, words: u32)
     ensures { area.new ≡ spilled cache.now lo area.old (below words ss) }
 {
@@ -19,6 +20,7 @@ pub fn spill(area: &mut [u8], cache: &[u32], lo: u32, ss: u32, words: u32)
 }
 
 // As many words as asked from ss up are filled.
+#[tactic(auto, using(crate::specs::StackLaws::length_put_cache_word, crate::specs::StackLaws::filled_step, crate::specs::StackLaws::filled_none))]
 pub fn fill(area: &[u8], cache: &mut [u32], lo: u32, ss: u32, words: u32)
     ensures { cache.new ≡ filled area.now lo cache.old (above words ss) }
 {

@@ -75,9 +75,6 @@ pub record Leaves (before now : Lent) (rest text : List ℕ) : Type 0 where
   pub same : now.out.ghost_name ≡ before.out.ghost_name
   pub left : with_text (shown now) rest ≡ with_text (shown before) text
 
-pub leaves_all : (p : Lent) (s : List ℕ) → Leaves p p s s
-leaves_all p s = record { same = refl; left = refl }
-
 pub leaves_less : (p q r : Lent) (whole s t rest : List ℕ) → Leaves p q t whole → t ≡ s ++ rest → Puts q r s → Leaves p r rest whole
 leaves_less p q r whole s t rest h e k = record {
   same = k.same ∙ h.same;

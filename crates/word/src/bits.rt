@@ -17,6 +17,7 @@ pub fn shift_right(a: u32, n: u32) -> u32
 }
 
 // The shift that copies the sign.
+#[tactic(auto, unfolding(crate::specs::Word::shift_right_signed))]
 pub fn shift_right_signed(a: u32, n: u32) -> u32
     ensures { result ≡ shift_right_signed a n }
 {
@@ -55,6 +56,7 @@ pub fn test_bit(a: u32, n: u32) -> bool
 }
 
 // Bit n of a alone, or-ed with b in that place.
+#[tactic(auto, unfolding(crate::specs::Word::copy_bit))]
 pub fn copy_bit(a: u32, n: u32, b: bool) -> u32
     ensures { result ≡ copy_bit a n b }
 {

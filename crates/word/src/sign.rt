@@ -16,6 +16,7 @@ fn reading(n: u32, half: u32) -> i32
 }
 
 // A word as the number that it is in two's complement.
+#[tactic(auto, using(crate::proofs::Signs::reread, crate::proofs::Signs::signed_cast))]
 pub fn signed(a: u32) -> i32
     ensures { result ≡ signed 32 a }
 {
@@ -30,6 +31,7 @@ pub fn unsigned(z: i32) -> u32
 }
 
 // The low 22 bits of n, read as signed: the field of a branch.
+#[tactic(auto, unfolding(crate::specs::Word::signed))]
 pub fn signed_field_22(n: u32) -> i32
     ensures { result ≡ signed 22 (n % 2 ^ 22) }
 {
@@ -37,6 +39,7 @@ pub fn signed_field_22(n: u32) -> i32
 }
 
 // a < b, both read as signed.
+#[tactic(auto, unfolding(crate::specs::Word::less_signed))]
 pub fn less_signed(a: u32, b: u32) -> bool
     ensures { result ≡ less_signed a b }
 {
@@ -44,6 +47,7 @@ pub fn less_signed(a: u32, b: u32) -> bool
 }
 
 // a <= b, both read as signed.
+#[tactic(auto, unfolding(crate::specs::Word::less_equal_signed))]
 pub fn less_equal_signed(a: u32, b: u32) -> bool
     ensures { result ≡ less_equal_signed a b }
 {
@@ -51,6 +55,7 @@ pub fn less_equal_signed(a: u32, b: u32) -> bool
 }
 
 // The low BITS bits of n, extended to a word by their sign. No bits are 0, and of 32 or more the word is what it was.
+#[tactic(auto, using(crate::proofs::Signs::extend_none, crate::proofs::Signs::extend_all, crate::proofs::Signs::half_of, crate::proofs::Signs::half_fits, crate::proofs::Signs::reread, crate::proofs::Signs::halves), unfolding(crate::specs::Word::signed, crate::specs::Word::sign_extend))]
 pub fn sign_extend<const BITS: u32>(n: u32) -> u32
     ensures { result ≡ sign_extend BITS n }
 {

@@ -4,26 +4,14 @@ use Rattle.marking_rules.specs.Rules.{of_result, controlling, asked}
 use Rattle.marking_rules.specs.RuleLaws.{stack_row, transfer_row}
 use Rattle.marking_rules.proofs.asked_of.Goals as goal
 
-pub returns-in-Alu : goal.returns-in-Alu
-returns-in-Alu c = rw c.in-Alu.is c.asked_of_alu.ensures
-
 pub returns-in-Multiply : goal.returns-in-Multiply
 unfolding asked
 returns-in-Multiply c = let m = c.args.m in
     rw c.in-Multiply.is (c.result.ensures ∙ (λ i. of_result (not m.sl || not m.sh) (c.private_register.ensures i || c.private_register-in-Multiply.ensures i)))
 
-pub returns-in-Mts : goal.returns-in-Mts
-returns-in-Mts c = rw c.in-Mts.is c.asked_of_mts.ensures
-
 pub returns-in-Mfs : goal.returns-in-Mfs
 unfolding asked
 returns-in-Mfs c = rw c.in-Mfs.is (c.result-in-Mfs.ensures ∙ (λ i. of_result (c.public_register.ensures i) (c.private_special.ensures i)))
-
-pub returns-in-Load : goal.returns-in-Load
-returns-in-Load c = rw c.in-Load.is (c.asked_of_load.ensures _ _)
-
-pub returns-in-Store : goal.returns-in-Store
-returns-in-Store c = rw c.in-Store.is (c.asked_of_store.ensures _ _)
 
 pub returns-in-StackControl : goal.returns-in-StackControl
 returns-in-StackControl c = rw c.in-StackControl.is (c.controlling.ensures ∙ ap controlling c.private_stack.ensures ∙ sym (stack_row _ _))

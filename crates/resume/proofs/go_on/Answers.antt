@@ -48,6 +48,6 @@ returns c =
     let put = c.write_record-written in
     let o = whole r.result (buffers r.new.main r.new.local r.new.cache) in
     let ran = r.ensures.ran ∙ ap (λ (p : Box). run x a.budget p.state (buffers a.main.now a.local.now p.cache)) has.1 in
-    ap (λ (y : Returned). resumed_of y o.counts put.result o.buffers.main o.buffers.local put.new.out) c.reply_of.ensures
+    ap (λ (y : Returned). resumed_of y o.counts put.result o.buffers.main o.buffers.local put.new.out) c.from.ensures
     ∙ gone_on x a.budget w a.bytes.now a.main.now a.local.now a.out.now c.requires.0 c.requires.1 o put.result put.new.out
     has.0 fine ran (r.auto.cache ∙ k.auto.cache) put.ensures

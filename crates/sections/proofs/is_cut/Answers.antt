@@ -36,9 +36,6 @@ loop-preserved c =
           ∙ l.invariant.1,
     )
 
-pub overflow_sub-result : goal.overflow_sub-result
-overflow_sub-result c = c.loop.invariant.0
-
 pub returns : goal.returns
 returns c =
     let l = c.loop in

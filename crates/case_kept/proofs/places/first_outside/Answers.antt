@@ -2,15 +2,8 @@ use native.Mathlib.Omega.{arith}
 use Prim.Native.Nat.{◌-◌, ◌+◌, ◌*◌}
 use mathlib.Core.Path.{◌≡◌}
 use borrow.Author.Tests.{le-leb, lt-leb}
-use Rattle.case_kept.specs.Places.{first_outside}
-use Rattle.case_kept.specs.PlacesLaws.{outside_none, outside_some}
+use Rattle.case_kept.specs.PlacesLaws.{outside_some}
 use Rattle.case_kept.proofs.places.first_outside.Goals as goal
-
-pub loop-n-init : goal.loop-n-init
-unfolding first_outside
-loop-n-init c =
-    let e : c.min-n-end.result - 0 ≡ c.min-n-end.result = omega arith in
-    rw (e, c.min-n-end.ensures, c.number.ensures)
 
 pub returns-then-number : goal.returns-then-number
 returns-then-number c =
@@ -21,6 +14,3 @@ loop-n-preserved c =
     let left : c.min-n-end.result - (c.loop-n.n + 1) ≡ c.min-n-end.result - c.loop-n.n - 1 = omega arith in
     let at : 2400 + 3 * (c.loop-n.n + 1) ≡ 2400 + 3 * c.loop-n.n + 3 = omega arith in
     rw (← c.loop-n.invariant, left, at, outside_some (c.min-n-end.result - c.loop-n.n) _ _ (omega arith), ← c.number-length.ensures, ← c.number-in-loop-n.ensures, ← c.number-in-loop-n-2.ensures, lt-leb _ _ c.if-number.false)
-
-pub returns : goal.returns
-returns c = rw (← c.loop-n.invariant, outside_none (c.min-n-end.result - c.loop-n.n) _ _ (omega arith))

@@ -13,5 +13,5 @@ loop-k-preserved c = let l = c.loop-k in puts_texts _ _ _ _ l.k l.invariant c.pu
 pub returns : goal.returns
 unfolding cache_changes
 returns c = let l = c.loop-k in
-    let e : l.k ≡ min c.args.n 513 = omega (arith, c.least-end.ensures.2) in
+    let e : l.k ≡ min c.args.n 513 = omega arith in
     rw e at l.invariant

@@ -1,10 +1,6 @@
 use Rattle.disassembler.specs.Shown.{shown}
 use Rattle.disassembler.proofs.showing.show.Goals as goal
 
-pub returns-in-Alu : goal.returns-in-Alu
-unfolding shown
-returns-in-Alu c = rw c.in-Alu.is c.show_alu.ensures
-
 pub returns-in-Multiply : goal.returns-in-Multiply
 unfolding shown
 returns-in-Multiply c = rw (c.in-Multiply.is, ← c.multiply_code.ensures) c.two.ensures
@@ -24,14 +20,6 @@ returns-in-Load c = rw (c.in-Load.is, ← c.load_type.ensures) c.three.ensures
 pub returns-in-Store : goal.returns-in-Store
 unfolding shown
 returns-in-Store c = rw (c.in-Store.is, ← c.store_type.ensures) c.three-in-Store.ensures
-
-pub returns-in-StackControl : goal.returns-in-StackControl
-unfolding shown
-returns-in-StackControl c = rw c.in-StackControl.is c.show_stack.ensures
-
-pub returns-in-Transfer : goal.returns-in-Transfer
-unfolding shown
-returns-in-Transfer c = rw c.in-Transfer.is c.show_transfer.ensures
 
 pub returns-in-Trap : goal.returns-in-Trap
 unfolding shown

@@ -1,14 +1,6 @@
 use Rattle.disassembler.specs.Shown.{shown}
 use Rattle.disassembler.proofs.showing.show_alu.Goals as goal
 
-pub returns-in-Arithmetic : goal.returns-in-Arithmetic
-unfolding shown
-returns-in-Arithmetic c = rw c.in-Arithmetic.is c.show_arithmetic.ensures
-
-pub returns-in-Compare : goal.returns-in-Compare
-unfolding shown
-returns-in-Compare c = rw c.in-Compare.is c.show_compare.ensures
-
 pub returns-in-Predicate : goal.returns-in-Predicate
 unfolding shown
 returns-in-Predicate c = rw (c.in-Predicate.is, ← c.predicate_code.ensures, ← c.plain.ensures, ← c.of_predicate.ensures, ← c.of_predicate-in-Predicate.ensures, ← c.plain-in-Predicate.ensures) c.four.ensures

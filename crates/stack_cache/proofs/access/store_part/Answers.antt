@@ -1,6 +1,6 @@
 use Rattle.std.proofs.Common.{arith}
 use Rattle.std.proofs.Math.Nat.{one-le-pow}
-use Rattle.stack_cache.specs.Stack.{part_of, put_part, put_cache_number}
+use Rattle.stack_cache.specs.Stack.{part_of, put_part}
 use Rattle.stack_cache.specs.StackLaws.{put_part_word, size_of}
 use Rattle.stack_cache.proofs.access.store_part.Goals as goal
 
@@ -13,7 +13,3 @@ with_part-w-requires g c = let a = c.before.args in
       rw (size_of k (omega (arith, c.requires))) (one-le-pow k 256 (omega arith)),
       rw (c.bits_below.ensures.0, size_of k (omega (arith, c.requires))) (put_part_word k w.result a.address a.v (omega (arith, c.requires)) (omega (arith, w.type_inv))),
     )
-
-pub returns : goal.returns
-unfolding part_of put_part put_cache_number
-returns g c = rw (← c.cache_word.ensures, ← c.bits_below.ensures.0, ← size_of g.row.BYTES (omega (arith, c.requires)), ← c.with_part-w.ensures) c.put_cache_word.ensures

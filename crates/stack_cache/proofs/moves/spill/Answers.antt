@@ -1,9 +1,9 @@
 use native.Mathlib.Omega.{arith}
 use Prim.Native.Nat.{◌-◌, ◌+◌}
-use mathlib.Core.Path.{◌≡◌, sym, ap, ◌∙◌}
+use mathlib.Core.Path.{◌≡◌, ap, ◌∙◌}
 use lib.ListN.{length}
 use Rattle.big_endian.specs.BytesLaws.{length_put_number}
-use Rattle.stack_cache.specs.StackLaws.{spilled_step, spilled_none}
+use Rattle.stack_cache.specs.StackLaws.{spilled_step}
 use Rattle.stack_cache.proofs.moves.spill.Goals as goal
 
 pub loop-preserved : goal.loop-preserved
@@ -12,9 +12,3 @@ loop-preserved c = let inv = c.loop.invariant in
     let one_less : c.args.words - (c.loop.counter + 1) ≡ left - 1 = omega arith in
     let e = rw (c.sub.ensures, c.cache_word.ensures) at c.write_word.ensures in
     (ap length e ∙ length_put_number 4 _ _ _ ∙ inv.0, rw one_less (spilled_step _ _ _ _ left _ _ (omega (arith, c.loop-test.true)) c.sub-a.ensures e ∙ inv.1))
-
-pub shape_of-area : goal.shape_of-area
-shape_of-area c = c.loop.invariant.0
-
-pub returns : goal.returns
-returns c = let left = c.args.words - c.loop.counter in sym (spilled_none _ _ _ left _ (omega (arith, c.loop-test.false))) ∙ c.loop.invariant.1

@@ -5,11 +5,6 @@ use Rattle.word.specs.WordLaws.{product_fits}
 use Rattle.word.proofs.Signs.{widened}
 use Rattle.word.proofs.arithmetic.product_signed.Goals as goal
 
-pub overflow_mul-from : goal.overflow_mul-from
-overflow_mul-from c = let x = c.signed in
-    let y = c.signed-2 in
-    rw (c.from.ensures, c.from-2.ensures, widened x.result x.type_inv, widened y.result y.type_inv) (product_fits x.result y.result x.type_inv y.type_inv)
-
 pub returns : goal.returns
 unfolding product_signed
 returns c = let x = c.signed in

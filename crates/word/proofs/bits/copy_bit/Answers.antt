@@ -7,10 +7,6 @@ use Rattle.word.proofs.bits.copy_bit.Goals as goal
 bit : (n : ℕ) → 1 * 2 ^ (n % 32) % 4294967296 ≡ 2 ^ (n % 32)
 bit n = omega (arith, bit_word n)
 
-pub returns-then-b : goal.returns-then-b
-unfolding copy_bit
-returns-then-b c = rw (bit c.args.n, c.if-b.true)
-
 pub returns : goal.returns
 unfolding copy_bit
 returns c = let a = c.args in
