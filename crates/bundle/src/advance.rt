@@ -1,7 +1,7 @@
 // Bundles one after the other. Settings, state, list and table are judged once before the first.
 ghost use Rattle.std.specs.Prelude.{◌≡◌, true};
 ghost use Rattle.settings.specs.Settings.{admits};
-ghost use Rattle.settings.specs.Setup.{buffers, found, left, lent, replaying, setup, setup_of};
+ghost use Rattle.settings.specs.Setup.{buffers, found, left, lent, given_setup, given_setup_of};
 ghost use Rattle.bundle_model.specs.Counts.{no_counts, counts_in};
 ghost use Rattle.bundle_model.specs.Execute.{found_whole, handed_back, advanced_back, Kept};
 ghost use Rattle.run_model.specs.Loop.{goes_on, advanced};
@@ -12,9 +12,10 @@ use bundle_model::ready::readiness;
 use bundle_model::{Advanced, Answer, Bundled, Readiness};
 use core_state::Core;
 use core_state::judged::has_ended;
-use settings::{Config, Settings};
+use settings::{Given, Settings};
 
-// Bundles from a state on, until one is refused, the state has ended, or the budget is used up. The one place that steps.
+// Bundles from a state on, until one is refused, the state has ended, or the budget is used up. The one place that steps. Its copy of what is
+// given is seen by nothing outside the loop, so that the loop need not read it again after each store.
 fn bundles(
     start: Core,
     registers: &mut [u32; 32],
@@ -23,16 +24,14 @@ fn bundles(
     blocks: &mut [u32; 17],
     counts: &mut [u64; 6],
     g: Settings,
-    code: &[u8],
-    list: &[u8],
-    table: &[u8],
+    given: Given,
     main: &mut [u8],
     local: &mut [u8],
     cache: &mut [u32],
     budget: u32,
 ) -> Bundled
-    requires { (admits g ≡ true) × (g ≡ lent (setup_of code.now g) (buffers main.old local.old cache.old)) × (counts_in counts.old ≡ no_counts) }
-    ensures { Kept (handed_back registers predicates held counts result (left main local cache) ≡ goes_on (replaying list.now table.now (setup_of code.now g)) budget (found_whole registers predicates held start) (found main local cache)) start result.core held.old held.new }
+    requires { (admits g ≡ true) × (g ≡ lent (given_setup_of given g) (buffers main.old local.old cache.old)) × (counts_in counts.old ≡ no_counts) }
+    ensures { Kept (handed_back registers predicates held counts result (left main local cache) ≡ goes_on (given_setup_of given.entry g) budget (found_whole registers predicates held start) (found main local cache)) start result.core held.old held.new }
 {
     let mut core = start;
     for _ in 0..budget {
@@ -50,9 +49,7 @@ fn bundles(
             &mut *blocks,
             &mut *counts,
             g,
-            code,
-            list,
-            table,
+            &given,
             &mut *main,
             &mut *local,
             &mut *cache,
@@ -75,28 +72,16 @@ pub fn advance(
     registers: &mut [u32; 32],
     predicates: &mut [bool; 8],
     held: &mut [u32; 17],
-    config: Config,
-    code: &[u8],
-    list: &[u8],
-    table: &[u8],
+    given: &Given,
     main: &mut [u8],
     local: &mut [u8],
     cache: &mut [u32],
     budget: u32,
 ) -> Advanced
-    ensures { Kept (advanced_back registers predicates held result (left main local cache) ≡ advanced (replaying list.now table.now (setup code.now config)) budget (found_whole registers predicates held core) (found main local cache)) core result.core held.old held.new }
+    ensures { Kept (advanced_back registers predicates held result (left main local cache) ≡ advanced (given_setup given.now) budget (found_whole registers predicates held core) (found main local cache)) core result.core held.old held.new }
 {
-    let g = config.settings(code, main.len(), local.len(), cache.len());
-    match readiness(
-        core,
-        &*registers,
-        &*predicates,
-        &*held,
-        code,
-        list,
-        table,
-        g,
-    ) {
+    let g = given.settings(main.len(), local.len(), cache.len());
+    match readiness(core, &*registers, &*predicates, &*held, given, g) {
         Readiness::Refused(refusal) => Advanced {
             answer: Answer::Refused(refusal),
             core,
@@ -118,9 +103,7 @@ pub fn advance(
                 &mut blocks,
                 &mut counts,
                 g,
-                code,
-                list,
-                table,
+                *given,
                 &mut *main,
                 &mut *local,
                 &mut *cache,

@@ -2,7 +2,7 @@
 ghost use Rattle.std.specs.Prelude.{◌≡◌, ℕ, Bool, true, List, ◌∷◌, eqb, length};
 ghost use Rattle.answers.specs.Test.{test, verdict};
 ghost use Rattle.settings.specs.Settings.{admits};
-ghost use Rattle.settings.specs.Setup.{found, left, replaying, setup_of};
+ghost use Rattle.settings.specs.Setup.{found, left, given_setup_of, setup_of};
 ghost use Rattle.bundle_model.specs.Counts.{Few, Fit, plus, counts_in};
 ghost use Rattle.bundle_model.specs.Lookup.{looked_up, lookup_tests};
 ghost use Rattle.bundle_model.specs.Bundle.{counted, attempt};
@@ -21,7 +21,7 @@ use core_state::waiting::none_waits;
 use effects::Transfer;
 use method_cache::Looked;
 use replay::{handler_of, is_due};
-use settings::Settings;
+use settings::{Given, Settings};
 
 // What a record's lookup counts is added to the counts.
 fn add_looked(counts: &mut [u64; 6], looked: Looked)
@@ -58,15 +58,14 @@ fn enter(
     held: &mut [u32; 17],
     blocks: &mut [u32; 17],
     g: Settings,
-    code: &[u8],
-    list: &[u8],
-    table: &[u8],
+    given: &Given,
 ) -> Result<Entry, Refusal>
     requires { admits g ≡ true }
-    ensures { (rs : List ℕ) (ps : List Bool) → Enters (replaying list.now table.now (setup_of code.now g)) rs ps core held.old blocks.new held.new result }
+    ensures { (rs : List ℕ) (ps : List Bool) → Enters (given_setup_of given.now g) rs ps core held.old blocks.new held.new result }
 {
     let replay = core.replay;
     let waiting = core.transfer;
+    let list = given.list;
     let due = is_due(list, replay) & none_waits(waiting);
     if !due {
         return Ok(Entry {
@@ -78,6 +77,8 @@ fn enter(
             },
         });
     }
+    let code = given.code;
+    let table = given.table;
     let handler = handler_of(list, table, replay.place);
     judge_entry(g, code, handler)?;
     *blocks = *held;
@@ -99,17 +100,15 @@ pub(crate) fn attempt(
     blocks: &mut [u32; 17],
     counts: &mut [u64; 6],
     g: Settings,
-    code: &[u8],
-    list: &[u8],
-    table: &[u8],
+    given: &Given,
     main: &mut [u8],
     local: &mut [u8],
     cache: &mut [u32],
 ) -> Bundled
-    requires { (admits g ≡ true) × (g.main ≡ length main.old) × (g.code ≡ length code.now) × Few 4294967294 (counts_in counts.old) }
-    ensures { Kept (handed_back registers predicates held counts result (left main local cache) ≡ counted (counts_in counts.old) (attempt g (replaying list.now table.now (setup_of code.now g)) (found_whole registers predicates held core) (found main local cache))) core result.core held.old held.new }
+    requires { (admits g ≡ true) × (g.main ≡ length main.old) × (g.code ≡ length given.now.code.now) × Few 4294967294 (counts_in counts.old) }
+    ensures { Kept (handed_back registers predicates held counts result (left main local cache) ≡ counted (counts_in counts.old) (attempt g (given_setup_of given.now g) (found_whole registers predicates held core) (found main local cache))) core result.core held.old held.new }
 {
-    match enter(core, &mut *held, &mut *blocks, g, code, list, table) {
+    match enter(core, &mut *held, &mut *blocks, g, given) {
         Err(refusal) => refused(core, refusal),
         Ok(
             Entry {
@@ -125,8 +124,7 @@ pub(crate) fn attempt(
                 &mut *held,
                 &mut *counts,
                 g,
-                code,
-                table,
+                given,
                 &mut *main,
                 &mut *local,
                 &mut *cache,

@@ -1,7 +1,7 @@
 // One bundle: what stands at the fetch address, done or refused.
-ghost use Rattle.std.specs.Prelude.{◌≡◌, true, List, ℕ, length};
+ghost use Rattle.std.specs.Prelude.{◌≡◌, true, length};
 ghost use Rattle.settings.specs.Settings.{admits};
-ghost use Rattle.settings.specs.Setup.{found, left, replaying, setup_of};
+ghost use Rattle.settings.specs.Setup.{found, left, given_setup_of};
 ghost use Rattle.bundle_model.specs.Counts.{Few, counts_in};
 ghost use Rattle.bundle_model.specs.Bundle.{counted, bundle};
 ghost use Rattle.bundle_model.specs.Execute.{found_whole, handed_back, Kept};
@@ -12,7 +12,7 @@ use bundle_model::outcome::refused;
 use core_state::Core;
 use effects::AtStart;
 use fetch::{Fetched, fetch};
-use settings::Settings;
+use settings::{Given, Settings};
 
 // The bundle at the fetch address of a state, done or refused; what it counts is added to the counts.
 pub(crate) fn bundle(
@@ -22,19 +22,20 @@ pub(crate) fn bundle(
     held: &mut [u32; 17],
     counts: &mut [u64; 6],
     g: Settings,
-    code: &[u8],
-    table: &[u8],
+    given: &Given,
     main: &mut [u8],
     local: &mut [u8],
     cache: &mut [u32],
 ) -> Bundled
-    requires { (admits g ≡ true) × (g.main ≡ length main.old) × (g.code ≡ length code.now) × Few 4294967294 (counts_in counts.old) }
-    ensures { Kept ((list : List ℕ) → handed_back registers predicates held counts result (left main local cache) ≡ counted (counts_in counts.old) (bundle g (replaying list table.now (setup_of code.now g)) (found_whole registers predicates held core) (found main local cache))) core result.core held.old held.new }
+    requires { (admits g ≡ true) × (g.main ≡ length main.old) × (g.code ≡ length given.now.code.now) × Few 4294967294 (counts_in counts.old) }
+    ensures { Kept (handed_back registers predicates held counts result (left main local cache) ≡ counted (counts_in counts.old) (bundle g (given_setup_of given.now g) (found_whole registers predicates held core) (found main local cache))) core result.core held.old held.new }
 {
     let at = core.fetch;
+    let code = given.code;
     match fetch(code, at) {
         Err(refusal) => refused(core, refusal),
         Ok(Fetched { bundle, following }) => {
+            let table = given.table;
             let start = AtStart {
                 registers: &*registers,
                 predicates: &*predicates,

@@ -12,7 +12,7 @@ use case_report::changes::put_changes;
 use case_report::state_lines::put_state;
 use resume::Reply;
 use run::Ran;
-use settings::Config;
+use settings::Given;
 use state::Stepped;
 use text::page::Page;
 
@@ -41,22 +41,16 @@ fn keep_run(r: Ran, kept: &mut Kept) -> Reply {
 
 fn operate(
     asked: Asked,
-    code: &[u8],
-    list: &[u8],
-    table: &[u8],
+    given: &Given,
     main: &mut [u8],
     local: &mut [u8],
     cache: &mut [u32],
-    config: Config,
     kept: &mut Kept,
 ) -> Reply {
     let s = state_of(kept);
     match asked {
-        Asked::Run(budget) => keep_run(
-            run::run(s, code, list, table, main, local, cache, config, budget),
-            kept,
-        ),
-        _ => keep_step(s.step(code, list, table, main, local, cache, config), kept),
+        Asked::Run(budget) => keep_run(run::run(s, given, main, local, cache, budget), kept),
+        _ => keep_step(s.step(given, main, local, cache), kept),
     }
 }
 
@@ -78,16 +72,18 @@ fn operate_on(
     let m = e.main;
     let l = e.local;
     let w = e.words;
-    let config = config_of(e, kept);
-    operate(
-        asked,
-        &code[0..c],
+    let given = Given {
+        code: &code[0..c],
         list,
         table,
+        config: config_of(e, kept),
+    };
+    operate(
+        asked,
+        &given,
         &mut main[0..m],
         &mut local[0..l],
         &mut cache[0..w],
-        config,
         kept,
     )
 }

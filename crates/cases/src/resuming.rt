@@ -14,7 +14,7 @@ use case_notes::replay::{lay_list, lay_table, list_length, table_length};
 use case_report::form::say;
 use case_report::record_lines::{FILL, put_record, put_rest};
 use resume::Resumed;
-use settings::Config;
+use settings::Given;
 use text::page::Page;
 
 fn put_saved(page: &mut Page, bytes: &Record, length: usize) {
@@ -36,22 +36,15 @@ fn room_of(room: Room, words: usize) -> usize
 fn go_on(
     asked: Resumption,
     record: &[u8],
-    code: &[u8],
+    given: &Given,
     main: &mut [u8],
     local: &mut [u8],
     out: &mut [u8],
-    list: &[u8],
-    table: &[u8],
     words: usize,
-    config: Config,
 ) -> Resumed {
     match asked {
-        Resumption::Run(budget) => resume::resume(
-            record, code, main, local, out, list, table, words, config, budget,
-        ),
-        Resumption::Step => resume::restep(
-            record, code, main, local, out, list, table, words, config,
-        ),
+        Resumption::Run(budget) => resume::resume(record, given, main, local, out, words, budget),
+        Resumption::Step => resume::restep(record, given, main, local, out, words),
     }
 }
 
@@ -75,18 +68,20 @@ fn go_on_from(
     let c = e.code;
     let m = e.main;
     let l = e.local;
-    let config = config_of(e, kept);
+    let given = Given {
+        code: &code[0..c],
+        list,
+        table,
+        config: config_of(e, kept),
+    };
     go_on(
         asked,
         &record[0..n],
-        &code[0..c],
+        &given,
         &mut main[0..m],
         &mut local[0..l],
         out,
-        list,
-        table,
         e.words,
-        config,
     )
 }
 

@@ -8,6 +8,7 @@ ghost use Rattle.entries.specs.Entries.{config_of, called_of, called};
 use crate::numbers::{config_of, number_of};
 use record::writing::longest;
 use resume::{restep, resume};
+use settings::Given;
 
 // The bytes that the output of a step or a run has to have; 0 where there is no cache of so many words.
 #[unsafe(no_mangle)]
@@ -36,16 +37,19 @@ pub extern "C" fn laqemdit_step(
     ensures { called_of result main.new local.new out.new ≡ called (restepped (replaying list.now table.now (setup code.now (config_of lo hi on blocks bytes))) words stopped.now main.old local.old out.old) }
 {
     let config = config_of(lo, hi, on, blocks, bytes);
+    let given = Given {
+        code,
+        list,
+        table,
+        config,
+    };
     let r = restep(
         stopped,
-        code,
+        &given,
         &mut *main,
         &mut *local,
         &mut *out,
-        list,
-        table,
         words as usize,
-        config,
     );
     let answer = r.answer;
     number_of(answer)
@@ -71,16 +75,19 @@ pub extern "C" fn laqemdit_run(
     ensures { called_of result main.new local.new out.new ≡ called (resumed (replaying list.now table.now (setup code.now (config_of lo hi on blocks bytes))) budget words stopped.now main.old local.old out.old) }
 {
     let config = config_of(lo, hi, on, blocks, bytes);
+    let given = Given {
+        code,
+        list,
+        table,
+        config,
+    };
     let r = resume(
         stopped,
-        code,
+        &given,
         &mut *main,
         &mut *local,
         &mut *out,
-        list,
-        table,
         words as usize,
-        config,
         budget,
     );
     let answer = r.answer;

@@ -4,7 +4,7 @@
 ghost use Rattle.std.specs.Prelude.{◌≡◌, true, List, ℕ, ◌≤◌, length};
 ghost use Rattle.answers.specs.Refusal.{number};
 ghost use Rattle.settings.specs.Settings.{admits};
-ghost use Rattle.settings.specs.Setup.{replaying, setup, settings};
+ghost use Rattle.settings.specs.Setup.{given_setup, settings};
 ghost use Rattle.state.specs.Whole.{state_of};
 ghost use Rattle.bundle_model.specs.Bundle.{returned as answered};
 ghost use Rattle.run.specs.Ran.{returned as ran};
@@ -21,7 +21,7 @@ use record::reading::read_record;
 use record::writing::{longest, write_record};
 use replay::replay_ok;
 use run::{RunAnswer, run};
-use settings::Config;
+use settings::Given;
 use state::State;
 
 // What a step or a run from a record answers: more ways to end than a Result has.
@@ -76,17 +76,20 @@ impl From<Answer> for Reply {
 }
 
 // What is judged of a record that was read. A state that 11 describes is 14 here.
-fn judged(state: State, code: &[u8], list: &[u8], table: &[u8], config: Config) -> Verdict
-    ensures { result ≡ judged_by (replaying list.now table.now (setup code.now config)) (state_of state) }
+fn judged(state: State, given: &Given) -> Verdict
+    ensures { result ≡ judged_by (given_setup given.now) (state_of state) }
 {
     let registers = state.registers;
     let predicates = state.predicates;
     let held = state.held;
-    let method = config.method;
+    let code = given.code;
+    let method = given.config.method;
     let parts = parts_ok(state.core(), &registers, &predicates);
     if !(parts & held_ok(method, code, &held)) {
         return Err(Refusal::Record);
     }
+    let list = given.list;
+    let table = given.table;
     if !replay_ok(list, table) {
         return Err(Refusal::Replay);
     }
@@ -96,38 +99,25 @@ fn judged(state: State, code: &[u8], list: &[u8], table: &[u8], config: Config) 
 // A run from a record where settings and room have been judged. The cache's words are those that are lent, and then those of the record.
 fn go_on(
     bytes: &[u8],
-    code: &[u8],
+    given: &Given,
     main: &mut [u8],
     local: &mut [u8],
     out: &mut [u8],
-    list: &[u8],
-    table: &[u8],
     cache: &mut [u32],
-    config: Config,
     budget: u32,
 ) -> Resumed
-    requires { (admits (settings (setup code.now config) (length main.old) (length local.old) (length cache.old)) ≡ true) × (longest (length cache.old) ≤ length out.old) }
-    ensures { resumed_with result main.new local.new out.new ≡ resumed (replaying list.now table.now (setup code.now config)) budget (length cache.old) bytes.now main.old local.old out.old }
+    requires { (admits (settings (given_setup given.now) (length main.old) (length local.old) (length cache.old)) ≡ true) × (longest (length cache.old) ≤ length out.old) }
+    ensures { resumed_with result main.new local.new out.new ≡ resumed (given_setup given.now) budget (length cache.old) bytes.now main.old local.old out.old }
 {
     let read = read_record(bytes, &mut *cache);
     if !read.formed {
         return turned_away(Refusal::Record);
     }
     let start = read.state;
-    if let Err(refusal) = judged(start, code, list, table, config) {
+    if let Err(refusal) = judged(start, given) {
         return turned_away(refusal);
     }
-    let r = run(
-        start,
-        code,
-        list,
-        table,
-        &mut *main,
-        &mut *local,
-        &mut *cache,
-        config,
-        budget,
-    );
+    let r = run(start, given, &mut *main, &mut *local, &mut *cache, budget);
     let answer = r.answer;
     let state = r.state;
     let counts = r.counts;
@@ -142,31 +132,25 @@ fn go_on(
 // The same with so many of the words that are handed in as the cache; what they hold does not matter.
 fn with_cache(
     bytes: &[u8],
-    code: &[u8],
+    given: &Given,
     main: &mut [u8],
     local: &mut [u8],
     out: &mut [u8],
-    list: &[u8],
-    table: &[u8],
     words: usize,
-    config: Config,
     budget: u32,
     scratch: [u32; 512],
 ) -> Resumed
-    requires { (admits (settings (setup code.now config) (length main.old) (length local.old) words) ≡ true) × (longest words ≤ length out.old) }
-    ensures { resumed_with result main.new local.new out.new ≡ resumed (replaying list.now table.now (setup code.now config)) budget words bytes.now main.old local.old out.old }
+    requires { (admits (settings (given_setup given.now) (length main.old) (length local.old) words) ≡ true) × (longest words ≤ length out.old) }
+    ensures { resumed_with result main.new local.new out.new ≡ resumed (given_setup given.now) budget words bytes.now main.old local.old out.old }
 {
     let mut cache = scratch;
     go_on(
         bytes,
-        code,
+        given,
         &mut *main,
         &mut *local,
         &mut *out,
-        list,
-        table,
         &mut cache[0..words],
-        config,
         budget,
     )
 }
@@ -175,19 +159,16 @@ fn with_cache(
 // record of the state that is left over the beginning of out.
 pub fn resume(
     bytes: &[u8],
-    code: &[u8],
+    given: &Given,
     main: &mut [u8],
     local: &mut [u8],
     out: &mut [u8],
-    list: &[u8],
-    table: &[u8],
     words: usize,
-    config: Config,
     budget: u32,
 ) -> Resumed
-    ensures { resumed_with result main.new local.new out.new ≡ resumed (replaying list.now table.now (setup code.now config)) budget words bytes.now main.old local.old out.old }
+    ensures { resumed_with result main.new local.new out.new ≡ resumed (given_setup given.now) budget words bytes.now main.old local.old out.old }
 {
-    let g = config.settings(code, main.len(), local.len(), words);
+    let g = given.settings(main.len(), local.len(), words);
     if !g.admits() {
         return turned_away(Refusal::Limits);
     }
@@ -196,14 +177,11 @@ pub fn resume(
     }
     with_cache(
         bytes,
-        code,
+        given,
         &mut *main,
         &mut *local,
         &mut *out,
-        list,
-        table,
         words,
-        config,
         budget,
         [0; 512],
     )
@@ -222,29 +200,15 @@ fn as_step(a: Reply, bundles: u64) -> Reply
 // One step from a record, in the same way.
 pub fn restep(
     bytes: &[u8],
-    code: &[u8],
+    given: &Given,
     main: &mut [u8],
     local: &mut [u8],
     out: &mut [u8],
-    list: &[u8],
-    table: &[u8],
     words: usize,
-    config: Config,
 ) -> Resumed
-    ensures { resumed_with result main.new local.new out.new ≡ restepped (replaying list.now table.now (setup code.now config)) words bytes.now main.old local.old out.old }
+    ensures { resumed_with result main.new local.new out.new ≡ restepped (given_setup given.now) words bytes.now main.old local.old out.old }
 {
-    let r = resume(
-        bytes,
-        code,
-        &mut *main,
-        &mut *local,
-        &mut *out,
-        list,
-        table,
-        words,
-        config,
-        1,
-    );
+    let r = resume(bytes, given, &mut *main, &mut *local, &mut *out, words, 1);
     let answer = r.answer;
     let counts = r.counts;
     Resumed {

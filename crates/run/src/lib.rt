@@ -2,7 +2,7 @@
 #![tactic(auto)]
 
 ghost use Rattle.std.specs.Prelude.{◌≡◌};
-ghost use Rattle.settings.specs.Setup.{replaying, setup, found, left};
+ghost use Rattle.settings.specs.Setup.{given_setup, found, left};
 ghost use Rattle.method_cache.specs.Words.{FixedHeld};
 ghost use Rattle.core_state.specs.State.{Shaped};
 ghost use Rattle.state.specs.Whole.{state_of};
@@ -14,7 +14,7 @@ use bundle::advance::advance;
 use bundle_model::{Answer, Counts};
 use core_state::judged::has_ended;
 use method_cache::words::tidy;
-use settings::Config;
+use settings::Given;
 use state::State;
 
 // What a run answers: a way to end more than a Result has.
@@ -54,16 +54,13 @@ fn at_end(a: Answer, ended: bool) -> RunAnswer
 // as its type says, is what even pace asks of it.
 pub fn run(
     start: State,
-    code: &[u8],
-    list: &[u8],
-    table: &[u8],
+    given: &Given,
     main: &mut [u8],
     local: &mut [u8],
     cache: &mut [u32],
-    config: Config,
     budget: u32,
 ) -> Ran
-    ensures ran { whole result (left main local cache) ≡ run (replaying list.now table.now (setup code.now config)) budget (state_of start) (found main local cache) }
+    ensures ran { whole result (left main local cache) ≡ run (given_setup given.now) budget (state_of start) (found main local cache) }
     ensures shaped { Shaped (state_of start) }
     ensures fixed { FixedHeld result.state.held }
 {
@@ -76,10 +73,7 @@ pub fn run(
         &mut registers,
         &mut predicates,
         &mut held,
-        config,
-        code,
-        list,
-        table,
+        given,
         &mut *main,
         &mut *local,
         &mut *cache,
@@ -88,6 +82,7 @@ pub fn run(
     let answer = r.answer;
     let core = r.core;
     let counts = r.counts;
+    let code = given.code;
     let ended = has_ended(core, code.len());
     let state = State::join(registers, predicates, held, core);
     Ran {

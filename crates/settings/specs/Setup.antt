@@ -4,6 +4,7 @@ use Rattle.std.specs.Borrow.{MutBor}
 use denote.Triple.Both.{Both}
 use Rattle.method_cache.specs.declared.Method.{Method}
 use Rattle.settings.specs.declared.Config.{Config}
+use Rattle.settings.specs.declared.Given.{Given}
 use Rattle.settings.specs.declared.Settings.{Settings}
 
 -- What stays the same: the code, the replay's list and table, the stack area, which is main memory from lo to hi, and the method cache's
@@ -23,6 +24,10 @@ setup code c = record { code = code; list = []; table = []; lo = c.lo; hi = c.hi
 -- The setup with what is replayed: a list of interrupts and a table of handlers.
 abbrev pub replaying : List ℕ → List ℕ → Setup → Setup
 replaying list table x = record { code = x.code; list = list; table = table; lo = x.lo; hi = x.hi; method = x.method }
+
+-- The setup of what a run is given.
+abbrev pub given_setup : Given → Setup
+given_setup x = replaying x.list.now x.table.now (setup x.code.now x.config)
 
 -- What is lent for writing: main memory, local memory, and the words of the stack cache.
 pub record Buffers : Type 0 where
@@ -53,6 +58,10 @@ lent x b = settings x (length b.main) (length b.local) (length b.cache)
 -- The setup of settings and code, where nothing is replayed.
 abbrev pub setup_of : List ℕ → Settings → Setup
 setup_of code g = record { code = code; list = []; table = []; lo = g.lo; hi = g.hi; method = g.method }
+
+-- The setup of what a run is given and of its settings, where these are at hand.
+abbrev pub given_setup_of : Given → Settings → Setup
+given_setup_of x g = replaying x.list.now x.table.now (setup_of x.code.now g)
 
 -- The bytes of main memory that belong to the stack.
 unfoldable pub is_stack_byte : Setup → ℕ → Bool

@@ -4,7 +4,7 @@
 ghost use Rattle.std.specs.Prelude.{◌≡◌};
 ghost use Rattle.stack_cache.specs.Stack.{is_cache_size};
 ghost use Rattle.settings.specs.Settings.{code_length_ok, area_ok, admits};
-ghost use Rattle.settings.specs.Setup.{setup, settings};
+ghost use Rattle.settings.specs.Setup.{setup, settings, given_setup};
 
 use method_cache::Method;
 use stack_cache::StackCache;
@@ -15,6 +15,16 @@ pub struct Config {
     pub lo: u32,
     pub hi: u32,
     pub method: Method,
+}
+
+// What a run is given beside the state and the buffers, and never writes: the code, the recorded interrupts, the table of their handlers, and the
+// numbers.
+#[derive(Clone, Copy)]
+pub struct Given<'a> {
+    pub code: &'a [u8],
+    pub list: &'a [u8],
+    pub table: &'a [u8],
+    pub config: Config,
 }
 
 // The lengths of code, main memory and local memory in bytes, the number of stack cache words, the stack area, and the method cache.
@@ -63,6 +73,17 @@ impl Config {
             hi: self.hi,
             method,
         }
+    }
+}
+
+impl Given<'_> {
+    // The settings that it makes with the lengths of what is lent beside it.
+    pub fn settings(&self, main: usize, local: usize, words: usize) -> Settings
+        ensures { result ≡ settings (given_setup self.now) main local words }
+    {
+        let code = self.code;
+        let config = self.config;
+        config.settings(code, main, local, words)
     }
 }
 

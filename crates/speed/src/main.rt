@@ -7,7 +7,7 @@ mod workload;
 
 use method_cache::Method;
 use run::{Ran, RunAnswer};
-use settings::Config;
+use settings::{Config, Given};
 use state::State;
 use std::env::FillError;
 use std::io::{Result, Write};
@@ -111,15 +111,18 @@ fn run_workload(
     match answer {
         Err(refusal) => { println!(rt; " open refused {}", refusal.number()) }
         Ok(()) => {
-            let r = run::run(
-                state,
-                &*code,
+            let given = Given {
+                code: &*code,
                 list,
                 table,
+                config,
+            };
+            let r = run::run(
+                state,
+                &given,
                 &mut *main,
                 &mut *local,
                 &mut *cache,
-                config,
                 s.budget,
             );
             print_ran(rt, r, method.on)

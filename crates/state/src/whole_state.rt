@@ -1,6 +1,6 @@
 // The state of the core, by value, and what is done to it.
 ghost use Rattle.std.specs.Prelude.{◌≡◌};
-ghost use Rattle.settings.specs.Setup.{replaying, setup, found, left};
+ghost use Rattle.settings.specs.Setup.{given_setup, found, left};
 ghost use Rattle.method_cache.specs.Words.{held_in, FixedHeld};
 ghost use Rattle.core_state.specs.State.{with_held};
 ghost use Rattle.core_state.specs.Core.{joined};
@@ -13,7 +13,7 @@ use core_state::Core;
 use core_state::waiting::{load_words, transfer_words, waiting_load, waiting_transfer};
 use method_cache::words::tidy;
 use products::words::{product_words, products_in};
-use settings::Config;
+use settings::Given;
 
 impl State {
     // The state beside registers, predicates and blocks held.
@@ -69,15 +69,12 @@ impl State {
     // record of the list that is due. The words of the blocks held are handed back in their one form.
     pub fn step(
         self,
-        code: &[u8],
-        list: &[u8],
-        table: &[u8],
+        given: &Given,
         main: &mut [u8],
         local: &mut [u8],
         cache: &mut [u32],
-        config: Config,
     ) -> Stepped
-        ensures stepped { full (stepped_of result) (left main local cache) ≡ step (replaying list.now table.now (setup code.now config)) (state_of self) (found main local cache) }
+        ensures stepped { full (stepped_of result) (left main local cache) ≡ step (given_setup given.now) (state_of self) (found main local cache) }
         ensures fixed { FixedHeld result.state.held }
     {
         let mut registers = self.registers;
@@ -89,10 +86,7 @@ impl State {
             &mut registers,
             &mut predicates,
             &mut held,
-            config,
-            code,
-            list,
-            table,
+            given,
             &mut *main,
             &mut *local,
             &mut *cache,

@@ -4,7 +4,7 @@ use Rattle.resume.specs.Resumed.{judged_by}
 use Rattle.record.specs.Read.{read_with}
 use Rattle.record_model.specs.Record.{Box}
 use Rattle.run.specs.Ran.{whole}
-use Rattle.settings.specs.Setup.{replaying, setup, buffers}
+use Rattle.settings.specs.Setup.{given_setup, buffers}
 use Rattle.answers.specs.Answer.{Returned}
 use Rattle.run_model.specs.Run.{run}
 use Rattle.resume_model.specs.Resume.{resumed_of}
@@ -17,7 +17,7 @@ use Rattle.resume.proofs.go_on.Goals as goal
 pub returns-then-not-read : goal.returns-then-not-read
 returns-then-not-read c =
     let a = c.args in
-    let x = replaying a.list.now a.table.now (setup a.code.now a.config) in
+    let x = given_setup a.given.now in
     let w = length a.cache.now in
     let r = c.read_record-read in
     let none = read_refused a.bytes.now a.cache.now (read_with r.result r.new.cache) r.ensures.read (not-true _ c.if-not-read.true) in
@@ -26,7 +26,7 @@ returns-then-not-read c =
 pub returns-in-Err : goal.returns-in-Err
 returns-in-Err c =
     let a = c.args in
-    let x = replaying a.list.now a.table.now (setup a.code.now a.config) in
+    let x = given_setup a.given.now in
     let w = length a.cache.now in
     let r = c.read_record-read in
     let has = read_formed a.bytes.now a.cache.now (read_with r.result r.new.cache) r.ensures.read (not-false _ c.if-not-read.false) in
@@ -39,7 +39,7 @@ shape_of-cache c = c.run-r.auto.cache ∙ c.read_record-read.auto.cache
 pub returns : goal.returns
 returns c =
     let a = c.args in
-    let x = replaying a.list.now a.table.now (setup a.code.now a.config) in
+    let x = given_setup a.given.now in
     let w = length a.cache.now in
     let k = c.read_record-read in
     let has = read_formed a.bytes.now a.cache.now (read_with k.result k.new.cache) k.ensures.read (not-false _ c.if-not-read.false) in

@@ -2,7 +2,7 @@ use mathlib.Core.Path.{◌≡◌, sym, ap, subst, ◌∙◌}
 use lib.ListN.{length}
 use mathlib.Core.List.{[]}
 use Rattle.method_cache.specs.Words.{held_in, FixedHeld}
-use Rattle.settings.specs.Setup.{replaying, setup, buffers}
+use Rattle.settings.specs.Setup.{given_setup, buffers}
 use Rattle.core_state.specs.declared.Core.{Core}
 use Rattle.core_state.specs.State.{State, with_held, ended}
 use Rattle.core_state.specs.Core.{joined}
@@ -17,7 +17,7 @@ pub returns : goal.returns
 unfolding state_of ended
 returns c =
     let a = c.args in
-    let x = replaying a.list.now a.table.now (setup a.code.now a.config) in
+    let x = given_setup a.given.now in
     let b = buffers a.main.now a.local.now a.cache.now in
     let regs : length a.start.registers ≡ 32 = search (rules, c.well_formed.0) in
     let preds : length a.start.predicates ≡ 8 = search (rules, c.well_formed.0) in

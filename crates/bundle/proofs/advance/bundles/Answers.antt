@@ -6,7 +6,7 @@ use borrow.Author.Rules.{rules}
 use lib.ListN.{length}
 use Rattle.method_cache.specs.Words.{held_in, FixedHeld}
 use Rattle.settings.specs.declared.Settings.{Settings}
-use Rattle.settings.specs.Setup.{Buffers, buffers, lent, replaying, setup_of}
+use Rattle.settings.specs.Setup.{Buffers, buffers, lent, given_setup_of}
 use Rattle.answers.specs.Answer.{Returned}
 use Rattle.core_state.specs.State.{State, with_held, ended}
 use Rattle.core_state.specs.Core.{joined, Canonical}
@@ -33,7 +33,7 @@ loop-init c = (
   refl,
   refl,
   refl,
-  rw (all c.args.budget) (ap (λ (n : Counts). counted n (goes_on (replaying c.args.list.now c.args.table.now (setup_of c.args.code.now c.args.g)) c.args.budget (with_held (joined c.args.registers.now c.args.predicates.now c.args.start) (held_in c.args.held.now)) (buffers c.args.main.now c.args.local.now c.args.cache.now))) c.requires.2 ∙ counted_none _),
+  rw (all c.args.budget) (ap (λ (n : Counts). counted n (goes_on (given_setup_of c.args.given c.args.g) c.args.budget (with_held (joined c.args.registers.now c.args.predicates.now c.args.start) (held_in c.args.held.now)) (buffers c.args.main.now c.args.local.now c.args.cache.now))) c.requires.2 ∙ counted_none _),
   λ k. k,
   λ f. f,
 )
@@ -54,7 +54,7 @@ returns-then-has_ended c =
     let left = c.args.budget - l.counter in
     let going = rw (ap (λ (y : Settings). y.code) c.requires.1) at (sym (c.has_ended.ensures l.registers l.predicates) ∙ c.if-has_ended.true) in
     record {
-      given = stopped-here (counts_in l.counts) _ _ _ ∙ sym (ap (counted (counts_in l.counts)) (goes_ended (replaying c.args.list.now c.args.table.now (setup_of c.args.code.now c.args.g)) left (with_held (joined l.registers l.predicates l.core) (held_in l.held)) _ (omega (arith, c.loop-test.true)) going)) ∙ l.invariant.5;
+      given = stopped-here (counts_in l.counts) _ _ _ ∙ sym (ap (counted (counts_in l.counts)) (goes_ended (given_setup_of c.args.given c.args.g) left (with_held (joined l.registers l.predicates l.core) (held_in l.held)) _ (omega (arith, c.loop-test.true)) going)) ∙ l.invariant.5;
       canonical = l.invariant.6;
       held = l.invariant.7;
     }
@@ -70,8 +70,8 @@ returns-in_default c =
     let l = c.loop in
     let left = c.args.budget - l.counter in
     let r = c.attempt-r in
-    let same : c.args.g ≡ lent (replaying c.args.list.now c.args.table.now (setup_of c.args.code.now c.args.g)) (buffers l.main l.local l.cache)
-    = c.requires.1 ∙ sym (lent_same (replaying c.args.list.now c.args.table.now (setup_of c.args.code.now c.args.g)) (buffers c.args.main.now c.args.local.now c.args.cache.now) (buffers l.main l.local l.cache) (record { main = l.invariant.2; local = l.invariant.3; cache = l.invariant.4 })) in
+    let same : c.args.g ≡ lent (given_setup_of c.args.given c.args.g) (buffers l.main l.local l.cache)
+    = c.requires.1 ∙ sym (lent_same (given_setup_of c.args.given c.args.g) (buffers c.args.main.now c.args.local.now c.args.cache.now) (buffers l.main l.local l.cache) (record { main = l.invariant.2; local = l.invariant.3; cache = l.invariant.4 })) in
     let going = rw (ap (λ (y : Settings). y.code) c.requires.1) at (sym (c.has_ended.ensures l.registers l.predicates) ∙ c.if-has_ended.false) in
     let more : 0 < left = omega (arith, c.loop-test.true) in
     record {
@@ -89,8 +89,8 @@ loop-preserved c =
     let after : c.args.budget - (left - 1) ≡ l.counter + 1 = omega (arith, c.loop-test.true) in
     let one_less : c.args.budget - (l.counter + 1) ≡ left - 1 = omega arith in
     let r = c.attempt-r in
-    let same : c.args.g ≡ lent (replaying c.args.list.now c.args.table.now (setup_of c.args.code.now c.args.g)) (buffers l.main l.local l.cache)
-    = c.requires.1 ∙ sym (lent_same (replaying c.args.list.now c.args.table.now (setup_of c.args.code.now c.args.g)) (buffers c.args.main.now c.args.local.now c.args.cache.now) (buffers l.main l.local l.cache) (record { main = l.invariant.2; local = l.invariant.3; cache = l.invariant.4 })) in
+    let same : c.args.g ≡ lent (given_setup_of c.args.given c.args.g) (buffers l.main l.local l.cache)
+    = c.requires.1 ∙ sym (lent_same (given_setup_of c.args.given c.args.g) (buffers c.args.main.now c.args.local.now c.args.cache.now) (buffers l.main l.local l.cache) (record { main = l.invariant.2; local = l.invariant.3; cache = l.invariant.4 })) in
     let going = rw (ap (λ (y : Settings). y.code) c.requires.1) at (sym (c.has_ended.ensures l.registers l.predicates) ∙ c.if-has_ended.false) in
     let more : 0 < left = omega (arith, c.loop-test.true) in (
       omega (arith, c.loop-test.true),
@@ -117,7 +117,7 @@ returns c =
     let l = c.loop in
     let left = c.args.budget - l.counter in
     record {
-      given = stopped-here (counts_in l.counts) _ _ _ ∙ sym (ap (counted (counts_in l.counts)) (goes_none (replaying c.args.list.now c.args.table.now (setup_of c.args.code.now c.args.g)) left (with_held (joined l.registers l.predicates l.core) (held_in l.held)) _ (omega (arith, c.loop-test.false)))) ∙ l.invariant.5;
+      given = stopped-here (counts_in l.counts) _ _ _ ∙ sym (ap (counted (counts_in l.counts)) (goes_none (given_setup_of c.args.given c.args.g) left (with_held (joined l.registers l.predicates l.core) (held_in l.held)) _ (omega (arith, c.loop-test.false)))) ∙ l.invariant.5;
       canonical = l.invariant.6;
       held = l.invariant.7;
     }

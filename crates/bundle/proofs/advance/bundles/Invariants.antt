@@ -5,7 +5,7 @@ use borrow.Author.Rules.{rules}
 use lib.ListN.{length}
 use Rattle.method_cache.specs.Words.{held_in, FixedHeld}
 use Rattle.settings.specs.declared.Settings.{Settings}
-use Rattle.settings.specs.Setup.{Buffers, buffers, lent, replaying, setup_of}
+use Rattle.settings.specs.Setup.{Buffers, buffers, lent, given_setup_of}
 use Rattle.answers.specs.Answer.{Returned}
 use Rattle.core_state.specs.State.{State, with_held, ended}
 use Rattle.core_state.specs.Core.{joined, Canonical}
@@ -22,6 +22,6 @@ use Rattle.bundle.proofs.advance.bundles.Given as goal
 abbrev pub invariant-loop : goal.invariant-loop
 invariant-loop l =
     (l.counter ≤ l.budget) × Few l.counter (counts_in l.counts) × (length l.main ≡ length l.initial.main) × (length l.local ≡ length l.initial.local) × (length l.cache ≡ length l.initial.cache)
-    × (counted (counts_in l.counts) (goes_on (replaying l.list l.table (setup_of l.code l.g)) (l.budget - l.counter) (with_held (joined l.registers l.predicates l.core) (held_in l.held)) (buffers l.main l.local l.cache))
-    ≡ goes_on (replaying l.list l.table (setup_of l.code l.g)) l.budget (with_held (joined l.initial.registers l.initial.predicates l.initial.core) (held_in l.initial.held)) (buffers l.initial.main l.initial.local l.initial.cache))
+    × (counted (counts_in l.counts) (goes_on (given_setup_of l.given l.g) (l.budget - l.counter) (with_held (joined l.registers l.predicates l.core) (held_in l.held)) (buffers l.main l.local l.cache))
+    ≡ goes_on (given_setup_of l.given l.g) l.budget (with_held (joined l.initial.registers l.initial.predicates l.initial.core) (held_in l.initial.held)) (buffers l.initial.main l.initial.local l.initial.cache))
     × (Canonical l.initial.core → Canonical l.core) × (FixedHeld l.initial.held → FixedHeld l.held)

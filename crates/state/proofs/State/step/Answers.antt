@@ -1,6 +1,6 @@
 use mathlib.Core.Path.{sym, ap, subst, ◌∙◌}
 use Rattle.method_cache.specs.Words.{held_in, FixedHeld}
-use Rattle.settings.specs.Setup.{replaying, setup, buffers}
+use Rattle.settings.specs.Setup.{given_setup, buffers}
 use Rattle.core_state.specs.declared.Core.{Core}
 use Rattle.core_state.specs.State.{State, with_held}
 use Rattle.core_state.specs.Core.{joined}
@@ -13,7 +13,7 @@ use Rattle.state.proofs.State.step.Goals as goal
 pub returns : goal.returns
 returns c =
     let a = c.args in
-    let x = replaying a.list.now a.table.now (setup a.code.now a.config) in
+    let x = given_setup a.given.now in
     let b = buffers a.main.now a.local.now a.cache.now in
     let t = tidied a.self c.tidy.new.held c.tidy.ensures.1 c.tidy.ensures.0 in
     let start = ap (λ (y : Core). with_held (joined a.self.registers a.self.predicates y) (held_in c.tidy.new.held)) c.core.ensures ∙ t.0 in
