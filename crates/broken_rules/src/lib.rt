@@ -55,12 +55,11 @@ fn pair_rule(m: Marking, i: Instruction, j: AluInstruction) -> Option<Rule>
     one.or(two)
 }
 
-// A rule that a bundle breaks. One that cannot be decoded has nothing that could break one.
+// A rule that a bundle breaks.
 pub fn judge(m: Marking, b: Bundle) -> Option<Rule>
     ensures { right (breaks m b) result ≡ true }
 {
     match b {
-        Bundle::Undecodable => None,
         Bundle::One(i) | Bundle::Long(i) => instruction_rule(m, i),
         Bundle::Two(i, j) => pair_rule(m, i, j),
     }

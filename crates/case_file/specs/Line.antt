@@ -8,7 +8,6 @@ use Rattle.case_words.specs.declared.NumberAndWord.{NumberAndWord}
 use Rattle.case_words.specs.declared.TransferKind.{TransferKind}
 use Rattle.case_file.specs.declared.Line.{Line}
 use Rattle.case_file.specs.declared.Resumption.{Resumption}
-use Rattle.case_file.specs.declared.Room.TheVariants as Room
 use Rattle.case_file.specs.declared.Reason.{Reason}
 use Rattle.case_file.specs.declared.ReplayLine.TheVariants as ReplayLine
 use Rattle.case_file.specs.declared.ThreeNumbers.{ThreeNumbers}
@@ -76,11 +75,11 @@ unfoldable pub record_bytes : ℕ → Read
 record_bytes n = record_room n (Line.RecordBytes n)
 
 unfoldable pub with_room : Resumption → ℕ → Read
-with_room asked n = record_room n (Line.Resume asked (Room.Bytes n))
+with_room asked n = record_room n (Line.Resume asked (Some n))
 
 -- What goes on from a record, with the room for the one that it leaves, which may be left out.
 abbrev pub room_after : List ℕ → ℕ → Resumption → Read
-room_after line at asked = cond (is_end line at) (Ok (Line.Resume asked Room.Longest)) (number line at (λ n at. end line at (with_room asked n)))
+room_after line at asked = cond (is_end line at) (Ok (Line.Resume asked None)) (number line at (λ n at. end line at (with_room asked n)))
 
 -- What a line says whose number has a greatest value. There are 32 vectors; only `handler` is held to that here, since a list with
 -- another one is refused by the machine. What is handed in of the list has at most 65,536 bytes, and of the table 256.

@@ -1,11 +1,10 @@
 -- A line for each row of the format, and lines that are mistakes, with what they say.
-use Rattle.std.specs.Prelude.{Ok, Err, true, false, List, [], ◌∷◌, ◌≡◌, refl}
+use Rattle.std.specs.Prelude.{Ok, Err, true, false, List, [], ◌∷◌, ◌≡◌, refl, None, Some}
 use Prim.Native.String as Text
 use Rattle.case_file.specs.declared.Line.TheVariants.{Empty, Case, Code, Private, Main, Local, Stack, Entry, Fetch, Base, Reg, Pred, Special, Br, Call, Block, Load, MainWord, LocalWord, CacheWord, Run, Step, Check, Write, Listing, Product, Method, Held, Record, RecordBytes, Save, Resume, Xret, Replay}
 use Rattle.case_words.specs.declared.SpecialName.TheVariants.{Sro}
 use Rattle.case_file.specs.declared.Resumption.TheVariants as Resumption
 use Rattle.case_file.specs.declared.ReplayLine.TheVariants as ReplayLine
-use Rattle.case_file.specs.declared.Room.TheVariants as Room
 use Rattle.case_file.specs.declared.Reason.TheVariants as Reason
 use Rattle.text.specs.Field.{spaces, field_length, field_from, same_bytes, is_name_byte, are_name_bytes, is_name}
 use Rattle.text.specs.Number.{digit, number_from, decimal_of, word_of}
@@ -57,10 +56,10 @@ rows =
     ∷ ("record 00000002 00000000", Ok (Record 6))
     ∷ ("recordbytes 8192", Ok (RecordBytes 8192))
     ∷ ("save", Ok Save)
-    ∷ ("resume 5", Ok (Resume (Resumption.Run 5) Room.Longest))
-    ∷ ("resume 4294967295 388", Ok (Resume (Resumption.Run 4294967295) (Room.Bytes 388)))
-    ∷ ("restep", Ok (Resume Resumption.Step Room.Longest))
-    ∷ ("restep 0", Ok (Resume Resumption.Step (Room.Bytes 0)))
+    ∷ ("resume 5", Ok (Resume (Resumption.Run 5) None))
+    ∷ ("resume 4294967295 388", Ok (Resume (Resumption.Run 4294967295) (Some 388)))
+    ∷ ("restep", Ok (Resume Resumption.Step None))
+    ∷ ("restep 0", Ok (Resume Resumption.Step (Some 0)))
     ∷ ("transfer xret 16 8 3", Ok (Xret 16 8 3))
     ∷ ("interrupt 4294967295 32", Ok (Replay (ReplayLine.Interrupt 4294967295 32)))
     ∷ ("handler 31 20", Ok (Replay (ReplayLine.Handler 31 20)))

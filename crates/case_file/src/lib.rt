@@ -9,7 +9,7 @@ mod record_lines;
 use case_words::SpecialName;
 
 // A line by its keyword. Case holds the position of the name, Code, Private, Held and Record that of their lists,
-// Write that of the text of a bundle.
+// Write that of the text of a bundle. Resume holds how many bytes a record is written into, where the line says it.
 #[derive(Clone, Copy, PartialEq, Eq, Debug)]
 pub enum Line {
     Empty,
@@ -43,7 +43,7 @@ pub enum Line {
     Record { list: usize },
     RecordBytes(u32),
     Save,
-    Resume { asked: Resumption, room: Room },
+    Resume(Resumption, Option<u32>),
     Xret { target: u32, base: u32, wait: u32 },
     Replay(ReplayLine),
 }
@@ -66,13 +66,6 @@ pub enum ReplayLine {
 pub enum Resumption {
     Run(u32),
     Step,
-}
-
-// The bytes that a record is written into: as many as the longest has, or so many.
-#[derive(Clone, Copy, PartialEq, Eq, Debug)]
-pub enum Room {
-    Longest,
-    Bytes(u32),
 }
 
 // The lines of two numbers.

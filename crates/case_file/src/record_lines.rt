@@ -5,7 +5,7 @@ ghost use Rattle.case_file.specs.Line.{record_bytes, with_room, room_after, line
 
 use crate::arguments::{ended, number_field};
 use crate::lines::whole;
-use crate::{Line, Reason, Resumption, Room};
+use crate::{Line, Reason, Resumption};
 
 const GREATEST: u32 = 8192;
 
@@ -24,10 +24,7 @@ fn with_room(asked: Resumption, n: u32) -> Result<Line, Reason>
     ensures { result ≡ with_room asked n }
 {
     if n <= GREATEST {
-        return Ok(Line::Resume {
-            asked,
-            room: Room::Bytes(n),
-        });
+        return Ok(Line::Resume(asked, Some(n)));
     }
     Err(Reason::TooMuchRecord)
 }
@@ -37,10 +34,7 @@ pub(crate) fn room_line(line: &[u8], at: usize, asked: Resumption) -> Result<Lin
     ensures { result ≡ room_after line.now at asked }
 {
     if ended(line, at) {
-        return Ok(Line::Resume {
-            asked,
-            room: Room::Longest,
-        });
+        return Ok(Line::Resume(asked, None));
     }
     let (n, at) = number_field(line, at)?;
     whole(line, at, with_room(asked, n))

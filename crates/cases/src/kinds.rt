@@ -19,7 +19,7 @@ fn kind_of(said: Line, line: &[u8]) -> Result<Kind, Reason> {
         Line::Step => Ok(Kind::Operation(Asked::Step)),
         Line::Check => Ok(Kind::Operation(Asked::Check)),
         Line::Save => Ok(Kind::Operation(Asked::Save)),
-        Line::Resume { asked, room } => Ok(Kind::Operation(Asked::Resume { asked, room })),
+        Line::Resume(asked, room) => Ok(Kind::Operation(Asked::Resume(asked, room))),
         Line::Write { text } => written_kind(line, text),
         Line::Listing => Ok(Kind::Show(Shown::Listing)),
         _ => Ok(Kind::Description(said)),

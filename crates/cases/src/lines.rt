@@ -31,7 +31,7 @@ impl Case {
         match asked {
             Asked::Check => self.check(page),
             Asked::Save => self.save(page),
-            Asked::Resume { asked, room } => self.resume(asked, room, page),
+            Asked::Resume(asked, room) => self.resume(asked, room, page),
             _ => self.operate(asked, page),
         }
     }

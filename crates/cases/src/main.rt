@@ -12,7 +12,7 @@ mod operation;
 mod resuming;
 mod writing;
 
-use case_file::{Line, Resumption, Room};
+use case_file::{Line, Resumption};
 use case_kept::buffers::{Bytes, Cache, Memory};
 use case_kept::kept::Kept;
 use case_report::output::say_failure;
@@ -42,7 +42,7 @@ enum Asked {
     Step,
     Run(u32),
     Save,
-    Resume { asked: Resumption, room: Room },
+    Resume(Resumption, Option<u32>),
 }
 
 // What is asked for that needs no state: words to be shown, or a listing.

@@ -5,7 +5,7 @@ use crate::Case;
 use crate::answer_lines::{put_counts, put_reply};
 use crate::kept_state::{config_of, counts_of, state_of};
 use bundle_model::Counts;
-use case_file::{Resumption, Room};
+use case_file::Resumption;
 use case_kept::buffers::{RECORD_ROOM, Record};
 use case_kept::extent::extents_of;
 use case_kept::kept::{Kept, METHOD, is_set};
@@ -23,13 +23,13 @@ fn put_saved(page: &mut Page, bytes: &Record, length: usize) {
     put_record(page, &bytes[0..n]);
 }
 
-// How many bytes the record is written into.
-fn room_of(room: Room, words: usize) -> usize
+// How many bytes the record is written into: where the line says none, as many as the longest has.
+fn room_of(room: Option<u32>, words: usize) -> usize
     ensures { result ≤ 8192 }
 {
     match room {
-        Room::Longest => record::writing::longest(words).min(RECORD_ROOM),
-        Room::Bytes(n) => (n as usize).min(RECORD_ROOM),
+        None => record::writing::longest(words).min(RECORD_ROOM),
+        Some(n) => (n as usize).min(RECORD_ROOM),
     }
 }
 
@@ -160,7 +160,7 @@ impl Case {
         )
     }
 
-    pub(crate) fn resume(&mut self, asked: Resumption, room: Room, page: &mut Page) {
+    pub(crate) fn resume(&mut self, asked: Resumption, room: Option<u32>, page: &mut Page) {
         let mut bytes = [FILL; 8192];
         let e = extents_of(&self.kept);
         let n = room_of(room, e.words);

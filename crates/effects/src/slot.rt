@@ -224,7 +224,6 @@ impl AtStart<'_> {
         ensures { result ≡ slot_one (at_start self.now) b }
     {
         match b {
-            Bundle::Undecodable => Effect::Alu(AluEffect::Nothing),
             Bundle::One(i) | Bundle::Long(i) | Bundle::Two(i, _) => self.slot_one_effect(i),
         }
     }
@@ -236,7 +235,6 @@ impl AtStart<'_> {
         let registers = self.registers;
         let predicates = self.predicates;
         match b {
-            Bundle::Undecodable => AluEffect::Nothing,
             Bundle::One(_) => AluEffect::Nothing,
             Bundle::Two(_, j) => slot_two_effect(registers, predicates, j),
             Bundle::Long(_) => AluEffect::Nothing,

@@ -217,10 +217,9 @@ pub struct AluInstruction {
     pub operation: AluOperation,
 }
 
-// What a first and a second word encode together.
+// What a first and a second word encode together, where they encode anything.
 #[derive(Clone, Copy)]
 pub enum Bundle {
-    Undecodable,
     One(Instruction),
     Two(Instruction, AluInstruction),
     Long(Instruction),
