@@ -9,6 +9,7 @@ use isa::{AccessKind, LoadWidth, StoreWidth};
 use stack_cache::access;
 use word::sign;
 
+#[tactic(auto, unfolding(crate::specs::Access::load_scale, crate::specs::Access::extended))]
 fn load_bytes(s: &[u8], width: LoadWidth, a: u32) -> u32
     ensures { result ≡ extended width (number_at (2 ^ load_scale width) s.now a) }
 {
@@ -21,6 +22,7 @@ fn load_bytes(s: &[u8], width: LoadWidth, a: u32) -> u32
     }
 }
 
+#[tactic(auto, unfolding(crate::specs::Access::load_scale, crate::specs::Access::extended))]
 fn load_cache(cache: &[u32], width: LoadWidth, a: u32) -> u32
     ensures { result ≡ extended width (cache_number (2 ^ load_scale width) cache.now a) }
 {
@@ -34,6 +36,7 @@ fn load_cache(cache: &[u32], width: LoadWidth, a: u32) -> u32
 }
 
 // The value that a load brings.
+#[tactic(auto, unfolding(crate::specs::Access::loaded_value, crate::specs::Access::read_number))]
 pub fn load(
     main: &[u8],
     local: &[u8],
@@ -52,6 +55,7 @@ pub fn load(
     }
 }
 
+#[tactic(auto, unfolding(crate::specs::Access::store_scale))]
 fn store_bytes(s: &mut [u8], width: StoreWidth, a: u32, v: u32)
     ensures { s.new ≡ put_number (2 ^ store_scale width) s.old a v }
 {
@@ -62,6 +66,7 @@ fn store_bytes(s: &mut [u8], width: StoreWidth, a: u32, v: u32)
     }
 }
 
+#[tactic(auto, unfolding(crate::specs::Access::store_scale))]
 fn store_cache(cache: &mut [u32], width: StoreWidth, a: u32, v: u32)
     ensures { cache.new ≡ put_cache_number (2 ^ store_scale width) cache.old a v }
 {
@@ -73,6 +78,7 @@ fn store_cache(cache: &mut [u32], width: StoreWidth, a: u32, v: u32)
 }
 
 // A store carried out.
+#[tactic(auto, unfolding(crate::specs::Access::stored))]
 pub fn store(
     main: &mut [u8],
     local: &mut [u8],

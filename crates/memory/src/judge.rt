@@ -10,6 +10,7 @@ use isa::{AccessKind, LoadWidth, StoreWidth};
 use settings::Settings;
 
 // Whether an access of n bytes lies wholly inside main memory and touches no byte of the stack.
+#[tactic(auto, unfolding(crate::specs::Access::main_open, settings::specs::Setup::touches))]
 fn main_open(g: Settings, a: u32, n: u32) -> bool
     ensures { (code : List ℕ) → result ≡ main_open g (setup_of code g) a n }
 {
@@ -32,6 +33,7 @@ fn main_writable(g: Settings, a: u32, n: u32) -> bool
 }
 
 // Whether an access is open; `main` tells it of main memory.
+#[tactic(auto, unfolding(crate::specs::Access::access_open))]
 fn access_open(main: bool, g: Settings, st: u32, ss: u32, kind: AccessKind, a: u32, n: u32) -> bool
     ensures { result ≡ access_open main g st ss kind a n }
 {
@@ -56,6 +58,7 @@ fn is_stack(kind: AccessKind) -> bool
 }
 
 // 5, 7 and 6 of an access of n bytes.
+#[tactic(auto, unfolding(answers::specs::Test::verdict))]
 fn judge(main: bool, g: Settings, st: u32, ss: u32, kind: AccessKind, a: u32, n: u32) -> Verdict
     requires { 0 < n }
     ensures { result ≡ verdict (access_tests main g st ss kind a n) }
