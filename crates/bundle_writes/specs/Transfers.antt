@@ -30,6 +30,10 @@ abbrev pub judged_as : Verdict → Result Carried Refusal
 judged_as (Ok u) = plainly
 judged_as (Err r) = Err r
 
+pub judged_done : (v : Verdict) (c : Carried) → Ok c ≡ judged_as v → plainly ≡ judged_as v
+judged_done (Ok u) c e = refl
+judged_done (Err r) c e = cc
+
 pub transfer_carried : (g : Settings) (x : Setup) (s : State) (delayed : Bool) (t : Transfer) (b : Buffers) (v : Verdict)
     → v ≡ verdict (test refusal.TransferWaits (not (none_waits s.transfer)) ∷ lookup_tests x.method x.code (bases_of x t))
     → carried_as (judged_as v) b ≡ carried_out g x s (effect.Transfer delayed t) b
