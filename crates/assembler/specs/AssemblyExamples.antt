@@ -1,5 +1,5 @@
 -- Texts with the bundle that each is read as and the text that the bundle has, and texts that are mistakes.
-use Rattle.std.specs.Prelude.{Ok, Err, ℕ, ◌≡◌, refl, true, false, List, [], ◌∷◌, negsuc, Option, None, Some}
+use Rattle.std.specs.Prelude.{Ok, Err, ℕ, ◌≡◌, refl, true, false, List, [], ◌∷◌, negsuc}
 use Prim.Native.String as Text
 use Rattle.word.specs.Word.{signed}
 use Rattle.text.specs.Field.{spaces, field_length, field_from, same_bytes}
@@ -52,15 +52,15 @@ long g o = bundle.Long (record { guard = g; operation = o })
 abbrev pub two : PredicateOperand → Operation → PredicateOperand → AluOperation → Bundle
 two g o h a = bundle.Two (record { guard = g; operation = o }) (record { guard = h; operation = a })
 
--- A text, the bundle that it is read as, if slot two can hold what it asks for, and the bundle's text.
+-- A text, the bundle that it is read as, and the bundle's text.
 pub record Example : Type 0 where
   pub text : Text.String
-  pub bundle : Option Bundle
+  pub bundle : Bundle
   pub written : Text.String
 
 infix 60 ◌reads◌writes◌ ◌is◌
 abbrev pub ◌reads◌writes◌ : Text.String → Bundle → Text.String → Example
-t reads b writes w = record { text = t; bundle = Some b; written = w }
+t reads b writes w = record { text = t; bundle = b; written = w }
 
 -- A text that is written as it is read.
 abbrev pub ◌is◌ : Text.String → Bundle → Example
@@ -70,13 +70,9 @@ infixr 20 ◌and◌
 abbrev pub ◌and◌ : {A B : Type 0} → A → B → A × B
 a and b = (a, b)
 
-abbrev pub text_of : Option Bundle → List ℕ
-text_of None = []
-text_of (Some b) = bundle_text b
-
 abbrev pub AllHold : List Example → Type 0
 AllHold [] = Unit {0}
-AllHold (e ∷ es) = ((bundle_read (bytes e.text) 0 ≡ Ok e.bundle) × (text_of e.bundle ≡ bytes e.written)) × AllHold es
+AllHold (e ∷ es) = ((bundle_read (bytes e.text) 0 ≡ Ok e.bundle) × (bundle_text e.bundle ≡ bytes e.written)) × AllHold es
 
 abbrev pub AllMistakes : List (Text.String × Reason) → Type 0
 AllMistakes [] = Unit {0}
@@ -93,7 +89,7 @@ examples =
     ("brnd -2147483648" is one always (Transfer false (Br (negsuc 2147483647)))) ∷
     ("  p0  ret # back" reads one always (Transfer true Ret) writes "ret") ∷
     ("!p7 addi r1 r1 1 ; p2 cmpeq p3 r4 r5" is two (negated 7) (Alu (Arithmetic Add 1 1 (op2.Immediate 1))) (plainly 2) (Compare Cmpeq 3 4 (op2.Register 5))) ∷
-    record { text = "sub r1 r2 r3 ; ret"; bundle = None; written = "" } ∷
+    ("sub r1 r2 r3 ; ret" reads bundle.Undecodable writes "") ∷
     []
 
 abbrev pub mistakes : List (Text.String × Reason)

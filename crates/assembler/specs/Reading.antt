@@ -4,7 +4,7 @@ use Rattle.text.specs.Field.{field_from, same_bytes}
 use Rattle.case_words.specs.Names.{bytes}
 use Rattle.case_file.specs.Arguments.{is_empty, bytes_of, is_end}
 use Rattle.case_file.specs.declared.Reason.{Reason}
-use Rattle.encoder.specs.Encode.{single, pair, written_if, Written}
+use Rattle.encoder.specs.Encode.{single, pair, written, Written}
 use Rattle.assembly.specs.Forms.{predicate, letter, made, mnemonic_of}
 use Rattle.assembly.specs.Operands.{OperandRead, plain, predicate_read, operand_at}
 use Rattle.assembly.specs.declared.Operand.{Operand}
@@ -51,9 +51,9 @@ guarded_at line at (Err r) = named_at line at (predicate (plain 0))
 unfoldable pub instruction_at : List ℕ → ℕ → InstructionRead
 instruction_at line at = let f = field_from line at in guarded_at line at (predicate_read (bytes_of line f) f.end)
 
--- The bundle that the rest of a line asks for, none where slot two cannot hold the second instruction, or what is wrong with it.
+-- The bundle that the rest of a line asks for, or what is wrong with it.
 abbrev pub BundleRead : Type 0
-BundleRead = Result (Option Bundle) Reason
+BundleRead = Result Bundle Reason
 
 -- One instruction to the line's end, or two with `;` between them.
 abbrev pub second_read : List ℕ → Instruction → InstructionRead → BundleRead
@@ -63,7 +63,7 @@ second_read line i (Ok read) = cond (is_end line read.1) (Ok (pair i read.0)) (E
 unfoldable pub after_first : List ℕ → ℕ → Instruction → BundleRead
 after_first line at i =
     let f = field_from line at in
-    cond (is_empty f) (Ok (Some (single i)))
+    cond (is_empty f) (Ok (single i))
     (cond (same_bytes (bytes_of line f) (bytes ";")) (second_read line i (instruction_at line f.end)) (Err Reason.FieldTooMany))
 
 abbrev pub first_read : List ℕ → InstructionRead → BundleRead
@@ -75,5 +75,5 @@ bundle_read line at = first_read line (instruction_at line at)
 
 -- The words written for it.
 abbrev pub words_of : BundleRead → Result Written Reason
-words_of (Ok b) = Ok (written_if b)
+words_of (Ok b) = Ok (written b)
 words_of (Err r) = Err r

@@ -55,11 +55,12 @@ fn pair_rule(m: Marking, i: Instruction, j: AluInstruction) -> Option<Rule>
     one.or(two)
 }
 
-// A rule that a bundle breaks.
+// A rule that a bundle breaks. One that cannot be decoded has nothing that could break one.
 pub fn judge(m: Marking, b: Bundle) -> Option<Rule>
     ensures { right (breaks m b) result ≡ true }
 {
     match b {
+        Bundle::Undecodable => None,
         Bundle::One(i) | Bundle::Long(i) => instruction_rule(m, i),
         Bundle::Two(i, j) => pair_rule(m, i, j),
     }

@@ -11,6 +11,7 @@ use bundle_model::Bundled;
 use bundle_model::outcome::refused;
 use core_state::Core;
 use effects::AtStart;
+use effects::slot::slot_two;
 use fetch::{Fetched, fetch};
 use settings::{Given, Settings};
 
@@ -44,7 +45,7 @@ pub(crate) fn bundle(
                 table,
             };
             let one = start.slot_one(bundle);
-            let two = start.slot_two(bundle);
+            let two = slot_two(&*registers, &*predicates, bundle);
             execute(
                 core,
                 &mut *registers,

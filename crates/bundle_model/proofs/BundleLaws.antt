@@ -1,5 +1,5 @@
 -- A bundle by what is fetched: refused, or executed.
-use Rattle.std.specs.Prelude.{ℕ, Bool, not, ◌&&◌, List, ◌≡◌, Option, Ok, Err}
+use Rattle.std.specs.Prelude.{ℕ, Bool, not, ◌&&◌, List, ◌≡◌, Ok, Err}
 use Rattle.std.proofs.Math.Bool.{true, false, cond}
 use Rattle.std.proofs.Math.Path.{refl, ap}
 use Rattle.std.proofs.Common.{◌∙◌}
@@ -17,7 +17,7 @@ use Rattle.replay.specs.Replay.{replay_ok}
 use Rattle.fetch.specs.declared.Fetched.{Fetched}
 use Rattle.fetch.specs.Fetch.{bundle_at, following_at, fetch_tests, fetched}
 use Rattle.fetch.specs.FetchLaws.{refused_verdict, found_verdict, found_bundle}
-use Rattle.effects.specs.Effect.{slot_one, slot_two, slot_one_if, slot_two_if}
+use Rattle.effects.specs.Effect.{slot_one, slot_two}
 use Rattle.core_state.specs.State.{State, start_of, with_held, parts_ok, ended}
 use Rattle.bundle_model.specs.declared.Readiness.TheVariants as ready
 use Rattle.bundle_model.specs.Counts.{no_counts}
@@ -29,7 +29,7 @@ module _ (g : Settings) (x : Setup) (s : State) (b : Buffers) where
   pub bundle_refused : (r : Refusal) → fetched x.code s.fetch ≡ Err r → bundle g x s b ≡ outcome (refused (number r)) s no_counts b
   unfolding bundle
   bundle_refused r e =
-      rw (verdict_append (fetch_tests x.code s.fetch) (slot_tests g x s (slot_one_if (start_of x.table s) (bundle_at x.code s.fetch))), refused_verdict x.code s.fetch r e)
+      rw (verdict_append (fetch_tests x.code s.fetch) (slot_tests g x s (slot_one (start_of x.table s) (bundle_at x.code s.fetch))), refused_verdict x.code s.fetch r e)
 
   pub bundle_found : (f : Fetched) → fetched x.code s.fetch ≡ Ok f
       → bundle g x s b ≡ executed g x s (slot_one (start_of x.table s) f.bundle) (slot_two (start_of x.table s) f.bundle) f.following b
@@ -38,10 +38,10 @@ module _ (g : Settings) (x : Setup) (s : State) (b : Buffers) where
       let there = bundle_at x.code s.fetch in
       let after = following_at x.code s.fetch in
       let told = found_bundle x.code s.fetch f e in
-      let here : bundle g x s b ≡ executed g x s (slot_one_if (start_of x.table s) there) (slot_two_if (start_of x.table s) there) after b
-      = rw (verdict_append (fetch_tests x.code s.fetch) (slot_tests g x s (slot_one_if (start_of x.table s) there)), found_verdict x.code s.fetch f e) in
+      let here : bundle g x s b ≡ executed g x s (slot_one (start_of x.table s) there) (slot_two (start_of x.table s) there) after b
+      = rw (verdict_append (fetch_tests x.code s.fetch) (slot_tests g x s (slot_one (start_of x.table s) there)), found_verdict x.code s.fetch f e) in
       here
-      ∙ ap (λ (j : Option Bundle). executed g x s (slot_one_if (start_of x.table s) j) (slot_two_if (start_of x.table s) j) after b) told.0
+      ∙ ap (λ (j : Bundle). executed g x s (slot_one (start_of x.table s) j) (slot_two (start_of x.table s) j) after b) told.0
       ∙ ap (λ (n : ℕ). executed g x s (slot_one (start_of x.table s) f.bundle) (slot_two (start_of x.table s) f.bundle) n b) told.1
 
 -- A bundle is tried under settings inside the limits, from a well-formed state that has not ended.

@@ -16,7 +16,7 @@ use Rattle.effects.specs.declared.Transfer.TheVariants.{Br, Call, Block, Xret}
 use Rattle.alu_effects.specs.declared.AluEffect.{AluEffect}
 use Rattle.effects.specs.declared.Effect.{Effect}
 use Rattle.effects.specs.declared.Effect.TheVariants as effect
-use Rattle.effects.specs.Effect.{slot_one_if, slot_two_if, on_effect}
+use Rattle.effects.specs.Effect.{slot_one, slot_two, on_effect}
 use Rattle.core_state.specs.State.{State, start_of, with_special, with_stack, with_load, landed, arrived, with_begun, with_held, with_done, entered, parts_ok, ended as has_ended}
 use Rattle.core_state.specs.declared.WaitingTransfer.{WaitingTransfer}
 use Rattle.core_state.specs.declared.WaitingLoad.TheVariants as load
@@ -145,9 +145,9 @@ refused_or (Err r) s b other = outcome (refused (number r)) s no_counts b
 unfoldable pub bundle : Settings → Setup → State → Buffers → Outcome
 bundle g x s b =
     let i = bundle_at x.code s.fetch in
-    let one = slot_one_if (start_of x.table s) i in
+    let one = slot_one (start_of x.table s) i in
     refused_or (verdict (bundle_tests g x s one)) s b
-    (outcome done (state_done g x b s one (slot_two_if (start_of x.table s) i) (following_at x.code s.fetch)) (counts_of g x s one) (buffers_after g x s one b))
+    (outcome done (state_done g x b s one (slot_two (start_of x.table s) i) (following_at x.code s.fetch)) (counts_of g x s one) (buffers_after g x s one b))
 
 -- By cases: a bundle done, and every other answer.
 abbrev pub if_done : {A : Type 0} → Returned → A → A → A

@@ -1,5 +1,5 @@
 -- What the check for C takes and gives: the marking as bits of numbers, and its answer as numbers.
-use Rattle.std.specs.Prelude.{ℕ, Bool, true, false, not, cond, ◌&&◌, ◌||◌, List, ◌≡◌, eqb, get_or, Option}
+use Rattle.std.specs.Prelude.{ℕ, Bool, true, false, not, cond, ◌&&◌, ◌||◌, List, ◌≡◌, eqb, get_or}
 use Rattle.std.proofs.lemmas.Bool.{not-true}
 use Rattle.isa.specs.declared.Bundle.{Bundle}
 use Rattle.fetch.specs.Fetch.{bundle_at}
@@ -7,7 +7,7 @@ use Rattle.core_state.specs.State.{predicates_of}
 use Rattle.marking.specs.declared.Marking.{Marking}
 use Rattle.marking_rules.specs.declared.Rule.{Rule}
 use Rattle.marking_rules.specs.declared.Rule.TheVariants as rule
-use Rattle.marking_rules.specs.Rules.{breaks_if}
+use Rattle.marking_rules.specs.Rules.{breaks}
 use Rattle.single_path.specs.Check.{CheckAnswer, accepted as passed, refused as failed}
 use Rattle.check_entry.specs.declared.CheckedCode.{CheckedCode}
 
@@ -36,10 +36,10 @@ letter_of rule.D = 68
 letter_of rule.E = 69
 
 -- Whether a number is the letter of a rule that a bundle breaks.
-abbrev is_broken : Marking → Option Bundle → ℕ → Rule → Bool
-is_broken m b n r = eqb n (letter_of r) && breaks_if m b r
+abbrev is_broken : Marking → Bundle → ℕ → Rule → Bool
+is_broken m b n r = eqb n (letter_of r) && breaks m b r
 
-unfoldable pub broken_by : Marking → Option Bundle → ℕ → Bool
+unfoldable pub broken_by : Marking → Bundle → ℕ → Bool
 broken_by m b n = is_broken m b n rule.A || (is_broken m b n rule.B || (is_broken m b n rule.C || (is_broken m b n rule.D || is_broken m b n rule.E)))
 
 -- What is told of the check: the two numbers, and a letter that the bundle breaks where the answer is 9, and else 0.
@@ -52,7 +52,7 @@ pub record Told (m : Marking) (code : List ℕ) (c : CheckAnswer) (t : CheckedCo
   pub letter : letter_told m code t ≡ true
 
 -- The letter of a broken rule is one that is broken.
-pub letter_broken_lem : (m : Marking) (b : Option Bundle) (r : Rule) → breaks_if m b r ≡ true → broken_by m b (letter_of r) ≡ true
+pub letter_broken_lem : (m : Marking) (b : Bundle) (r : Rule) → breaks m b r ≡ true → broken_by m b (letter_of r) ≡ true
 unfolding broken_by letter_of
 letter_broken_lem m b rule.A e = rw e
 letter_broken_lem m b rule.B e = rw e

@@ -7,7 +7,7 @@ use Rattle.isa.specs.declared.AluOperation.{AluOperation}
 use Rattle.isa.specs.declared.Operation.{Operation}
 use Rattle.isa.specs.declared.Operation.TheVariants.{Alu}
 use Rattle.isa.specs.declared.Bundle.{Bundle}
-use Rattle.isa.specs.declared.Bundle.TheVariants.{One, Two, Long}
+use Rattle.isa.specs.declared.Bundle.TheVariants.{Undecodable, One, Two, Long}
 
 -- A bundle has two words if bit 31 of its first is set.
 abbrev pub is_two_words : ℕ → Bool
@@ -33,23 +33,22 @@ unfoldable pub slot_two : ℕ → Option AluOperation
 slot_two w = cond (is_two_words w) None (reading alu_formats w)
 
 -- A bundle of one word.
-abbrev pub one : PredicateOperand → Option Operation → Option Bundle
-one g None = None
-one g (Some o) = Some (One (record { guard = g; operation = o }))
+abbrev pub one : PredicateOperand → Option Operation → Bundle
+one g None = Undecodable
+one g (Some o) = One (record { guard = g; operation = o })
 
--- A bundle of two instructions: none if either is none.
-abbrev pub two : PredicateOperand → Option Operation → PredicateOperand → Option AluOperation → Option Bundle
-two g None h p = None
-two g (Some o) h None = None
-two g (Some o) h (Some a) = Some (Two (record { guard = g; operation = o }) (record { guard = h; operation = a }))
+-- A bundle of two instructions: undecodable if either is.
+abbrev pub two : PredicateOperand → Option Operation → PredicateOperand → Option AluOperation → Bundle
+two g None h p = Undecodable
+two g (Some o) h None = Undecodable
+two g (Some o) h (Some a) = Two (record { guard = g; operation = o }) (record { guard = h; operation = a })
 
 -- A long immediate, or else the other reading.
-abbrev pub long : PredicateOperand → Option AluOperation → Option Bundle → Option Bundle
+abbrev pub long : PredicateOperand → Option AluOperation → Bundle → Bundle
 long g None other = other
-long g (Some a) other = Some (Long (record { guard = g; operation = Alu a }))
+long g (Some a) other = Long (record { guard = g; operation = Alu a })
 
--- None: the words are undecodable.
-unfoldable pub decode : ℕ → ℕ → Option Bundle
+unfoldable pub decode : ℕ → ℕ → Bundle
 decode first second =
     cond (is_two_words first)
     (long (guard_of first) (applied (reading long_formats first) second)

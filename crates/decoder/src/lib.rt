@@ -58,33 +58,32 @@ fn long(first: u32, second: u32) -> Option<AluOperation>
     alu_formats::read_long(first, second)
 }
 
-// The bundle that a first and a second word encode, if they encode one. Where the first says that it is alone the second does not matter.
-pub fn decode(first: u32, second: u32) -> Option<Bundle>
+// The bundle that a first and a second word encode. Where the first says that it is alone the second does not matter.
+pub fn decode(first: u32, second: u32) -> Bundle
     ensures { result ≡ decode first second }
 {
     if let Some(operation) = long(first, second) {
-        return Some(Bundle::Long(Instruction {
+        return Bundle::Long(Instruction {
             guard: guard_of(first),
             operation: Operation::Alu(operation),
-        }));
+        });
     }
-    // `?` here and below: tried, the proof didn't close.
     let Some(operation) = slot_one(first) else {
-        return None;
+        return Bundle::Undecodable;
     };
     let one = Instruction {
         guard: guard_of(first),
         operation,
     };
     if bundle_words(first) == 1 {
-        return Some(Bundle::One(one));
+        return Bundle::One(one);
     }
     let Some(other) = slot_two(second) else {
-        return None;
+        return Bundle::Undecodable;
     };
     let two = AluInstruction {
         guard: guard_of(second),
         operation: other,
     };
-    Some(Bundle::Two(one, two))
+    Bundle::Two(one, two)
 }

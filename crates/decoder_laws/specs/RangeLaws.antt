@@ -122,7 +122,7 @@ long_in_range first second h = go (reading long_formats first) (reading_says _ l
     go None p = tt
     go (Some f) p = p second h
 
-pub decode_in_range : (first second : ℕ) → second < 2 ^ 32 → IfSome (decode first second) InRange
+pub decode_in_range : (first second : ℕ) → second < 2 ^ 32 → InRange (decode first second)
 unfolding decode
 decode_in_range first second h =
     go
@@ -136,7 +136,7 @@ decode_in_range first second h =
   where
     go : (t : Bool) (l : Option AluOperation) (o : Option Operation) (a : Option AluOperation)
         → IfSome l AluInRange → IfSome o OperationInRange → IfSome a AluInRange
-        → IfSome (cond t (long (guard_of first) l (two (guard_of first) o (guard_of second) a)) (one (guard_of first) o)) InRange
+        → InRange (cond t (long (guard_of first) l (two (guard_of first) o (guard_of second) a)) (one (guard_of first) o))
     go true (Some l) o a p q r = (guard_in_range first, p)
     go true None (Some o) (Some a) p q r = ((guard_in_range first, q), (guard_in_range second, r))
     go true None (Some o) None p q r = tt
@@ -145,14 +145,14 @@ decode_in_range first second h =
     go false l None a p q r = tt
 
 -- The same by the form of the bundle.
-pub one_in_range : (first second : ℕ) {i : Instruction} → second < 2 ^ 32 → decode first second ≡ Some (One i) → InstructionInRange i
+pub one_in_range : (first second : ℕ) {i : Instruction} → second < 2 ^ 32 → decode first second ≡ One i → InstructionInRange i
 one_in_range first second h e = rw e at (decode_in_range first second h)
 
 pub two_in_range : (first second : ℕ) {i : Instruction} {j : AluInstruction} → second < 2 ^ 32
-    → decode first second ≡ Some (Two i j) → InstructionInRange i × AluInstructionInRange j
+    → decode first second ≡ Two i j → InstructionInRange i × AluInstructionInRange j
 two_in_range first second h e = rw e at (decode_in_range first second h)
 
-pub long_immediate_in_range : (first second : ℕ) {i : Instruction} → second < 2 ^ 32 → decode first second ≡ Some (Long i) → InstructionInRange i
+pub long_immediate_in_range : (first second : ℕ) {i : Instruction} → second < 2 ^ 32 → decode first second ≡ Long i → InstructionInRange i
 long_immediate_in_range first second h e = rw e at (decode_in_range first second h)
 
 -- The register that a load leaves waiting.

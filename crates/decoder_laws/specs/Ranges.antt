@@ -80,6 +80,7 @@ abbrev pub AluInstructionInRange : AluInstruction → Type 0
 AluInstructionInRange i = IsPredicate i.guard × AluInRange i.operation
 
 abbrev pub InRange : Bundle → Type 0
+InRange bundle.Undecodable = Unit {0}
 InRange (bundle.One i) = InstructionInRange i
 InRange (bundle.Two i j) = InstructionInRange i × AluInstructionInRange j
 InRange (bundle.Long i) = InstructionInRange i

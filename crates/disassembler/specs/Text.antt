@@ -26,8 +26,9 @@ guard_text g = cond (cond g.negated false (eqb g.predicate 0)) [] (predicate_tex
 abbrev pub slot_text : PredicateOperand → Operation → List ℕ
 slot_text g o = guard_text g ++ shown_text (shown o)
 
--- The text of a bundle.
+-- The text of a bundle. One that cannot be decoded has none.
 unfoldable pub bundle_text : Bundle → List ℕ
+bundle_text bundle.Undecodable = []
 bundle_text (bundle.One i) = slot_text i.guard i.operation
 bundle_text (bundle.Long i) = slot_text i.guard i.operation
 bundle_text (bundle.Two i j) = slot_text i.guard i.operation ++ (bytes " ; " ++ slot_text j.guard (Alu j.operation))

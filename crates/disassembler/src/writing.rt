@@ -80,11 +80,12 @@ fn put_two(page: &mut Page, i: Instruction, j: AluInstruction)
     put_slot(page, g, Operation::Alu(a));
 }
 
-// The text of a bundle.
+// The text of a bundle. One that cannot be decoded has none.
 pub fn put_bundle(page: &mut Page, b: Bundle)
     ensures { Puts page.old page.new (bundle_text b) }
 {
     match b {
+        Bundle::Undecodable => {}
         Bundle::One(i) | Bundle::Long(i) => put_instruction(page, i),
         Bundle::Two(i, j) => put_two(page, i, j),
     }

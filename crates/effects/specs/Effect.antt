@@ -1,5 +1,5 @@
 -- What a slot does, as one value. It is computed from the state at the start of the bundle, for both slots.
-use Rattle.std.specs.Prelude.{ℕ, ◌/◌, ◌%◌, ◌^◌, Bool, true, cond, List, eqb, get_or, Option, None, Some}
+use Rattle.std.specs.Prelude.{ℕ, ◌/◌, ◌%◌, ◌^◌, Bool, true, cond, List, eqb, get_or}
 use Rattle.std.specs.Int.{w32}
 use Rattle.std.proofs.Common.{of_z}
 use Rattle.word.specs.Word.{add, shift_left}
@@ -17,7 +17,7 @@ use Rattle.isa.specs.declared.Operation.{Operation}
 use Rattle.isa.specs.declared.Operation.TheVariants.{Alu, Multiply, Mts, Mfs, Load, Store, StackControl, Transfer, Trap, Xret}
 use Rattle.isa.specs.declared.Instruction.{Instruction}
 use Rattle.isa.specs.declared.Bundle.{Bundle}
-use Rattle.isa.specs.declared.Bundle.TheVariants.{One, Two, Long}
+use Rattle.isa.specs.declared.Bundle.TheVariants.{Undecodable, One, Two, Long}
 use Rattle.stack_cache.specs.declared.StackControl as stack
 use Rattle.stack_cache.specs.declared.StackControl.TheVariants as control
 use Rattle.memory.specs.Access.{load_scale, store_scale}
@@ -112,23 +112,16 @@ slot_one_effect s i = cond (holds s.predicates i.guard) (effect_of s i.operation
 
 -- The two slots of a bundle. Slot two of a bundle that has none does nothing.
 abbrev pub slot_one : Start → Bundle → Effect
+slot_one s Undecodable = effect.Alu alu.Nothing
 slot_one s (One i) = slot_one_effect s i
 slot_one s (Two i j) = slot_one_effect s i
 slot_one s (Long i) = slot_one_effect s i
 
 abbrev pub slot_two : Start → Bundle → AluEffect
+slot_two s Undecodable = alu.Nothing
 slot_two s (One i) = alu.Nothing
 slot_two s (Two i j) = slot_two_effect s.registers s.predicates j
 slot_two s (Long i) = alu.Nothing
-
--- The same of a bundle that may be none, as at an address whose words do not decode: no slot does anything.
-abbrev pub slot_one_if : Start → Option Bundle → Effect
-slot_one_if s None = effect.Alu alu.Nothing
-slot_one_if s (Some b) = slot_one s b
-
-abbrev pub slot_two_if : Start → Option Bundle → AluEffect
-slot_two_if s None = alu.Nothing
-slot_two_if s (Some b) = slot_two s b
 
 -- By cases: of a stack instruction, of a transfer, of a trap, and of every other effect.
 abbrev pub on_effect : {A : Type 0} → A → (stack.StackControl → ℕ → Bool → A) → (Bool → declared.Transfer → A) → (ℕ → ℕ → A) → Effect → A

@@ -10,7 +10,7 @@ use stack_cache::StackControl;
 // What the slots read: the state as the bundle begins, and the table of handlers.
 #[derive(Clone, Copy)]
 pub struct AtStart<'a> {
-    pub registers: &'a [u32; 32],
+    pub registers: &'a [u32],
     pub predicates: &'a [bool; 8],
     pub specials: Specials,
     pub fetch: u32,

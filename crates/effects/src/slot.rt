@@ -1,11 +1,11 @@
 // What the slots of a bundle do: their operations read in the state at the start of the bundle.
-ghost use Rattle.std.specs.Prelude.{◌≡◌};
-ghost use Rattle.effects.specs.Effect.{at_start, register, access_address, address, amount_words, amount_aligned, stack_effect, transfer_of, effect_of, slot_one_effect, slot_one, slot_two};
+ghost use Rattle.std.specs.Prelude.{◌≡◌, List, ℕ};
+ghost use Rattle.effects.specs.Effect.{start, at_start, register, access_address, address, amount_words, amount_aligned, stack_effect, transfer_of, effect_of, slot_one_effect, slot_one, slot_two};
 
 use crate::{AtStart, Effect, Transfer};
-use alu_effects::AluEffect;
 use alu_effects::either_slot::{alu_effect, operand, register, slot_two_effect};
 use alu_effects::special::read_special;
+use alu_effects::{AluEffect, Specials};
 use isa::{AccessKind, Bundle, Instruction, Operation, StackAmount, StackOperation, Target};
 use memory::width::{load_scale, store_scale};
 use replay::handler_at;
@@ -224,20 +224,20 @@ impl AtStart<'_> {
         ensures { result ≡ slot_one (at_start self.now) b }
     {
         match b {
+            Bundle::Undecodable => Effect::Alu(AluEffect::Nothing),
             Bundle::One(i) | Bundle::Long(i) | Bundle::Two(i, _) => self.slot_one_effect(i),
         }
     }
+}
 
-    // What slot two of a bundle does; nothing where it has none.
-    pub fn slot_two(&self, b: Bundle) -> AluEffect
-        ensures { result ≡ slot_two (at_start self.now) b }
-    {
-        let registers = self.registers;
-        let predicates = self.predicates;
-        match b {
-            Bundle::One(_) => AluEffect::Nothing,
-            Bundle::Two(_, j) => slot_two_effect(registers, predicates, j),
-            Bundle::Long(_) => AluEffect::Nothing,
-        }
+// What slot two of a bundle does; nothing where it has none. It reads registers and predicates alone, of any number.
+pub fn slot_two<'a>(registers: &'a [u32], predicates: &'a [bool], b: Bundle) -> AluEffect
+    ensures { (specials : Specials) (fetch : ℕ) (table : List ℕ) → result ≡ slot_two (start registers.now predicates.now specials fetch table) b }
+{
+    match b {
+        Bundle::Undecodable => AluEffect::Nothing,
+        Bundle::One(_) => AluEffect::Nothing,
+        Bundle::Two(_, j) => slot_two_effect(registers, predicates, j),
+        Bundle::Long(_) => AluEffect::Nothing,
     }
 }

@@ -78,14 +78,10 @@ beside (Some w) (Some v) = Ok (Two w v)
 
 -- The words of a bundle, or the refusal.
 unfoldable pub written : Bundle → Written
+written bundle.Undecodable = Err refusal.NoWords
 written (bundle.One i) = alone (slot_word 0 i.guard i.operation)
 written (bundle.Two i j) = beside (slot_word 1 i.guard i.operation) (slot_word 0 j.guard (Alu j.operation))
 written (bundle.Long i) = beside (long_word i.guard (either_slot i.operation)) (constant_of (either_slot i.operation))
-
--- Where there is no bundle there are no words.
-abbrev pub written_if : Option Bundle → Written
-written_if None = Err refusal.NoWords
-written_if (Some b) = written b
 
 -- The bundle of one instruction: of two words if it has a long constant.
 abbrev pub of_length : Instruction → Option ℕ → Bundle
@@ -96,9 +92,9 @@ unfoldable pub single : Instruction → Bundle
 single i = of_length i (constant_of (either_slot i.operation))
 
 -- The bundle of two instructions. What slot two cannot hold makes no bundle.
-abbrev pub beside_alu : Instruction → PredicateOperand → Option AluOperation → Option Bundle
-beside_alu i g None = None
-beside_alu i g (Some a) = Some (bundle.Two i (record { guard = g; operation = a }))
+abbrev pub beside_alu : Instruction → PredicateOperand → Option AluOperation → Bundle
+beside_alu i g None = bundle.Undecodable
+beside_alu i g (Some a) = bundle.Two i (record { guard = g; operation = a })
 
-unfoldable pub pair : Instruction → Instruction → Option Bundle
+unfoldable pub pair : Instruction → Instruction → Bundle
 pair i j = beside_alu i j.guard (either_slot j.operation)

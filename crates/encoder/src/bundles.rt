@@ -1,6 +1,6 @@
 // Bundles asked for by one instruction or by any two, written.
 ghost use Rattle.std.specs.Prelude.{◌≡◌, Some};
-ghost use Rattle.encoder.specs.Encode.{either_slot, constant_in, constant_of, single, pair, written, written_if};
+ghost use Rattle.encoder.specs.Encode.{either_slot, constant_in, constant_of, single, pair, written};
 
 use crate::Written;
 use crate::words::{write_long, write_one, write_two};
@@ -51,7 +51,7 @@ pub fn write_single(i: Instruction) -> Written
 
 // The words of a bundle of two instructions. What slot two cannot hold is refused here, and not left to whoever asks.
 pub fn write_pair(i: Instruction, j: Instruction) -> Written
-    ensures { result ≡ written_if (pair i j) }
+    ensures { result ≡ written (pair i j) }
 {
     let Some(operation) = either_slot(j.operation) else {
         return Err(Refusal::NoWords);

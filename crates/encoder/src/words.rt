@@ -241,6 +241,7 @@ pub fn write(b: Bundle) -> Written
     ensures { result ≡ written b }
 {
     match b {
+        Bundle::Undecodable => Err(Refusal::NoWords),
         Bundle::One(i) => write_one(i),
         Bundle::Two(i, j) => write_two(i, j),
         Bundle::Long(i) => write_long(i),

@@ -1,10 +1,10 @@
 -- Bundles and their words, worked out by hand from the figures of section 2.5.
-use Rattle.std.specs.Prelude.{ℕ, true, false, List, [], ◌∷◌, map, ◌≡◌, refl, pos, negsuc, Option, None, Some, Ok, Err}
+use Rattle.std.specs.Prelude.{ℕ, true, false, List, [], ◌∷◌, map, ◌≡◌, refl, pos, negsuc, Ok, Err}
 use Rattle.answers.specs.declared.Refusal.TheVariants as refusal
 use Rattle.isa.specs.Format.{reading, row}
 use Rattle.decoder.specs.Decode.{guard_of, slot_one, slot_two, decode}
 use Rattle.fields.specs.Place.{writing}
-use Rattle.encoder.specs.Encode.{guarded, slot_word, written, written_if, single, pair, Written}
+use Rattle.encoder.specs.Encode.{guarded, slot_word, written, single, pair, Written}
 use Rattle.encoder_laws.specs.EncodeLaws.{fixed_form}
 use Rattle.isa.specs.declared.PredicateOperand.{PredicateOperand}
 use Rattle.isa.specs.declared.AluFunction.TheVariants.{Add, Sub, Sl, Nor, Shadd2}
@@ -27,10 +27,10 @@ use Rattle.encoder.specs.declared.CodeWords.TheVariants.{One, Two}
 
 infix 70 ◌⟶◌
 pub record Example : Type 0 where
-  pub bundle : Option Bundle
+  pub bundle : Bundle
   pub words : Written
 
-abbrev pub ◌⟶◌ : Option Bundle → Written → Example
+abbrev pub ◌⟶◌ : Bundle → Written → Example
 b ⟶ w = record { bundle = b; words = w }
 
 -- A predicate, a negated one, and an instruction under a guard or under none.
@@ -54,31 +54,31 @@ addl = plain (Alu (Arithmetic Add 1 0 (Long 0x9ABCDEF0)))
 
 abbrev pub examples : List Example
 examples =
-    Some (single (plain (Transfer true (CallRegister 3)))) ⟶ Ok (One 0x06403004) ∷
-    Some (single (plain (Transfer false (BrcfRegister 5 6)))) ⟶ Ok (One 0x0600530A) ∷
-    Some (single (plain (Transfer true Ret))) ⟶ Ok (One 0x06400000) ∷
+    single (plain (Transfer true (CallRegister 3))) ⟶ Ok (One 0x06403004) ∷
+    single (plain (Transfer false (BrcfRegister 5 6))) ⟶ Ok (One 0x0600530A) ∷
+    single (plain (Transfer true Ret)) ⟶ Ok (One 0x06400000) ∷
     -- br at the ends of its range, and one beyond
-    Some (single (plain (Transfer true (Br (negsuc 0))))) ⟶ Ok (One 0x04FFFFFF) ∷
-    Some (single (plain (Transfer true (Br (pos 2097151))))) ⟶ Ok (One 0x04DFFFFF) ∷
-    Some (single (plain (Transfer true (Br (negsuc 2097151))))) ⟶ Ok (One 0x04E00000) ∷
-    Some (single (plain (Transfer true (Br (pos 2097152))))) ⟶ Err refusal.NoWords ∷
-    Some (single (plain (Transfer true (Br (negsuc 2097152))))) ⟶ Err refusal.NoWords ∷
+    single (plain (Transfer true (Br (negsuc 0)))) ⟶ Ok (One 0x04FFFFFF) ∷
+    single (plain (Transfer true (Br (pos 2097151)))) ⟶ Ok (One 0x04DFFFFF) ∷
+    single (plain (Transfer true (Br (negsuc 2097151)))) ⟶ Ok (One 0x04E00000) ∷
+    single (plain (Transfer true (Br (pos 2097152)))) ⟶ Err refusal.NoWords ∷
+    single (plain (Transfer true (Br (negsuc 2097152)))) ⟶ Err refusal.NoWords ∷
     -- immediates at the end of their bits, and one beyond
-    Some (single (plain (Trap 4194303))) ⟶ Ok (One 0x05BFFFFF) ∷
-    Some (single (plain (Trap 4194304))) ⟶ Err refusal.NoWords ∷
-    Some (single (plain (Alu (Arithmetic Sl 1 2 (Immediate 4095))))) ⟶ Ok (One 0x00C22FFF) ∷
-    Some (single (plain (Alu (Arithmetic Sl 1 2 (Immediate 4096))))) ⟶ Err refusal.NoWords ∷
-    Some (single (plain (StackControl (Sres 262143)))) ⟶ Ok (One 0x0303FFFF) ∷
-    Some (single (plain (StackControl (Sres 262144)))) ⟶ Err refusal.NoWords ∷
-    Some (single (plain (Load Stack Word 31 31 127))) ⟶ Ok (One 0x02BFF07F) ∷
-    Some (single (plain (Load Stack Word 31 31 128))) ⟶ Err refusal.NoWords ∷
+    single (plain (Trap 4194303)) ⟶ Ok (One 0x05BFFFFF) ∷
+    single (plain (Trap 4194304)) ⟶ Err refusal.NoWords ∷
+    single (plain (Alu (Arithmetic Sl 1 2 (Immediate 4095)))) ⟶ Ok (One 0x00C22FFF) ∷
+    single (plain (Alu (Arithmetic Sl 1 2 (Immediate 4096)))) ⟶ Err refusal.NoWords ∷
+    single (plain (StackControl (Sres 262143))) ⟶ Ok (One 0x0303FFFF) ∷
+    single (plain (StackControl (Sres 262144))) ⟶ Err refusal.NoWords ∷
+    single (plain (Load Stack Word 31 31 127)) ⟶ Ok (One 0x02BFF07F) ∷
+    single (plain (Load Stack Word 31 31 128)) ⟶ Err refusal.NoWords ∷
     -- predicates
-    Some (single (under (not_p 0) (Mts special.Sl 1))) ⟶ Ok (One 0x42401022) ∷
-    Some (single (plain (Alu (Predicate Por 7 (not_p 7) (not_p 7))))) ⟶ Ok (One 0x020EF7C6) ∷
-    Some (single (plain (Alu (BitCopy 1 2 31 (not_p 7))))) ⟶ Ok (One 0x02022FDF) ∷
+    single (under (not_p 0) (Mts special.Sl 1)) ⟶ Ok (One 0x42401022) ∷
+    single (plain (Alu (Predicate Por 7 (not_p 7) (not_p 7)))) ⟶ Ok (One 0x020EF7C6) ∷
+    single (plain (Alu (BitCopy 1 2 31 (not_p 7)))) ⟶ Ok (One 0x02022FDF) ∷
     -- long immediates
-    Some (single addl) ⟶ Ok (Two 0x87C20000 0x9ABCDEF0) ∷
-    Some (single (under (not_p 7) (Alu (Arithmetic Shadd2 1 0 (Long 7))))) ⟶ Ok (Two 0xFFC2000D 7) ∷
+    single addl ⟶ Ok (Two 0x87C20000 0x9ABCDEF0) ∷
+    single (under (not_p 7) (Alu (Arithmetic Shadd2 1 0 (Long 7)))) ⟶ Ok (Two 0xFFC2000D 7) ∷
     -- pairs
     pair (plain (Alu (Compare Cmpeq 1 2 (Register 3)))) (under (p 1) (Alu (Arithmetic Add 4 5 (Register 6)))) ⟶ Ok (Two 0x820221B0 0x0A085300) ∷
     pair nop nop ⟶ Ok (Two 0x80400000 0x00400000) ∷
@@ -87,20 +87,20 @@ examples =
     pair nop (plain (Multiply Mul 1 2)) ⟶ Err refusal.NoWords ∷
     pair addl nop ⟶ Err refusal.NoWords ∷
     pair nop addl ⟶ Err refusal.NoWords ∷
-    Some (bundle.One addl) ⟶ Err refusal.NoWords ∷
-    Some (bundle.Long nop) ⟶ Err refusal.NoWords ∷
+    bundle.One addl ⟶ Err refusal.NoWords ∷
+    bundle.Long nop ⟶ Err refusal.NoWords ∷
     -- numbers that no field holds, a function code that ALUi has no room for, and a compare with a long constant
-    Some (single (under (p 8) (Alu (Arithmetic Sub 0 0 (Immediate 0))))) ⟶ Err refusal.NoWords ∷
-    Some (single (plain (Alu (Arithmetic Add 32 0 (Register 0))))) ⟶ Err refusal.NoWords ∷
-    Some (single (plain (Alu (Compare Cmpeq 8 0 (Register 0))))) ⟶ Err refusal.NoWords ∷
-    Some (single (plain (Alu (Predicate Por 0 (p 8) (p 0))))) ⟶ Err refusal.NoWords ∷
-    Some (single (plain (Mts special.Sl 32))) ⟶ Err refusal.NoWords ∷
-    Some (single (plain (Alu (Arithmetic Nor 0 0 (Immediate 0))))) ⟶ Err refusal.NoWords ∷
-    Some (single (plain (Alu (Compare Cmpeq 0 0 (Long 0))))) ⟶ Err refusal.NoWords ∷
-    None ⟶ Err refusal.NoWords ∷
+    single (under (p 8) (Alu (Arithmetic Sub 0 0 (Immediate 0)))) ⟶ Err refusal.NoWords ∷
+    single (plain (Alu (Arithmetic Add 32 0 (Register 0)))) ⟶ Err refusal.NoWords ∷
+    single (plain (Alu (Compare Cmpeq 8 0 (Register 0)))) ⟶ Err refusal.NoWords ∷
+    single (plain (Alu (Predicate Por 0 (p 8) (p 0)))) ⟶ Err refusal.NoWords ∷
+    single (plain (Mts special.Sl 32)) ⟶ Err refusal.NoWords ∷
+    single (plain (Alu (Arithmetic Nor 0 0 (Immediate 0)))) ⟶ Err refusal.NoWords ∷
+    single (plain (Alu (Compare Cmpeq 0 0 (Long 0)))) ⟶ Err refusal.NoWords ∷
+    bundle.Undecodable ⟶ Err refusal.NoWords ∷
     []
 
-pub examples_written : map (λ e. written_if e.bundle) examples ≡ map (λ e. e.words) examples
+pub examples_written : map (λ e. written e.bundle) examples ≡ map (λ e. e.words) examples
 unfolding written single pair slot_word guarded writing
 examples_written = refl
 

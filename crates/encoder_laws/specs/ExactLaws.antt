@@ -10,7 +10,7 @@ use Rattle.isa.specs.Formats.{long_formats, alu_formats, first_formats, applied}
 use Rattle.decoder.specs.Decode.{is_two_words, guard_of, either, slot_one, slot_two, decode}
 use Rattle.fields.specs.Place.{◌⟨◌⟩, at, placed, writing}
 use Rattle.fields.specs.Fields.{operand_number, long_fields, alu_fields, first_fields}
-use Rattle.encoder.specs.Encode.{constant_of, guarded, in_slot, slot_word, long_word, written, written_if, Written}
+use Rattle.encoder.specs.Encode.{constant_of, guarded, in_slot, slot_word, long_word, written, Written}
 use Rattle.encoder_laws.specs.FormatLaws.{in_format_lem, find}
 use Rattle.encoder_laws.specs.UnusedLaws.{blanks, unused_zero, bare, write_bare, other_bare, read_whole}
 use Rattle.encoder_laws.specs.Codes.{operand_back}
@@ -161,18 +161,18 @@ long_exact w n a b h = go (reading long_formats w) refl
         (rw (f.says n).0 v, (f.says n).1)
 
 -- The words of a bundle are bare: each that holds an instruction. (A long immediate's second word is all meaning.)
-abbrev pub Bare : ℕ → ℕ → Option Bundle → Type 0
-Bare first second None = Unit {0}
-Bare first second (Some (bundle.One i)) = bare_word first ≡ true
-Bare first second (Some (bundle.Two i j)) = (bare_word first ≡ true) × (bare_word second ≡ true)
-Bare first second (Some (bundle.Long i)) = bare_word first ≡ true
+abbrev pub Bare : ℕ → ℕ → Bundle → Type 0
+Bare first second bundle.Undecodable = Unit {0}
+Bare first second (bundle.One i) = bare_word first ≡ true
+Bare first second (bundle.Two i j) = (bare_word first ≡ true) × (bare_word second ≡ true)
+Bare first second (bundle.Long i) = bare_word first ≡ true
 
-abbrev pub BareWords : Written → Option Bundle → Type 0
+abbrev pub BareWords : Written → Bundle → Type 0
 BareWords (Ok (One w)) b = (second : ℕ) → Bare w second b
 BareWords (Ok (Two w v)) b = Bare w v b
 BareWords (Err n) b = Unit {0}
 
-pub written_bare : (b : Option Bundle) → BareWords (written_if b) b
+pub written_bare : (b : Bundle) → BareWords (written b) b
 written_bare = by_words (λ b x. BareWords x b) (λ b. tt)
     (λ i w e s. slot_bare 0 i.guard i.operation w e)
     (λ i j w v e f. (slot_bare 1 i.guard i.operation w e, slot_bare 0 j.guard (Alu j.operation) v f))
@@ -183,11 +183,11 @@ abbrev pub words_of : ℕ → ℕ → Written
 words_of first second = cond (is_two_words first) (Ok (Two first second)) (Ok (One first))
 
 -- Bare words that decode are their own fixed form.
-pub written_exactly : (first second : ℕ) → first < 2 ^ 32 → second < 2 ^ 32 → (decode first second ≡ None → ⊥)
+pub written_exactly : (first second : ℕ) → first < 2 ^ 32 → second < 2 ^ 32 → (decode first second ≡ bundle.Undecodable → ⊥)
     → Bare first second (decode first second) → fixed_form first second ≡ words_of first second
 unfolding fixed_form written
 written_exactly first second h k = by_decode
-    (λ t b. (b ≡ None → ⊥) → Bare first second b → written_if b ≡ cond t (Ok (Two first second)) (Ok (One first))) first second
+    (λ t b. (b ≡ bundle.Undecodable → ⊥) → Bare first second b → written b ≡ cond t (Ok (Two first second)) (Ok (One first))) first second
     (λ t d b. absurd (d refl))
     (λ a e d b. let v = long_exact first second a b h e in rw (v.0, v.1) refl)
     (λ o a p f g d b.
@@ -202,6 +202,6 @@ unfolding fixed_form
 exactly_bare first second e =
     go (is_two_words first) (decode first second) (subst (λ (x : Written). BareWords x (decode first second)) e (written_bare (decode first second)))
   where
-    go : (t : Bool) (b : Option Bundle) → BareWords (cond t (Ok (Two first second)) (Ok (One first))) b → Bare first second b
+    go : (t : Bool) (b : Bundle) → BareWords (cond t (Ok (Two first second)) (Ok (One first))) b → Bare first second b
     go true b h = h
     go false b h = h second

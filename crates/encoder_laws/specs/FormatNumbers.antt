@@ -1,6 +1,6 @@
 -- The eighteen formats by number: ALUl is 0, those of `alu_formats` follow from 1 on, and those of `first_formats` from 7 on. What is
 -- decoded has one of them, and each of them is decoded.
-use Rattle.std.specs.Prelude.{ℕ, zero, suc, ◌+◌, ◌<◌, ◌≤◌, cond, List, [], ◌∷◌, map, ◌≡◌, refl, ltb, length, Option, None, Some, IfSome}
+use Rattle.std.specs.Prelude.{ℕ, zero, suc, ◌+◌, ◌<◌, ◌≤◌, cond, List, [], ◌∷◌, map, ◌≡◌, refl, ltb, length, Option, None, Some}
 use Rattle.std.proofs.lemmas.Option.{none-some}
 use Rattle.std.proofs.Common.{sym, subst, arith, lt-ltb}
 use Rattle.isa.specs.Format.{Format, reading, row}
@@ -8,12 +8,12 @@ use Rattle.isa.specs.Formats.{long_formats, alu_formats, first_formats}
 use Rattle.decoder.specs.Decode.{guard_of, slot_one, slot_two, decode}
 use Rattle.fields.specs.Place.{Fields, at, placed, writing}
 use Rattle.fields.specs.Fields.{long_fields, alu_fields, first_fields}
-use Rattle.encoder.specs.Encode.{either_slot, constant_of, guarded, in_slot, slot_word, long_word, alone, written, written_if}
+use Rattle.encoder.specs.Encode.{either_slot, constant_of, guarded, in_slot, slot_word, long_word, alone, written}
 use Rattle.encoder_laws.specs.FormatLaws.{in_format_lem}
 use Rattle.encoder_laws.specs.FieldLaws.{guard_only, guard_and_length, long_sound, alu_sound, first_sound}
 use Rattle.encoder_laws.specs.SlotLaws.{by_slot, by_words}
 use Rattle.encoder_laws.specs.EncodeLaws.{IsWords, decoded_written}
-use Rattle.encoder_laws.specs.AskedLaws.{instructions_of, no_constant}
+use Rattle.encoder_laws.specs.AskedLaws.{instructions_of, not_undecodable, no_constant}
 use Rattle.isa.specs.declared.PredicateOperand.{PredicateOperand}
 use Rattle.isa.specs.declared.AluOperation.{AluOperation}
 use Rattle.isa.specs.declared.Operation.{Operation}
@@ -77,7 +77,7 @@ abbrev pub AllBelow : List Instruction → Type 0
 AllBelow [] = Unit {0}
 AllBelow (i ∷ is) = (format_of i.operation < 18) × AllBelow is
 
-written_format : (b : Option Bundle) → IsWords (written_if b) → AllBelow (instructions_of b)
+written_format : (b : Bundle) → IsWords (written b) → AllBelow (instructions_of b)
 written_format = by_words (λ b x. IsWords x → AllBelow (instructions_of b))
     (λ b h. absurd h)
     (λ i w e h. (slot_format 0 i.guard i.operation w e, tt))
@@ -87,11 +87,8 @@ written_format = by_words (λ b x. IsWords x → AllBelow (instructions_of b))
 -- So has what is decoded.
 pub decoded_format : (first second : ℕ) (i : Instruction) (is : List Instruction) → instructions_of (decode first second) ≡ i ∷ is
     → AllBelow (i ∷ is)
-decoded_format first second i is e = subst AllBelow e (go (decode first second) (decoded_written first second))
-  where
-    go : (b : Option Bundle) → IfSome b (λ c. IsWords (written c)) → AllBelow (instructions_of b)
-    go None h = tt
-    go (Some c) h = written_format (Some c) h
+decoded_format first second i is e = subst AllBelow e
+    (written_format (decode first second) (decoded_written first second (not_undecodable (decode first second) i is e)))
 
 -- A word of each format, in the order of their numbers: ALUl; ALUi, ALUr, ALUc, ALUp, ALUb, ALUci; ALUm, SPCt, SPCf, LDT, STT, STCi,
 -- STCr, CFLi, CFLri, CFLrs, CFLrt.

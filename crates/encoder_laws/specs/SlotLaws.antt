@@ -9,7 +9,7 @@ use Rattle.decoder.specs.Decode.{is_two_words, guard_of, either, slot_one, slot_
 use Rattle.decoder_laws.specs.Layout.{fixes}
 use Rattle.fields.specs.Place.{◌⟨◌⟩, placed, writing}
 use Rattle.fields.specs.Fields.{operand_number, long_fields, alu_fields, first_fields}
-use Rattle.encoder.specs.Encode.{either_slot, constant_of, guarded, in_slot, slot_word, long_word, alone, beside, written, written_if, Written}
+use Rattle.encoder.specs.Encode.{either_slot, constant_of, guarded, in_slot, slot_word, long_word, alone, beside, written, Written}
 use Rattle.encoder_laws.specs.PlaceLaws.{matches_head, matches_tail}
 use Rattle.encoder_laws.specs.FormatLaws.{fixed_bit, at_all, InFormat, in_format_lem, write_read, read_other, find, read_write}
 use Rattle.encoder_laws.specs.Codes.{operand_back, operand_forth}
@@ -171,46 +171,46 @@ long_written w n a = go (reading long_formats w) refl
 abbrev pub long_of : PredicateOperand → Operation → Bundle
 long_of g o = bundle.Long (record { guard = g; operation = o })
 
-pub by_words : (P : Option Bundle → Written → Type 0)
-    → ((b : Option Bundle) → P b (Err refusal.NoWords))
-    → ((i : Instruction) (w : ℕ) → slot_word 0 i.guard i.operation ≡ Some w → P (Some (bundle.One i)) (Ok (One w)))
+pub by_words : (P : Bundle → Written → Type 0)
+    → ((b : Bundle) → P b (Err refusal.NoWords))
+    → ((i : Instruction) (w : ℕ) → slot_word 0 i.guard i.operation ≡ Some w → P (bundle.One i) (Ok (One w)))
     → ((i : Instruction) (j : AluInstruction) (w v : ℕ) → slot_word 1 i.guard i.operation ≡ Some w
-    → slot_word 0 j.guard (Alu j.operation) ≡ Some v → P (Some (bundle.Two i j)) (Ok (Two w v)))
+    → slot_word 0 j.guard (Alu j.operation) ≡ Some v → P (bundle.Two i j) (Ok (Two w v)))
     → ((g : PredicateOperand) (a : AluOperation) (w n : ℕ) → long_word g (Some a) ≡ Some w → constant_of (Some a) ≡ Some n
-    → P (Some (long_of g (Alu a))) (Ok (Two w n)))
-    → (b : Option Bundle) → P b (written_if b)
+    → P (long_of g (Alu a)) (Ok (Two w n)))
+    → (b : Bundle) → P b (written b)
 unfolding written
-by_words P r one two long None = r None
-by_words P r one two long (Some (bundle.One i)) = go (slot_word 0 i.guard i.operation) refl
+by_words P r one two long bundle.Undecodable = r bundle.Undecodable
+by_words P r one two long (bundle.One i) = go (slot_word 0 i.guard i.operation) refl
   where
-    go : (x : Option ℕ) → slot_word 0 i.guard i.operation ≡ x → P (Some (bundle.One i)) (alone x)
-    go None e = r (Some (bundle.One i))
+    go : (x : Option ℕ) → slot_word 0 i.guard i.operation ≡ x → P (bundle.One i) (alone x)
+    go None e = r (bundle.One i)
     go (Some w) e = one i w e
-by_words P r one two long (Some (bundle.Two i j)) = go (slot_word 1 i.guard i.operation) (slot_word 0 j.guard (Alu j.operation)) refl refl
+by_words P r one two long (bundle.Two i j) = go (slot_word 1 i.guard i.operation) (slot_word 0 j.guard (Alu j.operation)) refl refl
   where
     go : (x y : Option ℕ) → slot_word 1 i.guard i.operation ≡ x → slot_word 0 j.guard (Alu j.operation) ≡ y
-        → P (Some (bundle.Two i j)) (beside x y)
-    go None y e f = r (Some (bundle.Two i j))
-    go (Some w) None e f = r (Some (bundle.Two i j))
+        → P (bundle.Two i j) (beside x y)
+    go None y e f = r (bundle.Two i j)
+    go (Some w) None e f = r (bundle.Two i j)
     go (Some w) (Some v) e f = two i j w v e f
-by_words P r one two long (Some (bundle.Long i)) =
+by_words P r one two long (bundle.Long i) =
     let g = i.guard in
-    by_slot (λ o x. P (Some (long_of g o)) (beside (long_word g x) (constant_of x)))
-    (λ a. go g a (long_word g (Some a)) (constant_of (Some a)) refl refl) (λ o. r (Some (long_of g o))) i.operation
+    by_slot (λ o x. P (long_of g o) (beside (long_word g x) (constant_of x)))
+    (λ a. go g a (long_word g (Some a)) (constant_of (Some a)) refl refl) (λ o. r (long_of g o)) i.operation
   where
     go : (g : PredicateOperand) (a : AluOperation) (x y : Option ℕ) → long_word g (Some a) ≡ x → constant_of (Some a) ≡ y
-        → P (Some (long_of g (Alu a))) (beside x y)
-    go g a None y e f = r (Some (long_of g (Alu a)))
-    go g a (Some w) None e f = r (Some (long_of g (Alu a)))
+        → P (long_of g (Alu a)) (beside x y)
+    go g a None y e f = r (long_of g (Alu a))
+    go g a (Some w) None e f = r (long_of g (Alu a))
     go g a (Some w) (Some n) e f = long g a w n e f
 
 -- What holds of undecodable words, and of each kind of bundle by what its words say, holds of what is decoded.
-pub by_decode : (P : Bool → Option Bundle → Type 0) (first second : ℕ)
-    → ((t : Bool) → P t None)
-    → ((a : AluOperation) → applied (reading long_formats first) second ≡ Some a → P true (Some (long_of (guard_of first) (Alu a))))
+pub by_decode : (P : Bool → Bundle → Type 0) (first second : ℕ)
+    → ((t : Bool) → P t bundle.Undecodable)
+    → ((a : AluOperation) → applied (reading long_formats first) second ≡ Some a → P true (long_of (guard_of first) (Alu a)))
     → ((o : Operation) (a : AluOperation) → is_two_words first ≡ true → slot_one first ≡ Some o → slot_two second ≡ Some a
-    → P true (Some (bundle.Two (record { guard = guard_of first; operation = o }) (record { guard = guard_of second; operation = a }))))
-    → ((o : Operation) → is_two_words first ≡ false → slot_one first ≡ Some o → P false (Some (bundle.One (record { guard = guard_of first; operation = o }))))
+    → P true (bundle.Two (record { guard = guard_of first; operation = o }) (record { guard = guard_of second; operation = a })))
+    → ((o : Operation) → is_two_words first ≡ false → slot_one first ≡ Some o → P false (bundle.One (record { guard = guard_of first; operation = o })))
     → P (is_two_words first) (decode first second)
 unfolding decode
 by_decode P first second nothing long-immediate pair alone =

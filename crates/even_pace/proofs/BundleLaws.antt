@@ -1,13 +1,13 @@
 -- The bundle at the fetch address in both runs: unless a load or store under a private guard is refused, it is answered and counted alike and leaves
 -- what agrees.
-use Rattle.std.specs.Prelude.{ℕ, ◌≤◌, Bool, true, false, ◌≡◌, refl, length, get_or, Option, is_none, Ok, Err}
+use Rattle.std.specs.Prelude.{ℕ, ◌≤◌, Bool, true, false, ◌≡◌, refl, length, get_or, Ok, Err}
 use Rattle.std.proofs.lemmas.Bool.{false≢true}
 use Rattle.std.proofs.Common.{sym, ap, subst, ◌∙◌}
 use Rattle.answers.specs.Refusal.{number}
 use Rattle.isa.specs.declared.Bundle.{Bundle}
 use Rattle.settings.specs.declared.Settings.{Settings}
 use Rattle.answers.specs.Answer.{Returned, done, refused}
-use Rattle.effects.specs.Effect.{slot_one_if, slot_two_if}
+use Rattle.effects.specs.Effect.{slot_one, slot_two}
 use Rattle.core_state.specs.State.{State, start_of}
 use Rattle.answers.specs.TestLaws.{fine_both}
 use Rattle.effects.specs.declared.Effect.{Effect}
@@ -18,8 +18,8 @@ use Rattle.step_laws.proofs.StackKept.{Passed}
 use Rattle.bundle_model.specs.Bundle.{state_done, counts_of, buffers_after, Outcome, outcome, refused_or, bundle}
 use Rattle.marking.specs.declared.Marking.{Marking}
 use Rattle.marking_rules.specs.declared.Rule.{Rule}
-use Rattle.marking_rules.specs.Rules.{breaks_if}
-use Rattle.marking_rules.specs.RuleLaws.{keeps_each_if}
+use Rattle.marking_rules.specs.Rules.{breaks}
+use Rattle.marking_rules.specs.RuleLaws.{keeps_each}
 use Rattle.single_path.specs.CheckLaws.{Fine}
 use Rattle.even_pace.specs.Terms.{Agree, has_private_access}
 use Rattle.even_pace.proofs.Alike.{AlikeEffect, same_effect, quiet_effects}
@@ -27,7 +27,7 @@ use Rattle.even_pace.proofs.DoneLaws.{slot_both, lookups_quiet, counts_alike, do
 use Rattle.even_pace.proofs.SlotLaws.{SlotCase, public_slot, private_slot, bundle_one, bundle_two}
 use Rattle.settings.specs.Setup.{Buffers, Setup}
 use Rattle.answers.specs.Test.{Verdict, verdict as verdict_of}
-use Rattle.fetch.specs.Fetch.{bundle_at, following_at}
+use Rattle.fetch.specs.Fetch.{is_undecodable, bundle_at, following_at}
 
 -- Outcomes that agree.
 pub record SameOutcome (m : Marking) (x : Setup) (o₁ o₂ : Outcome) : Type 0 where
@@ -36,13 +36,13 @@ pub record SameOutcome (m : Marking) (x : Setup) (o₁ o₂ : Outcome) : Type 0 
   pub contents : Agree m x o₁.state o₁.buffers o₂.state o₂.buffers
 
 -- A bundle that can be read, by what it holds and the address after it.
-abbrev pub done_of : Settings → Setup → Option Bundle → ℕ → State → Buffers → Outcome
+abbrev pub done_of : Settings → Setup → Bundle → ℕ → State → Buffers → Outcome
 done_of g x i following s b =
-    outcome done (state_done g x b s (slot_one_if (start_of x.table s) i) (slot_two_if (start_of x.table s) i) following)
-    (counts_of g x s (slot_one_if (start_of x.table s) i)) (buffers_after g x s (slot_one_if (start_of x.table s) i) b)
+    outcome done (state_done g x b s (slot_one (start_of x.table s) i) (slot_two (start_of x.table s) i) following)
+    (counts_of g x s (slot_one (start_of x.table s) i)) (buffers_after g x s (slot_one (start_of x.table s) i) b)
 
-abbrev pub outcome_of : Settings → Setup → Option Bundle → ℕ → State → Buffers → Outcome
-outcome_of g x i following s b = refused_or (verdict_of (slot_tests g x s (slot_one_if (start_of x.table s) i))) s b (done_of g x i following s b)
+abbrev pub outcome_of : Settings → Setup → Bundle → ℕ → State → Buffers → Outcome
+outcome_of g x i following s b = refused_or (verdict_of (slot_tests g x s (slot_one (start_of x.table s) i))) s b (done_of g x i following s b)
 
 pub bundle_outcome : {m : Marking} (g : Settings) (x : Setup) (s : State) (b : Buffers) → Fine m x.code s.fetch
     → bundle g x s b ≡ outcome_of g x (bundle_at x.code s.fetch) (following_at x.code s.fetch) s b
@@ -69,13 +69,13 @@ pub record Grounded (s : State) : Type 0 where
 
 module _ {m : Marking} (g : Settings) (x : Setup) (ordered : x.lo ≤ x.hi) {s₁ s₂ : State} {b₁ b₂ : Buffers}
     (a : Agree m x s₁ b₁ s₂ b₂) (inside : x.hi ≤ length b₁.main) (w₁ : Grounded s₁) (w₂ : Grounded s₂) where
-  module _ (i : Option Bundle) (following : ℕ) (readable : is_none i ≡ false) (kept : (r : Rule) → breaks_if m i r ≡ false) where
+  module _ (i : Bundle) (following : ℕ) (readable : is_undecodable i ≡ false) (kept : (r : Rule) → breaks m i r ≡ false) where
     -- No load or store of it under a private guard is refused.
     NoStop : State → Buffers → Verdict → Type 0
     NoStop s b v = has_private_access m i ≡ true → (n : ℕ) → (refused_or v s b (done_of g x i following s b)).answer ≡ refused n → ⊥
 
-    done_both : AlikeEffect m (slot_one_if (start_of x.table s₁) i) (slot_one_if (start_of x.table s₂) i) → verdict_of (slot_tests g x s₁ (slot_one_if (start_of x.table s₁) i)) ≡ Ok tt
-        → verdict_of (slot_tests g x s₂ (slot_one_if (start_of x.table s₂) i)) ≡ Ok tt
+    done_both : AlikeEffect m (slot_one (start_of x.table s₁) i) (slot_one (start_of x.table s₂) i) → verdict_of (slot_tests g x s₁ (slot_one (start_of x.table s₁) i)) ≡ Ok tt
+        → verdict_of (slot_tests g x s₂ (slot_one (start_of x.table s₂) i)) ≡ Ok tt
         → SameOutcome m x (done_of g x i following s₁ b₁) (done_of g x i following s₂ b₂)
     done_both h p q =
         record {
@@ -85,22 +85,22 @@ module _ {m : Marking} (g : Settings) (x : Setup) (ordered : x.lo ≤ x.hi) {s�
               (slot_passed g x s₁ _ p) (slot_passed g x s₂ _ q) w₁.eight w₂.eight w₁.first w₂.first;
         }
 
-    outcome_alike : NoStop s₁ b₁ (verdict_of (slot_tests g x s₁ (slot_one_if (start_of x.table s₁) i)))
-        → NoStop s₂ b₂ (verdict_of (slot_tests g x s₂ (slot_one_if (start_of x.table s₂) i)))
+    outcome_alike : NoStop s₁ b₁ (verdict_of (slot_tests g x s₁ (slot_one (start_of x.table s₁) i)))
+        → NoStop s₂ b₂ (verdict_of (slot_tests g x s₂ (slot_one (start_of x.table s₂) i)))
         → SameOutcome m x (outcome_of g x i following s₁ b₁) (outcome_of g x i following s₂ b₂)
     unfolding NoStop
     outcome_alike n₁ n₂ = go (bundle_one g x a.state w₁.eight i readable kept)
       where
         v₁ : Verdict
-        v₁ = verdict_of (slot_tests g x s₁ (slot_one_if (start_of x.table s₁) i))
+        v₁ = verdict_of (slot_tests g x s₁ (slot_one (start_of x.table s₁) i))
 
         v₂ : Verdict
-        v₂ = verdict_of (slot_tests g x s₂ (slot_one_if (start_of x.table s₂) i))
+        v₂ = verdict_of (slot_tests g x s₂ (slot_one (start_of x.table s₂) i))
 
         out : Verdict → Verdict → Type 0
         out z y = SameOutcome m x (refused_or z s₁ b₁ (done_of g x i following s₁ b₁)) (refused_or y s₂ b₂ (done_of g x i following s₂ b₂))
 
-        judged : AlikeEffect m (slot_one_if (start_of x.table s₁) i) (slot_one_if (start_of x.table s₂) i) → (z y : Verdict) → v₁ ≡ z → v₂ ≡ y → z ≡ y → out z y
+        judged : AlikeEffect m (slot_one (start_of x.table s₁) i) (slot_one (start_of x.table s₂) i) → (z y : Verdict) → v₁ ≡ z → v₂ ≡ y → z ≡ y → out z y
         judged h (Ok u) (Ok u') p q e = done_both h p q
         judged h (Ok u) (Err n) p q e = absurd (false≢true (sym (ap is_fine e)))
         judged h (Err n) (Ok u) p q e = absurd (false≢true (ap is_fine e))
@@ -112,7 +112,7 @@ module _ {m : Marking} (g : Settings) (x : Setup) (ordered : x.lo ≤ x.hi) {s�
         passes s b (Ok u) true e f h = refl
         passes s b (Err r) true e f h = absurd (h e (number r) refl)
 
-        go : SlotCase m g x s₁ s₂ (has_private_access m i) (slot_one_if (start_of x.table s₁) i) (slot_one_if (start_of x.table s₂) i) → out v₁ v₂
+        go : SlotCase m g x s₁ s₂ (has_private_access m i) (slot_one (start_of x.table s₁) i) (slot_one (start_of x.table s₂) i) → out v₁ v₂
         go (public_slot h) = judged (same_effect h) v₁ v₂ refl refl (slot_both x g a.state h)
         go (private_slot h k f₁ f₂) =
             let p = passes s₁ b₁ v₁ (has_private_access m i) refl (λ z. ap verdict_of (slot_plain g x s₁ _ (lookups_quiet x h)) ∙ f₁ z) n₁ in
@@ -127,10 +127,10 @@ module _ {m : Marking} (g : Settings) (x : Setup) (ordered : x.lo ≤ x.hi) {s�
   unfolding NoStop
   bundle_alike f n₁ n₂ =
       rw (p₁, p₂)
-      (outcome_alike i following f.decodable (keeps_each_if m i f.keeping) (λ h n e. n₁ h n (ap answer_of p₁ ∙ e))
+      (outcome_alike i following f.decodable (keeps_each m i f.keeping) (λ h n e. n₁ h n (ap answer_of p₁ ∙ e))
       (λ h n e. n₂ (ap (λ (z : ℕ). has_private_access m (bundle_at x.code z)) (sym a.state.fetch) ∙ h) n (ap answer_of p₂ ∙ e)))
     where
-      i : Option Bundle
+      i : Bundle
       i = bundle_at x.code s₁.fetch
 
       following : ℕ

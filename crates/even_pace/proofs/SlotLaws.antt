@@ -1,5 +1,5 @@
 -- The slots of a bundle that keeps the rules, in two states that agree.
-use Rattle.std.specs.Prelude.{Bool, cond, ◌&&◌, ◌≡◌, length, Option, None, Some, is_none, Ok, Err}
+use Rattle.std.specs.Prelude.{Bool, cond, ◌&&◌, ◌≡◌, length, Ok, Err}
 use Rattle.std.proofs.Math.Bool.{true, false}
 use Rattle.std.proofs.lemmas.Bool.{false≢true}
 use Rattle.std.proofs.Math.Path.{refl}
@@ -9,25 +9,26 @@ use Rattle.isa.specs.declared.Operation.TheVariants.{Alu, Multiply, Mts, Mfs, Lo
 use Rattle.isa.specs.declared.Instruction.{Instruction}
 use Rattle.isa.specs.declared.AluInstruction.{AluInstruction}
 use Rattle.isa.specs.declared.Bundle.{Bundle}
-use Rattle.isa.specs.declared.Bundle.TheVariants.{One, Two, Long}
+use Rattle.isa.specs.declared.Bundle.TheVariants.{Undecodable, One, Two, Long}
 use Rattle.word.specs.BoolLaws.{or_left, or_right}
 use Rattle.settings.specs.declared.Settings.{Settings}
 use Rattle.alu_effects.specs.declared.AluEffect.TheVariants as alu
 use Rattle.effects.specs.declared.Effect.{Effect}
 use Rattle.effects.specs.declared.Effect.TheVariants as effect
 use Rattle.alu_effects.specs.AluEffects.{holds, alu_effect, slot_two_effect}
-use Rattle.effects.specs.Effect.{effect_of, slot_one_effect, slot_one_if, slot_two_if}
+use Rattle.effects.specs.Effect.{effect_of, slot_one_effect, slot_one, slot_two}
 use Rattle.core_state.specs.State.{State, start_of}
 use Rattle.bundle_model.specs.Refusal.{effect_tests}
 use Rattle.marking.specs.declared.Marking.{Marking}
 use Rattle.marking_rules.specs.declared.Rule.{Rule}
 use Rattle.marking_rules.specs.declared.Rule.TheVariants as rule
 use Rattle.marking.specs.Marking.{private_guard}
-use Rattle.marking_rules.specs.Rules.{asked, breaks_a, breaks_b, operation_breaks, instruction_breaks, breaks, breaks_if}
+use Rattle.marking_rules.specs.Rules.{asked, breaks_a, breaks_b, operation_breaks, instruction_breaks, breaks}
 use Rattle.even_pace.specs.Terms.{SameState, private_access, has_private_access}
 use Rattle.even_pace.proofs.Alike.{SameEffect, of_alu, no_write, QuietAlu, quiet_none, QuietEffect, quiet_alu, AlikeAlu, same_alu, both_quiet}
 use Rattle.even_pace.proofs.RuleLaws.{Keeps, stack_guarded, transfer_guarded, alu_quiet, operation_quiet, holds_same, alu_same, operation_same}
 use Rattle.answers.specs.Test.{verdict as verdict_of}
+use Rattle.fetch.specs.Fetch.{is_undecodable}
 use Rattle.settings.specs.Setup.{Setup}
 
 -- Slot one in both runs: the same effect; or effects that do not show, which only a load or store can have refused.
@@ -121,17 +122,17 @@ module _ {m : Marking} (g : Settings) (x : Setup) {s₁ s₂ : State} (a : SameS
       go false p k = same (holds s₁.predicates j.guard) (holds s₂.predicates j.guard) (holds_same x.table a eight j.guard p) k
       go true p k = both_quiet (quiet s₁ (holds s₁.predicates j.guard) k) (quiet s₂ (holds s₂.predicates j.guard) k)
 
-  pub bundle_one : (i : Option Bundle) → is_none i ≡ false → ((r : Rule) → breaks_if m i r ≡ false)
-      → SlotCase m g x s₁ s₂ (has_private_access m i) (slot_one_if (start_of x.table s₁) i) (slot_one_if (start_of x.table s₂) i)
+  pub bundle_one : (i : Bundle) → is_undecodable i ≡ false → ((r : Rule) → breaks m i r ≡ false)
+      → SlotCase m g x s₁ s₂ (has_private_access m i) (slot_one (start_of x.table s₁) i) (slot_one (start_of x.table s₂) i)
   unfolding breaks has_private_access
-  bundle_one None d h = absurd (false≢true (sym d))
-  bundle_one (Some (One i)) d h = slot_one_lem i h
-  bundle_one (Some (Two i j)) d h = slot_one_lem i (λ r. or_left (instruction_breaks m i r) _ (h r))
-  bundle_one (Some (Long i)) d h = slot_one_lem i h
+  bundle_one Undecodable d h = absurd (false≢true (sym d))
+  bundle_one (One i) d h = slot_one_lem i h
+  bundle_one (Two i j) d h = slot_one_lem i (λ r. or_left (instruction_breaks m i r) _ (h r))
+  bundle_one (Long i) d h = slot_one_lem i h
 
-  pub bundle_two : (i : Option Bundle) → ((r : Rule) → breaks_if m i r ≡ false) → AlikeAlu m (slot_two_if (start_of x.table s₁) i) (slot_two_if (start_of x.table s₂) i)
+  pub bundle_two : (i : Bundle) → ((r : Rule) → breaks m i r ≡ false) → AlikeAlu m (slot_two (start_of x.table s₁) i) (slot_two (start_of x.table s₂) i)
   unfolding breaks
-  bundle_two None h = same_alu no_write
-  bundle_two (Some (One i)) h = same_alu no_write
-  bundle_two (Some (Two i j)) h = slot_two_lem j (or_right (instruction_breaks m i rule.B) _ (h rule.B))
-  bundle_two (Some (Long i)) h = same_alu no_write
+  bundle_two Undecodable h = same_alu no_write
+  bundle_two (One i) h = same_alu no_write
+  bundle_two (Two i j) h = slot_two_lem j (or_right (instruction_breaks m i rule.B) _ (h rule.B))
+  bundle_two (Long i) h = same_alu no_write

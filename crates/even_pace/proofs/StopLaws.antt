@@ -1,5 +1,5 @@
 -- A bundle with a load or store under a private guard, at a walked address of accepted code, is refused for its access alone.
-use Rattle.std.specs.Prelude.{ℕ, ◌%◌, ◌^◌, Bool, not, cond, ◌≡◌, refl, eqb, get_or, Option, None, Some, Ok, Err}
+use Rattle.std.specs.Prelude.{ℕ, ◌%◌, ◌^◌, Bool, not, cond, ◌≡◌, refl, eqb, get_or, Ok, Err}
 use Rattle.std.proofs.Math.Bool.{true, false}
 use Rattle.std.proofs.lemmas.Bool.{false≢true}
 use Rattle.std.proofs.Common.{sym, ap, subst, ◌∙◌}
@@ -10,7 +10,7 @@ use Rattle.isa.specs.declared.Operation.{Operation}
 use Rattle.isa.specs.declared.Operation.TheVariants.{Alu, Multiply, Mts, Mfs, Load, Store, StackControl, Transfer, Trap, Xret}
 use Rattle.isa.specs.declared.Instruction.{Instruction}
 use Rattle.isa.specs.declared.Bundle.{Bundle}
-use Rattle.isa.specs.declared.Bundle.TheVariants.{One, Two, Long}
+use Rattle.isa.specs.declared.Bundle.TheVariants.{Undecodable, One, Two, Long}
 use Rattle.word.specs.BoolLaws.{and_right}
 use Rattle.settings.specs.declared.Settings.{Settings}
 use Rattle.answers.specs.declared.Refusal.TheVariants as refusal
@@ -19,7 +19,7 @@ use Rattle.memory.specs.Access.{load_scale, store_scale, bad_access, main_readab
 use Rattle.alu_effects.specs.declared.AluEffect.TheVariants as alu
 use Rattle.effects.specs.declared.Effect.TheVariants as effect
 use Rattle.alu_effects.specs.AluEffects.{holds}
-use Rattle.effects.specs.Effect.{address, effect_of, slot_one_effect, slot_one_if}
+use Rattle.effects.specs.Effect.{address, effect_of, slot_one_effect, slot_one}
 use Rattle.core_state.specs.State.{State, start_of}
 use Rattle.bundle_model.specs.Lookup.{lookup_tests}
 use Rattle.bundle_model.specs.Refusal.{slot_tests}
@@ -85,13 +85,13 @@ module _ (g : Settings) (x : Setup) (s : State) (r : Refusal) where
       go true e = access_number m i.operation (and_right (private_guard m i.guard) _ h) e
       go false e = absurd (false≢true (ap is_refusal e))
 
-  bundle_number : (m : Marking) (i : Option Bundle) → has_private_access m i ≡ true → verdict_of (slot_tests g x s (slot_one_if (start_of x.table s) i)) ≡ Err r
+  bundle_number : (m : Marking) (i : Bundle) → has_private_access m i ≡ true → verdict_of (slot_tests g x s (slot_one (start_of x.table s) i)) ≡ Err r
       → of_access (number r) ≡ true
   unfolding has_private_access
-  bundle_number m None h e = absurd (false≢true h)
-  bundle_number m (Some (One i)) h e = slot_number m i h e
-  bundle_number m (Some (Two i j)) h e = slot_number m i h e
-  bundle_number m (Some (Long i)) h e = slot_number m i h e
+  bundle_number m Undecodable h e = absurd (false≢true h)
+  bundle_number m (One i) h e = slot_number m i h e
+  bundle_number m (Two i j) h e = slot_number m i h e
+  bundle_number m (Long i) h e = slot_number m i h e
 
 abbrev pub answer_number : Returned → ℕ
 answer_number accepted = 0
@@ -112,12 +112,12 @@ pub refused_for_access : {m : Marking} (g : Settings) (x : Setup) (s : State) (b
     → has_private_access m (bundle_at x.code s.fetch) ≡ true
     → (bundle g x s b).answer ≡ refused n → of_access n ≡ true
 refused_for_access {m} g x s b n f h e =
-    go (verdict_of (slot_tests g x s (slot_one_if (start_of x.table s) i))) refl (sym (ap (λ (o : Outcome). o.answer) (bundle_outcome g x s b f)) ∙ e)
+    go (verdict_of (slot_tests g x s (slot_one (start_of x.table s) i))) refl (sym (ap (λ (o : Outcome). o.answer) (bundle_outcome g x s b f)) ∙ e)
   where
-    i : Option Bundle
+    i : Bundle
     i = bundle_at x.code s.fetch
 
-    go : (v : Verdict) → verdict_of (slot_tests g x s (slot_one_if (start_of x.table s) i)) ≡ v
+    go : (v : Verdict) → verdict_of (slot_tests g x s (slot_one (start_of x.table s) i)) ≡ v
         → (refused_or v s b (done_of g x i (following_at x.code s.fetch) s b)).answer ≡ refused n → of_access n ≡ true
     go (Ok u) p q = absurd (false≢true (ap is_refused q))
     go (Err r) p q = subst (λ (k : ℕ). of_access k ≡ true) (ap answer_number q) (bundle_number g x s r m i h p)

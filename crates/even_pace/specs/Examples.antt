@@ -33,7 +33,7 @@ use Rattle.run_model.specs.Run.{run, Tried, tries}
 use Rattle.marking.specs.declared.Marking.{Marking}
 use Rattle.marking_rules.specs.declared.Rule.TheVariants.{A, B, C, D, E}
 use Rattle.marking.specs.Marking.{private_store, some as some_of, marking_ok}
-use Rattle.marking_rules.specs.Rules.{asked, breaks_a, breaks_b, breaks_c, breaks_d, breaks_e, operation_breaks, breaks, keeps, breaks_if}
+use Rattle.marking_rules.specs.Rules.{asked, breaks_a, breaks_b, breaks_c, breaks_d, breaks_e, operation_breaks, breaks, keeps}
 use Rattle.single_path.specs.Check.{CheckAnswer, walk_from, checked}
 use Rattle.even_pace.specs.Terms.{Agree, has_private_access}
 use Rattle.even_pace.specs.StateLaws.{state_refl, with_registers_lem, with_predicates_lem}
@@ -97,7 +97,7 @@ check code = check_under marking code
 
 unfoldable pub broken : List ℕ → List Bool
 unfolding number_at bundle_words decode guard_of decoder.slot_one slot_two reading row signed breaks operation_breaks asked breaks_a breaks_b breaks_c breaks_d breaks_e private_store some_of
-broken code = map (breaks_if marking (bundle_at code 0)) (A ∷ B ∷ C ∷ D ∷ E ∷ [])
+broken code = map (breaks marking (bundle_at code 0)) (A ∷ B ∷ C ∷ D ∷ E ∷ [])
 
 unfoldable pub has_access : List ℕ → ℕ → Bool
 unfolding has_private_access asked number_at bundle_words decode guard_of decoder.slot_one slot_two reading row signed

@@ -1,10 +1,10 @@
 -- The terms of even pace: public contents, stopping events, and what is claimed of two lists of tried bundles.
-use Rattle.std.specs.Prelude.{ℕ, ◌<◌, Bool, true, false, cond, ◌&&◌, List, [], ◌∷◌, ◌⊎◌, ◌↔◌, ◌≡◌, length, get_or, Option, None, Some}
+use Rattle.std.specs.Prelude.{ℕ, ◌<◌, Bool, true, false, cond, ◌&&◌, List, [], ◌∷◌, ◌⊎◌, ◌↔◌, ◌≡◌, length, get_or}
 use Rattle.std.proofs.Math.Option.{some}
 use Rattle.std.proofs.Math.ListN.{get_elem?}
 use Rattle.isa.specs.declared.Instruction.{Instruction}
 use Rattle.isa.specs.declared.Bundle.{Bundle}
-use Rattle.isa.specs.declared.Bundle.TheVariants.{One, Two, Long}
+use Rattle.isa.specs.declared.Bundle.TheVariants.{Undecodable, One, Two, Long}
 use Rattle.answers.specs.Answer.{Returned, refused}
 use Rattle.alu_effects.specs.declared.Specials.{Specials}
 use Rattle.products.specs.declared.Product.{Product}
@@ -110,11 +110,11 @@ pub record Agree (m : Marking) (x : Setup) (s₁ : State) (b₁ : Buffers) (s₂
 abbrev pub private_access : Marking → Instruction → Bool
 private_access m i = private_guard m i.guard && (asked m i.operation).access
 
-unfoldable pub has_private_access : Marking → Option Bundle → Bool
-has_private_access m None = false
-has_private_access m (Some (One i)) = private_access m i
-has_private_access m (Some (Two i j)) = private_access m i
-has_private_access m (Some (Long i)) = private_access m i
+unfoldable pub has_private_access : Marking → Bundle → Bool
+has_private_access m Undecodable = false
+has_private_access m (One i) = private_access m i
+has_private_access m (Two i j) = private_access m i
+has_private_access m (Long i) = private_access m i
 
 -- The numbers with which a load or store is refused, in the order in which they are judged.
 abbrev pub access_numbers : List ℕ

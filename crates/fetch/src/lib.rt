@@ -3,7 +3,7 @@
 
 ghost use Rattle.std.specs.Prelude.{◌≡◌, ◌<◌};
 ghost use Rattle.decoder.specs.Decode.{bundle_words};
-ghost use Rattle.fetch.specs.Fetch.{fetched};
+ghost use Rattle.fetch.specs.Fetch.{is_undecodable, fetched};
 
 use answers::Refusal;
 use big_endian::read_word;
@@ -27,6 +27,17 @@ fn words_of(first: u32) -> usize
     2
 }
 
+fn is_undecodable(b: Bundle) -> bool
+    ensures { result ≡ is_undecodable b }
+{
+    match b {
+        Bundle::Undecodable => true,
+        Bundle::One(_) => false,
+        Bundle::Two(_, _) => false,
+        Bundle::Long(_) => false,
+    }
+}
+
 // The bundle at an address, where it lies in the code and decodes, and the address that follows it.
 pub fn fetch(code: &[u8], address: u32) -> Result<Fetched, Refusal>
     ensures { result ≡ fetched code.now address }
@@ -39,8 +50,9 @@ pub fn fetch(code: &[u8], address: u32) -> Result<Fetched, Refusal>
     if code.len() < following {
         return Err(Refusal::OutsideCode);
     }
-    let Some(bundle) = decode(first, read_word(code, add(address, 4))) else {
+    let bundle = decode(first, read_word(code, add(address, 4)));
+    if is_undecodable(bundle) {
         return Err(Refusal::Undecodable);
-    };
+    }
     Ok(Fetched { bundle, following })
 }

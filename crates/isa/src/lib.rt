@@ -217,9 +217,11 @@ pub struct AluInstruction {
     pub operation: AluOperation,
 }
 
-// What a first and a second word encode together, where they encode anything.
+// What a first and a second word encode together. No Option of the others: what writes, judges and does a bundle answers for one that cannot be
+// decoded too, and theorems speak of that answer (`refused_iff` and the examples of encoder_laws).
 #[derive(Clone, Copy)]
 pub enum Bundle {
+    Undecodable,
     One(Instruction),
     Two(Instruction, AluInstruction),
     Long(Instruction),

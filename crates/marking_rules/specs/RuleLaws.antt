@@ -1,5 +1,5 @@
 -- Laws of the rules: what the rows of the table have in common, and that a bundle keeps the rules if it breaks none.
-use Rattle.std.specs.Prelude.{Bool, true, false, ◌||◌, ◌≡◌, refl, Option, None, Some}
+use Rattle.std.specs.Prelude.{Bool, true, false, ◌||◌, ◌≡◌, refl}
 use Rattle.std.proofs.lemmas.Bool.{false≢true, not-true, not-false}
 use Rattle.std.proofs.Common.{sym}
 use Rattle.isa.specs.declared.AluOperation.{AluOperation}
@@ -13,7 +13,7 @@ use Rattle.isa.specs.declared.Bundle.{Bundle}
 use Rattle.marking.specs.declared.Marking.{Marking}
 use Rattle.marking_rules.specs.declared.Rule.{Rule}
 use Rattle.marking_rules.specs.declared.Rule.TheVariants.{A, B, C, D, E}
-use Rattle.marking_rules.specs.Rules.{of_result, controlling, asked, breaks, keeps, breaks_if, keeps_if}
+use Rattle.marking_rules.specs.Rules.{of_result, controlling, asked, breaks, keeps}
 
 -- Of an ALU operation only B asks, and of stack control and of a transfer only A and E.
 pub alu_row_lem : (m : Marking) (o : AluOperation) → asked m (Alu o) ≡ of_result (asked m (Alu o)).destination (asked m (Alu o)).source
@@ -58,10 +58,6 @@ keeps_each m b e = go (breaks m b A) (breaks m b B) (breaks m b C) (breaks m b D
     go false false true u v i j k l n f r = absurd (false≢true (sym f))
     go false false false true v i j k l n f r = absurd (false≢true (sym f))
     go false false false false true i j k l n f r = absurd (false≢true (sym f))
-
-pub keeps_each_if : (m : Marking) (o : Option Bundle) → keeps_if m o ≡ true → (r : Rule) → breaks_if m o r ≡ false
-keeps_each_if m None e r = refl
-keeps_each_if m (Some b) e r = keeps_each m b e r
 
 pub breaks_some : (m : Marking) (b : Bundle) → keeps m b ≡ false → (r : Rule) × (breaks m b r ≡ true)
 unfolding keeps

@@ -1,5 +1,5 @@
 -- The marking rules A to E, judged on the instruction alone: no value is looked at.
-use Rattle.std.specs.Prelude.{Bool, true, false, not, ◌&&◌, ◌||◌, Option, None, Some}
+use Rattle.std.specs.Prelude.{Bool, true, false, not, ◌&&◌, ◌||◌}
 use Rattle.isa.specs.declared.Op2.{Op2}
 use Rattle.isa.specs.declared.Op2.TheVariants as op2
 use Rattle.isa.specs.declared.AluOperation.TheVariants.{Arithmetic, Compare, Predicate, BitCopy}
@@ -11,7 +11,7 @@ use Rattle.isa.specs.declared.Operation.{Operation}
 use Rattle.isa.specs.declared.Operation.TheVariants.{Alu, Multiply, Mts, Mfs, Load, Store, StackControl, Transfer, Trap, Xret}
 use Rattle.isa.specs.declared.Instruction.{Instruction}
 use Rattle.isa.specs.declared.Bundle.{Bundle}
-use Rattle.isa.specs.declared.Bundle.TheVariants.{One, Two, Long}
+use Rattle.isa.specs.declared.Bundle.TheVariants.{Undecodable, One, Two, Long}
 use Rattle.marking.specs.declared.Marking.{Marking}
 use Rattle.marking_rules.specs.declared.Rule.{Rule}
 use Rattle.marking_rules.specs.declared.Rule.TheVariants.{A, B, C, D, E}
@@ -103,18 +103,10 @@ instruction_breaks m i = operation_breaks m (private_guard m i.guard) i.operatio
 
 -- A bundle breaks a rule if one of its slots does, and keeps the rules if it breaks none.
 unfoldable pub breaks : Marking → Bundle → Rule → Bool
+breaks m Undecodable r = false
 breaks m (One i) r = instruction_breaks m i r
 breaks m (Two i j) r = instruction_breaks m i r || operation_breaks m (private_guard m j.guard) (Alu j.operation) r
 breaks m (Long i) r = instruction_breaks m i r
 
 unfoldable pub keeps : Marking → Bundle → Bool
 keeps m b = not (breaks m b A || (breaks m b B || (breaks m b C || (breaks m b D || breaks m b E))))
-
--- The same of a bundle that may be none, which breaks none.
-abbrev pub breaks_if : Marking → Option Bundle → Rule → Bool
-breaks_if m None r = false
-breaks_if m (Some b) r = breaks m b r
-
-abbrev pub keeps_if : Marking → Option Bundle → Bool
-keeps_if m None = true
-keeps_if m (Some b) = keeps m b

@@ -1,7 +1,7 @@
 -- Worked examples of the handbook: the pseudo instructions of sections 2.6.1 to 2.6.5, the instruction of table 2.14, and the
 -- two forms of a bundle of two words. The handbook prints the word of nop alone; the others are put together by hand from the
 -- formats' figures, with r1 or p1 as the destination and r2 or p2 as the source.
-use Rattle.std.specs.Prelude.{ℕ, List, [], ◌∷◌, refl, Option, Some}
+use Rattle.std.specs.Prelude.{ℕ, List, [], ◌∷◌, refl}
 use Rattle.isa.specs.Format.{reading, row}
 use Rattle.decoder.specs.Decode.{guard_of, slot_one, slot_two, decode}
 use Rattle.isa.specs.declared.AluFunction.TheVariants.{Add, Sub, Nor}
@@ -18,13 +18,13 @@ use Rattle.proved_cases.specs.Words.{Pair, decoded, ◌is◌, p, not_p, always}
 
 infix 70 ◌is-alu◌
 -- A word that is an ALU instruction under p0.
-abbrev pub ◌is-alu◌ : ℕ → AluOperation → Case Pair (Option Bundle)
+abbrev pub ◌is-alu◌ : ℕ → AluOperation → Case Pair Bundle
 w is-alu a = w is always (Alu a)
 
 abbrev pub nop : AluOperation
 nop = Arithmetic Sub 0 0 (Immediate 0)
 
-abbrev pub handbook_cases : List (Case Pair (Option Bundle))
+abbrev pub handbook_cases : List (Case Pair Bundle)
 handbook_cases =
     0x00400000 is-alu nop ∷
     0x00022000 is-alu Arithmetic Add 1 2 (Immediate 0) ∷  -- mov r1 = r2
@@ -44,11 +44,11 @@ handbook_cases =
     0x0202005A is-alu BitCopy 1 0 0 (not_p 2) ∷  -- the same with p2 inverted
     record {  -- add r1 = r0 + a long immediate
       given = record { first = 0x87C20000; second = 0x9ABCDEF0 };
-      expected = Some (bundle.Long (record { guard = p 0; operation = Alu (Arithmetic Add 1 0 (Long 0x9ABCDEF0)) }));
+      expected = bundle.Long (record { guard = p 0; operation = Alu (Arithmetic Add 1 0 (Long 0x9ABCDEF0)) });
     } ∷
     record {  -- nop in both slots
       given = record { first = 0x80400000; second = 0x00400000 };
-      expected = Some (bundle.Two (record { guard = p 0; operation = Alu nop }) (record { guard = p 0; operation = nop }));
+      expected = bundle.Two (record { guard = p 0; operation = Alu nop }) (record { guard = p 0; operation = nop });
     } ∷
     []
 

@@ -7,7 +7,7 @@ use Rattle.settings.specs.Settings.{admits}
 use Rattle.fetch.specs.Fetch.{bundle_at, following_at, fetch_tests}
 use Rattle.marking.specs.declared.Marking.{Marking}
 use Rattle.marking.specs.Marking.{marking_ok}
-use Rattle.marking_rules.specs.Rules.{breaks_if, keeps_if}
+use Rattle.marking_rules.specs.Rules.{breaks, keeps}
 use Rattle.single_path.specs.declared.Checked.{Checked}
 use Rattle.single_path.specs.declared.Checked.TheVariants as enum
 
@@ -30,7 +30,7 @@ returned (enum.Broken a r) = refused 9 a
 abbrev pub letter_broken : Marking → List ℕ → Checked → Bool
 letter_broken m code enum.Accepted = true
 letter_broken m code (enum.Refused r a) = not (eqb (number r) 9)
-letter_broken m code (enum.Broken a r) = breaks_if m (bundle_at code a) r
+letter_broken m code (enum.Broken a r) = breaks m (bundle_at code a) r
 
 -- A bundle that cannot be read is refused at its address.
 abbrev pub refused_at : Verdict → ℕ → CheckAnswer → CheckAnswer
@@ -44,7 +44,7 @@ walk_from m code (suc most) a =
     let rest = walk_from m code most (following_at code a) in
     cond (leb (length code) a) accepted
     (refused_at (verdict (fetch_tests code a)) a
-    (cond (keeps_if m (bundle_at code a)) rest (refused 9 a)))
+    (cond (keeps m (bundle_at code a)) rest (refused 9 a)))
 
 -- Whether refusal 1 lets the settings and the marking pass. The lengths of what the check does not read are numbers.
 abbrev pub passes : Setup → ℕ → ℕ → ℕ → Marking → Bool

@@ -3,31 +3,31 @@
 use Prim.Native.Nat.{ℕ, zero, suc, ◌+◌, ◌*◌, ◌/◌, ◌<◌}
 use Rattle.std.proofs.Math.Bool.{Bool, true, false, cond}
 use Rattle.std.proofs.lemmas.Bool.{false≢true, lt-leb}
-use Rattle.std.specs.Prelude.{List, ◌⊎◌, ◌↔◌, ◌≡◌, leb, length, is_none, Ok, Err}
+use Rattle.std.specs.Prelude.{List, ◌⊎◌, ◌↔◌, ◌≡◌, leb, length, Ok, Err}
 use Rattle.std.proofs.Math.Logic.{inl}
 use Rattle.std.proofs.Common.{inr, sym, ap, subst, ◌∙◌, arith, leb-false}
 use Rattle.std.proofs.Math.Path.{refl}
 use Rattle.std.proofs.Math.Decide.{dec_lt}
 use Rattle.marking.specs.declared.Marking.{Marking}
-use Rattle.marking_rules.specs.Rules.{keeps_if}
+use Rattle.marking_rules.specs.Rules.{keeps}
 use Rattle.single_path.specs.Check.{Walked, first, later, CheckAnswer, accepted, refused, refused_at, walk_from, passes, checked}
 use Rattle.answers.specs.declared.Refusal.TheVariants as refusal
 use Rattle.answers.specs.Test.{verdict}
 use Rattle.single_path.specs.WalkLaws.{following_above, walked_inside, walked_gap}
-use Rattle.fetch.specs.Fetch.{outside_code, bundle_at, following_at}
+use Rattle.fetch.specs.Fetch.{is_undecodable, outside_code, bundle_at, following_at}
 use Rattle.settings.specs.Setup.{Setup}
 
 -- The bundle at an address can be read and keeps the rules.
 pub record Fine (m : Marking) (code : List ℕ) (a : ℕ) : Type 0 where
   pub inside : outside_code code a ≡ false
-  pub decodable : is_none (bundle_at code a) ≡ false
-  pub keeping : keeps_if m (bundle_at code a) ≡ true
+  pub decodable : is_undecodable (bundle_at code a) ≡ false
+  pub keeping : keeps m (bundle_at code a) ≡ true
 
 -- It fails as the check says: 2, 3, or a broken rule.
 pub data Fails (m : Marking) (code : List ℕ) : CheckAnswer → ℕ → Type 0 where
   outside : {a : ℕ} → outside_code code a ≡ true → Fails m code (refused 2 a) a
-  undecodable : {a : ℕ} → outside_code code a ≡ false → is_none (bundle_at code a) ≡ true → Fails m code (refused 3 a) a
-  breaking : {a : ℕ} → outside_code code a ≡ false → is_none (bundle_at code a) ≡ false → keeps_if m (bundle_at code a) ≡ false
+  undecodable : {a : ℕ} → outside_code code a ≡ false → is_undecodable (bundle_at code a) ≡ true → Fails m code (refused 3 a) a
+  breaking : {a : ℕ} → outside_code code a ≡ false → is_undecodable (bundle_at code a) ≡ false → keeps m (bundle_at code a) ≡ false
       → Fails m code (refused 9 a) a
 
 -- What an answer other than accepted tells: a walked address at which the code fails so, before which it does not fail.
@@ -48,12 +48,12 @@ module _ (m : Marking) (code : List ℕ) where
   unfolding walk_from verdict
   walk_first zero a w f = inl refl
   walk_first (suc most) a w f =
-      go (leb (length code) a) (outside_code code a) (is_none (bundle_at code a)) (keeps_if m (bundle_at code a)) refl refl refl refl (walk_first most (following_at code a))
+      go (leb (length code) a) (outside_code code a) (is_undecodable (bundle_at code a)) (keeps m (bundle_at code a)) refl refl refl refl (walk_first most (following_at code a))
     where
       answer : Bool → Bool → Bool → Bool → CheckAnswer
       answer t u v x = cond t accepted (refused_at (cond u (Err refusal.OutsideCode) (cond v (Err refusal.Undecodable) (Ok tt))) a (cond x (walk_from m code most (following_at code a)) (refused 9 a)))
 
-      go : (t u v x : Bool) → leb (length code) a ≡ t → outside_code code a ≡ u → is_none (bundle_at code a) ≡ v → keeps_if m (bundle_at code a) ≡ x
+      go : (t u v x : Bool) → leb (length code) a ≡ t → outside_code code a ≡ u → is_undecodable (bundle_at code a) ≡ v → keeps m (bundle_at code a) ≡ x
           → ((following_at code a < length code → Walked code (following_at code a)) → ((b : ℕ) → Walked code b → b < following_at code a → Fine m code b)
           → (walk_from m code most (following_at code a) ≡ accepted) ⊎ FirstFailure m code (walk_from m code most (following_at code a)))
           → (answer t u v x ≡ accepted) ⊎ FirstFailure m code (answer t u v x)
@@ -78,9 +78,9 @@ module _ (m : Marking) (code : List ℕ) where
       → Fine m code a × ((n : ℕ) × (length code < following_at code a + 4 * n) × (walk_from m code n (following_at code a) ≡ accepted))
   unfolding walk_from verdict
   walk_here zero a p h e = absurd (omega arith)
-  walk_here (suc most) a p h e = go (outside_code code a) (is_none (bundle_at code a)) (keeps_if m (bundle_at code a)) refl refl refl (rw (lt-leb _ _ p) at e)
+  walk_here (suc most) a p h e = go (outside_code code a) (is_undecodable (bundle_at code a)) (keeps m (bundle_at code a)) refl refl refl (rw (lt-leb _ _ p) at e)
     where
-      go : (u v x : Bool) → outside_code code a ≡ u → is_none (bundle_at code a) ≡ v → keeps_if m (bundle_at code a) ≡ x
+      go : (u v x : Bool) → outside_code code a ≡ u → is_undecodable (bundle_at code a) ≡ v → keeps m (bundle_at code a) ≡ x
           → refused_at (cond u (Err refusal.OutsideCode) (cond v (Err refusal.Undecodable) (Ok tt))) a (cond x (walk_from m code most (following_at code a)) (refused 9 a)) ≡ accepted
           → Fine m code a × ((n : ℕ) × (length code < following_at code a + 4 * n) × (walk_from m code n (following_at code a) ≡ accepted))
       go true v x j k l f = absurd (false≢true (ap is_accepted f))

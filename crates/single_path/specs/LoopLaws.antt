@@ -12,7 +12,7 @@ use Rattle.fetch.specs.declared.Fetched.{Fetched}
 use Rattle.fetch.specs.Fetch.{bundle_at, following_at, fetched}
 use Rattle.fetch.specs.FetchLaws.{refused_verdict, found_verdict, found_bundle}
 use Rattle.marking.specs.declared.Marking.{Marking}
-use Rattle.marking_rules.specs.Rules.{keeps, keeps_if}
+use Rattle.marking_rules.specs.Rules.{keeps}
 use Rattle.single_path.specs.Check.{accepted, refused, walk_from}
 
 module _ (m : Marking) (code : List ℕ) where
@@ -34,16 +34,16 @@ module _ (m : Marking) (code : List ℕ) where
   module _ (most a : ℕ) (f : Fetched) (e : fetched code a ≡ Ok f) where
     pub walk_broken : 0 < most → a < length code → keeps m f.bundle ≡ false → walk_from m code most a ≡ refused 9 a
     unfolding walk_from
-    walk_broken p q h = go most p (ap (keeps_if m) (found_bundle code a f e).0 ∙ h)
+    walk_broken p q h = go most p (ap (keeps m) (found_bundle code a f e).0 ∙ h)
       where
-        go : (n : ℕ) → 0 < n → keeps_if m (bundle_at code a) ≡ false → walk_from m code n a ≡ refused 9 a
+        go : (n : ℕ) → 0 < n → keeps m (bundle_at code a) ≡ false → walk_from m code n a ≡ refused 9 a
         go zero r k = absurd (omega arith)
         go (suc n) r k = rw (lt-leb _ _ q, found_verdict code a f e, k)
 
     pub walk_next : 0 < most → a < length code → keeps m f.bundle ≡ true → walk_from m code most a ≡ walk_from m code (most - 1) f.following
     unfolding walk_from
-    walk_next p q h = go most p (ap (keeps_if m) (found_bundle code a f e).0 ∙ h) ∙ ap (walk_from m code (most - 1)) (found_bundle code a f e).1
+    walk_next p q h = go most p (ap (keeps m) (found_bundle code a f e).0 ∙ h) ∙ ap (walk_from m code (most - 1)) (found_bundle code a f e).1
       where
-        go : (n : ℕ) → 0 < n → keeps_if m (bundle_at code a) ≡ true → walk_from m code n a ≡ walk_from m code (n - 1) (following_at code a)
+        go : (n : ℕ) → 0 < n → keeps m (bundle_at code a) ≡ true → walk_from m code n a ≡ walk_from m code (n - 1) (following_at code a)
         go zero r k = absurd (omega arith)
         go (suc n) r k = rw (lt-leb _ _ q, found_verdict code a f e, k, sub-one)

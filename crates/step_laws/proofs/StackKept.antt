@@ -1,6 +1,6 @@
 -- What a bundle keeps of the buffers: their lengths, and the bytes outside the stack area where it moves stack words; and the window
 -- that a stack instruction leaves.
-use Rattle.std.specs.Prelude.{ℕ, ◌+◌, ◌-◌, ◌^◌, ◌<◌, ◌≤◌, Bool, true, false, List, ◌++◌, ◌≡◌, ◌⊎◌, length, get_or, take, drop, is_none, Ok, Err}
+use Rattle.std.specs.Prelude.{ℕ, ◌+◌, ◌-◌, ◌^◌, ◌<◌, ◌≤◌, Bool, true, false, List, ◌++◌, ◌≡◌, ◌⊎◌, length, get_or, take, drop, Ok, Err}
 use Rattle.std.proofs.Math.Path.{refl, subst}
 use Rattle.std.proofs.Common.{sym, ap, ◌∙◌, inl, inr, arith, le_trans, length-take, length-drop, length-take-le, get_or-take, get_or-drop, take_at, drop_at, ext_get_or}
 use Rattle.std.proofs.lemmas.Bool.{not-false}
@@ -36,7 +36,7 @@ use Rattle.step_laws.proofs.KeptLaws.{write_alu_cases, onward_cases}
 use Rattle.step_laws.specs.LookupLaws.{Found}
 use Rattle.settings.specs.Setup.{Setup, Buffers, settings, lent, is_stack_byte}
 use Rattle.answers.specs.Test.{verdict as verdict_of}
-use Rattle.fetch.specs.Fetch.{bundle_at, outside_code, fetch_tests}
+use Rattle.fetch.specs.Fetch.{bundle_at, outside_code, is_undecodable, fetch_tests}
 
 -- Buffers of the same lengths.
 pub record SameLengths (b b' : Buffers) : Type 0 where
@@ -176,7 +176,7 @@ module _ (g : Settings) (x : Setup) (s : State) (fine : judged g x s ≡ Ok tt) 
   fine_inside = fine_applies 2 (bundle_tests g x s (effect_at x s)) fine
 
   -- It is decodable.
-  pub fine_decodable : is_none (bundle_at x.code s.fetch) ≡ false
+  pub fine_decodable : is_undecodable (bundle_at x.code s.fetch) ≡ false
   fine_decodable = fine_applies 3 (bundle_tests g x s (effect_at x s)) fine
 
   fine_slot : verdict_of (slot_tests g x s (effect_at x s)) ≡ Ok tt

@@ -22,7 +22,7 @@ use Rattle.settings.specs.declared.Settings.{Settings}
 use Rattle.settings.specs.Setup.{Setup, Buffers, lent}
 use Rattle.alu_effects.specs.declared.AluEffect.TheVariants as alu
 use Rattle.effects.specs.declared.Effect.TheVariants as effect
-use Rattle.effects.specs.Effect.{Start, effect_of, stack_effect, slot_one_effect, slot_one_if}
+use Rattle.effects.specs.Effect.{Start, effect_of, stack_effect, slot_one_effect, slot_one}
 use Rattle.alu_effects.specs.AluEffects.{holds}
 use Rattle.core_state.specs.State.{State, start_of, with_done, entered, one_place_on, load_ok, parts_ok}
 use Rattle.answers.specs.Test.{verdict as verdict_of}
@@ -69,12 +69,12 @@ module _ (b : Buffers) (s : Start) where
       go true = refl
       go false = refl
 
-  decoded_ok : (first second : ℕ) → load_ok (load_begun b (slot_one_if s (decode first second))) ≡ true
+  decoded_ok : (first second : ℕ) → load_ok (load_begun b (slot_one s (decode first second))) ≡ true
   unfolding decode
   decoded_ok first second = go (is_two_words first) (applied (reading long_formats first) second) (first_slot first) (second_slot second) (slot_one_in_range first)
     where
       go : (t : Bool) (l : Option AluOperation) (o : Option Operation) (a : Option AluOperation) → IfSome o OperationInRange
-          → load_ok (load_begun b (slot_one_if s (cond t (long (guard_of first) l (two (guard_of first) o (guard_of second) a)) (one (guard_of first) o)))) ≡ true
+          → load_ok (load_begun b (slot_one s (cond t (long (guard_of first) l (two (guard_of first) o (guard_of second) a)) (one (guard_of first) o)))) ≡ true
       go true (Some l) o a p = long_ok (guard_of first) l
       go true None (Some o) (Some a) p = instruction_ok (guard_of first) o p
       go true None (Some o) None p = refl

@@ -10,7 +10,7 @@ use Rattle.core_state.specs.State.{State, start_of, with_done, ended as has_ende
 use Rattle.effects.specs.declared.Effect.{Effect}
 use Rattle.answers.specs.Answer.{Returned, accepted, done, ended, spent, refused}
 use Rattle.settings.specs.Settings.{admits}
-use Rattle.effects.specs.Effect.{slot_one_if, slot_two_if}
+use Rattle.effects.specs.Effect.{slot_one, slot_two}
 use Rattle.bundle_model.specs.Refusal.{bundle_tests}
 use Rattle.replay.specs.Replay.{replay_ok}
 use Rattle.answers.specs.TestLaws.{and_then, verdict_append}
@@ -23,13 +23,13 @@ use Rattle.fetch.specs.Fetch.{bundle_at, following_at}
 
 -- What slot one does at the fetch address, how the bundle there is judged, and its outcome where it is done.
 abbrev pub effect_at : Setup → State → Effect
-effect_at x s = slot_one_if (start_of x.table s) (bundle_at x.code s.fetch)
+effect_at x s = slot_one (start_of x.table s) (bundle_at x.code s.fetch)
 
 abbrev pub judged : Settings → Setup → State → Verdict
 judged g x s = verdict_of (bundle_tests g x s (effect_at x s))
 
 abbrev pub state_after : Settings → Setup → State → Buffers → State
-state_after g x s b = state_done g x b s (effect_at x s) (slot_two_if (start_of x.table s) (bundle_at x.code s.fetch)) (following_at x.code s.fetch)
+state_after g x s b = state_done g x b s (effect_at x s) (slot_two (start_of x.table s) (bundle_at x.code s.fetch)) (following_at x.code s.fetch)
 
 abbrev pub done_outcome : Settings → Setup → State → Buffers → Outcome
 done_outcome g x s b = outcome done (state_after g x s b) (counts_of g x s (effect_at x s)) (buffers_after g x s (effect_at x s) b)
@@ -65,10 +65,10 @@ module _ (g : Settings) (x : Setup) (s : State) (b : Buffers) where
 
   -- What a bundle that answers Done leaves, where slot one's effect is known.
   pub bundle_done_as : (e : Effect) → effect_at x s ≡ e → (bundle g x s b).answer ≡ done
-      → bundle g x s b ≡ outcome done (state_done g x b s e (slot_two_if (start_of x.table s) (bundle_at x.code s.fetch)) (following_at x.code s.fetch)) (counts_of g x s e) (buffers_after g x s e b)
+      → bundle g x s b ≡ outcome done (state_done g x b s e (slot_two (start_of x.table s) (bundle_at x.code s.fetch)) (following_at x.code s.fetch)) (counts_of g x s e) (buffers_after g x s e b)
   bundle_done_as e p d =
       bundle_done (bundle_fine d)
-      ∙ ap (λ (y : Effect). outcome done (state_done g x b s y (slot_two_if (start_of x.table s) (bundle_at x.code s.fetch)) (following_at x.code s.fetch)) (counts_of g x s y) (buffers_after g x s y b)) p
+      ∙ ap (λ (y : Effect). outcome done (state_done g x b s y (slot_two (start_of x.table s) (bundle_at x.code s.fetch)) (following_at x.code s.fetch)) (counts_of g x s y) (buffers_after g x s y b)) p
 
 -- A bundle as it is tried: a record that is due is let pass, and then the bundle from the state with the record taken.
 pub record Passes (g : Settings) (x : Setup) (s : State) : Type 0 where

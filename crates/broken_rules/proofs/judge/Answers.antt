@@ -3,7 +3,12 @@ use mathlib.Core.Logic.{⊎_elim}
 use mathlib.Core.Path.{◌≡◌, subst}
 use Rattle.isa.specs.declared.Instruction.{Instruction}
 use Rattle.marking_rules.specs.Rules.{instruction_breaks, breaks}
+use Rattle.broken_rules.specs.Found.{right}
 use Rattle.broken_rules.proofs.judge.Goals as goal
+
+pub returns-in-Undecodable : goal.returns-in-Undecodable
+unfolding right breaks
+returns-in-Undecodable c = rw c.in-Undecodable.is
 
 pub returns-in-Two : goal.returns-in-Two
 returns-in-Two c = rw c.in-Two.is c.pair_rule.ensures

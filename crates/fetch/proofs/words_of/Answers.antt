@@ -1,6 +1,7 @@
 use Rattle.decoder.specs.Decode.{bundle_words}
 use Rattle.decoder.specs.DecodeLaws.{words_two}
 use native.Mathlib.Omega.{arith}
+use borrow.Author.Rules.{rules}
 use Rattle.fetch.proofs.words_of.Goals as goal
 
 pub returns : goal.returns

@@ -32,7 +32,7 @@ returns-in-Ok c =
     let e = c.execute.ensures in
     let x = setup_of a.given.now.code.now a.g in
     record {
-      given = handed_read a.g (given_setup_of a.given.now a.g) a.registers.now a.predicates.now a.core a.held.now a.counts.now _ _ _ _ _ (sym c.fetch.ensures ∙ c.in-Ok.is) c.slot_one-one.ensures c.slot_two-two.ensures
+      given = handed_read a.g (given_setup_of a.given.now a.g) a.registers.now a.predicates.now a.core a.held.now a.counts.now _ _ _ _ _ (sym c.fetch.ensures ∙ c.in-Ok.is) c.slot_one-one.ensures (c.slot_two-two.ensures a.core.specials a.core.fetch a.given.now.table.now)
           (e.given ∙ ap (counted (counts_in a.counts.now)) (executed_replay a.given.now.list.now a.given.now.table.now a.g x _ _ _ _ _));
       canonical = e.canonical;
       held = e.held;
