@@ -10,8 +10,7 @@ use crate::execute::execute;
 use bundle_model::Bundled;
 use bundle_model::outcome::refused;
 use core_state::Core;
-use effects::AtStart;
-use effects::slot::slot_two;
+use effects::slot::{slot_one, slot_two};
 use fetch::{Fetched, fetch};
 use settings::{Given, Settings};
 
@@ -36,15 +35,9 @@ pub(crate) fn bundle(
     match fetch(code, at) {
         Err(refusal) => refused(core, refusal),
         Ok(Fetched { bundle, following }) => {
+            let specials = core.specials;
             let table = given.table;
-            let start = AtStart {
-                registers: &*registers,
-                predicates: &*predicates,
-                specials: core.specials,
-                fetch: at,
-                table,
-            };
-            let one = start.slot_one(bundle);
+            let one = slot_one(&*registers, &*predicates, specials, at, table, bundle);
             let two = slot_two(&*registers, &*predicates, bundle);
             execute(
                 core,

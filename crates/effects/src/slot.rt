@@ -219,8 +219,7 @@ impl AtStart<'_> {
         Effect::Alu(AluEffect::Nothing)
     }
 
-    // What slot one of a bundle does.
-    pub fn slot_one(&self, b: Bundle) -> Effect
+    fn slot_one(&self, b: Bundle) -> Effect
         ensures { result ≡ slot_one (at_start self.now) b }
     {
         match b {
@@ -228,6 +227,27 @@ impl AtStart<'_> {
             Bundle::One(i) | Bundle::Long(i) | Bundle::Two(i, _) => self.slot_one_effect(i),
         }
     }
+}
+
+// What slot one of a bundle does.
+pub fn slot_one<'a>(
+    registers: &'a [u32],
+    predicates: &'a [bool; 8],
+    specials: Specials,
+    fetch: u32,
+    table: &'a [u8],
+    b: Bundle,
+) -> Effect
+    ensures { result ≡ slot_one (start registers.now predicates.now specials fetch table.now) b }
+{
+    let start = AtStart {
+        registers,
+        predicates,
+        specials,
+        fetch,
+        table,
+    };
+    start.slot_one(b)
 }
 
 // What slot two of a bundle does; nothing where it has none. It reads registers and predicates alone, of any number.
