@@ -7,12 +7,14 @@ ghost use Rattle.record_model.specs.Record.{is_transfer, is_load, are_products, 
 use sections::{is_cut, section_at, word_at};
 
 // Whether a section has so many words.
+#[tactic(auto, using(sections::specs::WordLaws::words_length))]
 fn has_count(bytes: &[u8], k: u32, n: usize) -> bool
     ensures { result ≡ eqb (length (section_at k (words_in bytes.now))) n }
 {
     section_at(bytes, k).len() / 4 == n
 }
 
+#[tactic(auto, using(sections::specs::WordLaws::words_length), unfolding(record_model::specs::Record::is_transfer))]
 fn is_transfer(part: &[u8]) -> bool
     ensures { result ≡ is_transfer (words_in part.now) }
 {
@@ -24,6 +26,7 @@ fn is_transfer(part: &[u8]) -> bool
     (words == 0) | ((kind <= 3) & (words == 4))
 }
 
+#[tactic(auto, using(sections::specs::WordLaws::words_length), unfolding(record_model::specs::Record::is_load))]
 fn is_load(part: &[u8]) -> bool
     ensures { result ≡ is_load (words_in part.now) }
 {
@@ -31,6 +34,7 @@ fn is_load(part: &[u8]) -> bool
     (words == 0) | (words == 2)
 }
 
+#[tactic(auto, using(sections::specs::WordLaws::words_length), unfolding(record_model::specs::Record::are_products))]
 fn are_products(part: &[u8]) -> bool
     ensures { result ≡ are_products (words_in part.now) }
 {
@@ -51,6 +55,7 @@ fn fixed_counts(bytes: &[u8], words: usize) -> bool
 }
 
 // Those that may be empty.
+#[tactic(auto, using(sections::specs::WordLaws::words_length))]
 fn free_counts(bytes: &[u8]) -> bool
     ensures { result ≡ free_sections (words_in bytes.now) }
 {
@@ -70,6 +75,7 @@ fn small_words(bytes: &[u8]) -> bool
 }
 
 // Whole words, eleven sections, counts and values that a record has.
+#[tactic(auto, unfolding(record_model::specs::Record::has_form, record_model::specs::Record::is_record))]
 pub fn has_form(bytes: &[u8], words: usize) -> bool
     ensures { result ≡ has_form words bytes.now }
 {

@@ -14,6 +14,7 @@ use replay::Replay;
 use sections::word_at;
 
 // The low eight bits of a word, the lowest first.
+#[tactic(auto, unfolding(core_state::specs::State::predicates_of))]
 pub fn predicates_in(word: u32) -> [bool; 8]
     ensures { result ≡ predicates_of 8 word }
 {
@@ -51,6 +52,7 @@ pub fn specials_in(part: &[u8]) -> Specials
     }
 }
 
+#[tactic(auto, unfolding(record_model::specs::Record::transfer_of))]
 fn transfer_of(kind: u32, target: u32, base: u32) -> Transfer
     ensures { result ≡ transfer_of kind target base }
 {
@@ -66,6 +68,7 @@ fn transfer_of(kind: u32, target: u32, base: u32) -> Transfer
     Transfer::Xret { target, base }
 }
 
+#[tactic(auto, using(sections::specs::WordLaws::words_length), unfolding(record_model::specs::Record::transfer_in))]
 pub fn transfer_in(part: &[u8]) -> WaitingTransfer
     ensures { result ≡ transfer_in (words_in part.now) }
 {
@@ -77,6 +80,7 @@ pub fn transfer_in(part: &[u8]) -> WaitingTransfer
     WaitingTransfer::Waits { transfer, wait }
 }
 
+#[tactic(auto, using(sections::specs::WordLaws::words_length), unfolding(record_model::specs::Record::load_in))]
 pub fn load_in(part: &[u8]) -> WaitingLoad
     ensures { result ≡ load_in (words_in part.now) }
 {
@@ -109,6 +113,7 @@ fn longer(wait: u32, than: u32) -> u32
     wait - than
 }
 
+#[tactic(auto, using(sections::specs::WordLaws::words_length), unfolding(record_model::specs::Record::products_in))]
 pub fn products_in(part: &[u8]) -> Products
     ensures { result ≡ products_in (words_in part.now) }
 {
@@ -125,6 +130,7 @@ pub fn products_in(part: &[u8]) -> Products
     Products::Two { first, second }
 }
 
+#[tactic(auto, unfolding(record_model::specs::Record::count_at))]
 fn count_at(part: &[u8], i: u32) -> u64
     ensures { result ≡ count_at (words_in part.now) i }
 {

@@ -13,6 +13,7 @@ use replay::Replay;
 use word::arithmetic::add;
 
 // A transfer that waits.
+#[tactic(auto, unfolding(record_model::specs::Record::transfer_section))]
 fn waiting_words(t: Transfer, wait: u32) -> Few
     ensures { result ≡ few_of (transfer_section (WaitingTransfer.Waits t wait)) }
 {
@@ -36,6 +37,7 @@ fn waiting_words(t: Transfer, wait: u32) -> Few
     }
 }
 
+#[tactic(auto, unfolding(record_model::specs::Record::transfer_section))]
 pub fn transfer_words(w: WaitingTransfer) -> Few
     ensures { result ≡ few_of (transfer_section w) }
 {
@@ -48,6 +50,7 @@ pub fn transfer_words(w: WaitingTransfer) -> Few
     }
 }
 
+#[tactic(auto, unfolding(record_model::specs::Record::load_section))]
 pub fn load_words(l: WaitingLoad) -> Few
     ensures { result ≡ few_of (load_section l) }
 {
@@ -64,6 +67,7 @@ pub fn load_words(l: WaitingLoad) -> Few
 }
 
 // Two products: the second waits the sum of both waits from now.
+#[tactic(auto, unfolding(record_model::specs::Record::product_section))]
 fn two_products(p: Product, q: Product) -> Few
     ensures { result ≡ few_of (product_section (Products.Two p q)) }
 {
@@ -74,6 +78,7 @@ fn two_products(p: Product, q: Product) -> Few
     }
 }
 
+#[tactic(auto, unfolding(record_model::specs::Record::product_section))]
 pub fn product_words(p: Products) -> Few
     ensures { result ≡ few_of (product_section p) }
 {
@@ -102,6 +107,7 @@ fn lower(n: u64) -> u32
     (n % 4294967296) as u32
 }
 
+#[tactic(auto, unfolding(record_model::specs::Record::count_section))]
 pub fn count_words(c: Counts) -> [u32; 12]
     ensures { result ≡ count_section c }
 {
@@ -121,6 +127,7 @@ pub fn count_words(c: Counts) -> [u32; 12]
     ]
 }
 
+#[tactic(auto, unfolding(record_model::specs::Record::replay_section))]
 pub fn replay_words(p: Replay) -> [u32; 3]
     ensures { result ≡ replay_section p }
 {

@@ -1,5 +1,0 @@
-use borrow.Author.Rules.{rules}
-use Rattle.record_parts.proofs.reading.replay_in.Goals as goal
-
-pub returns : goal.returns
-returns c = rw (c.word_at-active.ensures, c.word_at.ensures, c.word_at-2.ensures)

@@ -1,5 +1,0 @@
-use borrow.Author.Rules.{rules}
-use Rattle.record_parts.proofs.reading.specials_in.Goals as goal
-
-pub returns : goal.returns
-returns c = rw (c.word_at.ensures, c.word_at-2.ensures, c.word_at-3.ensures, c.word_at-4.ensures, c.word_at-5.ensures, c.word_at-6.ensures, c.word_at-7.ensures, c.word_at-8.ensures)
