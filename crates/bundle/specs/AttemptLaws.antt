@@ -39,6 +39,7 @@ use Rattle.bundle_model.specs.Execute.{bundled, stepped_as}
 use Rattle.step_laws.specs.StepCases.{is_done, bundle_cases}
 use Rattle.step_laws.proofs.CountLaws.{bundle_few}
 use Rattle.step_laws.specs.LookupLaws.{entry_found, entry_misses, entry_fetched}
+use Rattle.answers.specs.contracts.Refusal.{the_row as refusal_row}
 use Rattle.bundle_model.specs.contracts.Answer.{the_type}
 use denote.Enum.Declared.{tag_of}
 use types.Run.{OneOf, miss}
@@ -187,15 +188,15 @@ not_finished s b c o = go o.answer
     go (refused n) e = refl
 
 module _ (g : Settings) (x : Setup) (rs : List ℕ) (ps : List Bool) (core : Core) (w c : List ℕ) (b : Buffers) where
-  pub handed_entry : (n : Refusal) (z : Bundled) → verdict_of (entry_tests x (whole rs ps core w)) ≡ Err n → z ≡ bundled (Refused n) core
+  pub handed_entry : (n : Refusal) (z : Bundled Refusal) → verdict_of (entry_tests x (whole rs ps core w)) ≡ Err n → z ≡ bundled (Refused n) core
       → full (stepped_as rs ps w c z) b ≡ counted (counts_in c) (attempt g x (whole rs ps core w) b)
   handed_entry n z e h =
-      ap (λ (y : Bundled). full (stepped_as rs ps w c y) b) h
+      ap (λ (y : Bundled Refusal). full (stepped_as rs ps w c y) b) h
       ∙ ap (λ (y : Counts). outcome (refused (number n)) (whole rs ps core w) y b) (sym (plus_none (counts_in c)))
       ∙ sym (ap (counted (counts_in c)) (entry_refused g x (whole rs ps core w) b n e))
 
   module _ (from : Core) (blocks v : List ℕ) (looked : Looked) (t : Bool) (e : Entered x rs ps core from w blocks v looked t)
-      (us : List ℕ) (qs : List Bool) (v' : List ℕ) (m : Counts) (d : Bundled) (b' : Buffers)
+      (us : List ℕ) (qs : List Bool) (v' : List ℕ) (m : Counts) (d : Bundled Refusal) (b' : Buffers)
       (inner : outcome (returned d.answer) (whole us qs d.core v') m b' ≡ counted (counts_in c) (bundle g x (whole rs ps from v) b)) where
     o : Outcome
     o = bundle g x (whole rs ps from v) b
@@ -226,19 +227,19 @@ module _ (g : Settings) (x : Setup) (rs : List ℕ) (ps : List Bool) (core : Cor
       held_again f = ap (λ (y : State). y.further.held) (same ∙ (e.none f).1)
 
       -- The bundle is refused, and all is as it was, the blocks held too.
-      pub handed_undone : (h : List ℕ) (z : Bundled) → held_in h ≡ held_in w → z ≡ bundled d.answer core → outcome (returned z.answer) (whole us qs z.core h) m b' ≡ counted (counts_in c) (attempt g x (whole rs ps core w) b)
+      pub handed_undone : (h : List ℕ) (z : Bundled Refusal) → held_in h ≡ held_in w → z ≡ bundled d.answer core → outcome (returned z.answer) (whole us qs z.core h) m b' ≡ counted (counts_in c) (attempt g x (whole rs ps core w) b)
       unfolding o
       handed_undone h z p q =
           let lists : us ≡ rs = ap (λ (y : State). y.registers) same ∙ registers.0 in
           let flags : qs ≡ ps = ap (λ (y : State). y.predicates) same ∙ registers.1 in
           let sums : m ≡ plus (counts_in c) no_counts = ap (λ (y : Outcome). y.counts) inner ∙ ap (λ (y : Outcome). plus (counts_in c) y.counts) left in
           let stores : b' ≡ b = ap (λ (y : Outcome). y.buffers) inner ∙ ap (λ (y : Outcome). y.buffers) left in
-          ap (λ (y : Bundled). outcome (returned y.answer) (whole us qs y.core h) m b') q
+          ap (λ (y : Bundled Refusal). outcome (returned y.answer) (whole us qs y.core h) m b') q
           ∙ (λ i. outcome (answer i) (with_held (joined (lists i) (flags i) core) (p i)) (sums i) (stores i))
           ∙ sym (ap (counted (counts_in c)) (passed ∙ not_finished (whole rs ps core w) b (entry_counts x (whole rs ps core w)) o (ap is_done (sym answer) ∙ not_done)))
 
     -- The bundle is done, and with it one more of the replay.
-    handed_tried : (next : Core) (k : Counts) (z : Bundled) → d.answer ≡ Done → joined us qs next ≡ with_done (joined us qs d.core)
+    handed_tried : (next : Core) (k : Counts) (z : Bundled Refusal) → d.answer ≡ Done → joined us qs next ≡ with_done (joined us qs d.core)
         → k ≡ plus m (entry_counts x (whole rs ps core w)) → z ≡ bundled Done next
         → outcome (returned z.answer) (whole us qs z.core v') k b' ≡ counted (counts_in c) (attempt g x (whole rs ps core w) b)
     unfolding o
@@ -246,19 +247,19 @@ module _ (g : Settings) (x : Setup) (rs : List ℕ) (ps : List Bool) (core : Cor
         let ec = entry_counts x (whole rs ps core w) in
         let finish : returned d.answer ≡ o.answer = ap (λ (y : Outcome). y.answer) inner in
         let was : o.answer ≡ done = sym finish ∙ ap returned a in
-        ap (λ (y : Bundled). outcome (returned y.answer) (whole us qs y.core v') k b') q
+        ap (λ (y : Bundled Refusal). outcome (returned y.answer) (whole us qs y.core v') k b') q
         ∙ (λ i. outcome done (with_held (n i) (held_in v')) (p i) b')
         ∙ ap (λ (y : Outcome). outcome done (with_done y.state) (plus y.counts ec) y.buffers) inner
         ∙ ap (λ (y : Counts). outcome done (with_done o.state) y o.buffers) (plus_swap (counts_in c) o.counts ec)
         ∙ sym (ap (counted (counts_in c)) (passed ∙ ap (λ (y : Returned). if_done y (outcome done (with_done o.state) (plus ec o.counts) o.buffers) (outcome y (whole rs ps core w) no_counts b)) was))
 
     -- With the counts of a record's lookup, and where none was due.
-    pub handed_taken : (next : Core) (k : Counts) (z : Bundled) → t ≡ true → d.answer ≡ Done → joined us qs next ≡ with_done (joined us qs d.core)
+    pub handed_taken : (next : Core) (k : Counts) (z : Bundled Refusal) → t ≡ true → d.answer ≡ Done → joined us qs next ≡ with_done (joined us qs d.core)
         → k ≡ plus m (looked_counts looked) → z ≡ bundled Done next
         → outcome (returned z.answer) (whole us qs z.core v') k b' ≡ counted (counts_in c) (attempt g x (whole rs ps core w) b)
     handed_taken next k z y a n p q = handed_tried next k z a n (p ∙ ap (plus m) (e.counts y)) q
 
-    pub handed_plain : (next : Core) (z : Bundled) → t ≡ false → d.answer ≡ Done → joined us qs next ≡ with_done (joined us qs d.core) → z ≡ bundled Done next
+    pub handed_plain : (next : Core) (z : Bundled Refusal) → t ≡ false → d.answer ≡ Done → joined us qs next ≡ with_done (joined us qs d.core) → z ≡ bundled Done next
         → outcome (returned z.answer) (whole us qs z.core v') m b' ≡ counted (counts_in c) (attempt g x (whole rs ps core w) b)
     handed_plain next z y a n q = handed_tried next m z a n (sym (plus_none m) ∙ ap (plus m) (e.none y).0) q
 
@@ -283,7 +284,7 @@ module _ (g : Settings) (x : Setup) (rs : List ℕ) (ps : List Bool) (core : Cor
         }))
 
 -- An answer that is not Done.
-pub not_done : (a : Answer) → OneOf (1 ∷ 2 ∷ []) (tag_of the_type a) → is_done (returned a) ≡ false
+pub not_done : (a : Answer Refusal) → OneOf (1 ∷ 2 ∷ []) (tag_of (the_type refusal_row) a) → is_done (returned a) ≡ false
 not_done Done h = absurd (miss (1 ∷ 2 ∷ []) 0 tt h)
 not_done Ended h = refl
 not_done (Refused n) h = refl

@@ -41,15 +41,15 @@ told_done {g} {x} {s} {one} {w} {v} {c} {d} l st ss e t =
 
 -- A decoded bundle, refused or done.
 module _ (g : Settings) (x : Setup) (rs : List ℕ) (ps : List Bool) (core : Core) (w : List ℕ) (one : Effect) (two : AluEffect) (following : ℕ) (b b' : Buffers) {r : Result Carried Refusal} (v c : List ℕ) where
-  pub handed_refused : (n : Refusal) (z : Bundled) (d : List ℕ) → r ≡ Err n → carried_as r b' ≡ carried_out g x (with_held (joined rs ps core) (held_in w)) one b
+  pub handed_refused : (n : Refusal) (z : Bundled Refusal) (d : List ℕ) → r ≡ Err n → carried_as r b' ≡ carried_out g x (with_held (joined rs ps core) (held_in w)) one b
       → Tallied r g x (with_held (joined rs ps core) (held_in w)) one w v c d → z ≡ bundled (Refused n) core
       → full (stepped_as rs ps v d z) b' ≡ counted (counts_in c) (executed g x (with_held (joined rs ps core) (held_in w)) one two following b)
   handed_refused n z d e f t h =
       let k = told_refused n e t in
       executed_refused g x (joined rs ps core) (held_in w) one two following b b' n _ (counts_in c) (counts_in d) (held_in v)
-      (ap (λ (y : Result Carried Refusal). carried_as y b') (sym e) ∙ f) (ap (λ (y : Bundled). full (stepped_as rs ps v d y) b') h) k.0 k.1
+      (ap (λ (y : Result Carried Refusal). carried_as y b') (sym e) ∙ f) (ap (λ (y : Bundled Refusal). full (stepped_as rs ps v d y) b') h) k.0 k.1
 
-  pub handed_done : (l st ss : ℕ) (us : List ℕ) (qs : List Bool) (next : Core) (z : Bundled) (m d : List ℕ) → r ≡ Ok (carrying l st ss)
+  pub handed_done : (l st ss : ℕ) (us : List ℕ) (qs : List Bool) (next : Core) (z : Bundled Refusal) (m d : List ℕ) → r ≡ Ok (carrying l st ss)
       → carried_as r b' ≡ carried_out g x (with_held (joined rs ps core) (held_in w)) one b → Tallied r g x (with_held (joined rs ps core) (held_in w)) one w v c m
       → joined us qs next ≡ onward one (waiting_transfer core.transfer) following (write_alu two (write_done one l st ss (arrived (landed (joined rs ps core)))))
       → counts_in d ≡ plus (counts_in m) one_cycle → z ≡ bundled Done next
@@ -57,14 +57,14 @@ module _ (g : Settings) (x : Setup) (rs : List ℕ) (ps : List Bool) (core : Cor
   handed_done l st ss us qs next z m d e f t p q h =
       let k = told_done l st ss e t in
       executed_done g x (joined rs ps core) (held_in w) one two following b b' l st ss _ (counts_in c) (counts_in d) (joined us qs next) (held_in v)
-      (ap (λ (y : Result Carried Refusal). carried_as y b') (sym e) ∙ f) (ap (λ (y : Bundled). full (stepped_as us qs v d y) b') h) p k.0 (q ∙ ap (λ (y : Counts). plus y one_cycle) k.1)
+      (ap (λ (y : Result Carried Refusal). carried_as y b') (sym e) ∙ f) (ap (λ (y : Bundled Refusal). full (stepped_as us qs v d y) b') h) p k.0 (q ∙ ap (λ (y : Counts). plus y one_cycle) k.1)
 
 -- A bundle by what was fetched.
 module _ (g : Settings) (x : Setup) (rs : List ℕ) (ps : List Bool) (core : Core) (w c : List ℕ) (b : Buffers) where
-  pub handed_unread : (n : Refusal) (z : Bundled) → fetched x.code core.fetch ≡ Err n → z ≡ bundled (Refused n) core
+  pub handed_unread : (n : Refusal) (z : Bundled Refusal) → fetched x.code core.fetch ≡ Err n → z ≡ bundled (Refused n) core
       → full (stepped_as rs ps w c z) b ≡ counted (counts_in c) (bundle g x (with_held (joined rs ps core) (held_in w)) b)
   handed_unread n z e h =
-      ap (λ (y : Bundled). full (stepped_as rs ps w c y) b) h
+      ap (λ (y : Bundled Refusal). full (stepped_as rs ps w c y) b) h
       ∙ ap (λ (y : Counts). outcome (refused (number n)) (with_held (joined rs ps core) (held_in w)) y b) (sym (plus_none (counts_in c)))
       ∙ sym (ap (counted (counts_in c)) (bundle_refused g x (with_held (joined rs ps core) (held_in w)) b n e))
 

@@ -1,5 +1,6 @@
 -- "Doing a bundle": the writes in their order, the counts, and one bundle as a whole.
 use Rattle.std.specs.Prelude.{ℕ, ◌-◌, ◌^◌, Bool, not, cond, ◌&&◌, List, ◌++◌, length, take, drop, Ok, Err}
+use Rattle.answers.specs.declared.Refusal.{Refusal}
 use Rattle.answers.specs.declared.Refusal.TheVariants as refusal
 use Rattle.answers.specs.Refusal.{number}
 use Rattle.answers.specs.Answer.{Returned, accepted, done, ended, spent, refused}
@@ -123,12 +124,12 @@ counted c o = outcome o.answer o.state (plus c o.counts) o.buffers
 
 -- What a step gives beside the buffers.
 pub record Stepped : Type 0 where
-  pub answer : Answer
+  pub answer : Answer Refusal
   pub state : State
   pub counts : Counts
 
 -- What each answer of the function returns, and the outcome of what it gives back with the buffers that it leaves.
-abbrev pub returned : Answer → Returned
+abbrev pub returned : Answer Refusal → Returned
 returned Done = done
 returned Ended = ended
 returned (Refused r) = refused (number r)

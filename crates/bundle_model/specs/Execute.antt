@@ -31,15 +31,15 @@ use Rattle.bundle_model.specs.Bundle.{Stepped, area, with_area, Outcome, outcome
 abbrev pub found_whole : Registers → Predicates → Lent → Core → State
 found_whole registers predicates held c = with_held (found_state registers predicates c) (held_in held.entry.now)
 
-abbrev pub bundled : Answer → Core → Bundled
+abbrev pub bundled : {R : Type 0} → Answer R → Core → Bundled R
 bundled a c = record { answer = a; core = c }
 
 -- What a function gives back with the registers, the predicates, the blocks held and the counts that it leaves.
-abbrev pub stepped_as : List ℕ → List Bool → List ℕ → List ℕ → Bundled → Stepped
+abbrev pub stepped_as : List ℕ → List Bool → List ℕ → List ℕ → Bundled Refusal → Stepped
 stepped_as rs ps held counts r = record { answer = r.answer; state = with_held (joined rs ps r.core) (held_in held); counts = counts_in counts }
 
 -- In contracts, what a function gives back with all that it leaves; and one that has the counts by value.
-abbrev pub handed_back : Registers → Predicates → Lent → Lent → Bundled → Buffers → Outcome
+abbrev pub handed_back : Registers → Predicates → Lent → Lent → Bundled Refusal → Buffers → Outcome
 handed_back registers predicates held counts r b =
     full (stepped_as registers.exit.now predicates.exit.now held.exit.now counts.exit.now r) b
 

@@ -8,12 +8,12 @@ pub mod ready;
 use answers::Refusal;
 use core_state::Core;
 
-// What a step answers: a way to end more than a Result has.
+// What a step answers: a way to end more than a Result has. Why it refuses is a Refusal, where no other type is named.
 #[derive(Clone, Copy)]
-pub enum Answer {
+pub enum Answer<R = Refusal> {
     Done,
     Ended,
-    Refused(Refusal),
+    Refused(R),
 }
 
 // What is judged before a bundle is tried: one thing more than a Result can tell.
@@ -37,8 +37,8 @@ pub struct Counts {
 
 // A bundle's answer, with the state beside what is lent handed back. What is counted is added to numbers that are lent.
 #[derive(Clone, Copy)]
-pub struct Bundled {
-    pub answer: Answer,
+pub struct Bundled<R = Refusal> {
+    pub answer: Answer<R>,
     pub core: Core,
 }
 

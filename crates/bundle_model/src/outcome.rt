@@ -4,11 +4,10 @@ ghost use Rattle.bundle_model.specs.Counts.{no_counts, counts_in};
 ghost use Rattle.bundle_model.specs.Execute.{bundled, nothing};
 
 use crate::{Answer, Bundled, Carried, Counts};
-use answers::Refusal;
 use core_state::Core;
 
-// A refused bundle changes nothing.
-pub fn refused(core: Core, refusal: Refusal) -> Bundled
+// A refused bundle changes nothing. Why it is refused may be told by any type, as by a number.
+pub fn refused<R>(core: Core, refusal: R) -> Bundled<R>
     ensures { result ≡ bundled (Answer.Refused refusal) core }
 {
     Bundled {

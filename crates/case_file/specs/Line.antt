@@ -143,7 +143,7 @@ line_after line at Keyword.Pred = two_numbers line at (of_two TwoNumbers.Pred)
 line_after line at Keyword.Special =
     field line at (λ f.
     known Reason.NoSuchSpecial (special_name_of (bytes_of line f)) (λ name.
-    word line f.end (λ w at. end line at (Ok (Line.Special name w)))))
+    word line f.end (λ w at. end line at (Ok (Line.Special (Some name) w)))))
 line_after line at Keyword.Transfer =
     field line at (λ f. known Reason.NoSuchTransfer (transfer_kind_of (bytes_of line f)) (transfer line f.end))
 line_after line at Keyword.Step = end line at (Ok Line.Step)

@@ -37,7 +37,7 @@ rows =
     ∷ ("reg 0 0000000a", Ok (Reg 0 10))
     ∷ ("pred 7 1", Ok (Pred 7 true))
     ∷ ("pred 0 0", Ok (Pred 0 false))
-    ∷ ("special sro FFFFFFFF", Ok (Special Sro 4294967295))
+    ∷ ("special sro FFFFFFFF", Ok (Special (Some Sro) 4294967295))
     ∷ ("transfer br 16 2", Ok (Br 16 2))
     ∷ ("transfer call 16 3", Ok (Call 16 3))
     ∷ ("transfer block 16 8 3", Ok (Block 16 8 3))

@@ -8,6 +8,9 @@ mod record_lines;
 
 use case_words::SpecialName;
 
+// The special register of a name, where it is one. A line that was read has one.
+pub type Named = Option<SpecialName>;
+
 // A line by its keyword. Case holds the position of the name, Code, Private, Held and Record that of their lists,
 // Write that of the text of a bundle. Resume holds how many bytes a record is written into, where the line says it.
 #[derive(Clone, Copy, PartialEq, Eq, Debug)]
@@ -24,7 +27,7 @@ pub enum Line {
     Base(u32),
     Reg { number: u32, word: u32 },
     Pred { number: u32, value: bool },
-    Special { name: SpecialName, word: u32 },
+    Special { name: Named, word: u32 },
     Br { target: u32, wait: u32 },
     Call { target: u32, wait: u32 },
     Block { target: u32, base: u32, wait: u32 },

@@ -88,7 +88,14 @@ fn special_line(line: &[u8], at: usize) -> Result<Line, Reason>
     }
     let name = special_name(&line[start..end]).ok_or(Reason::NoSuchSpecial)?;
     let (word, at) = word_field(line, end)?;
-    whole(line, at, Ok(Line::Special { name, word }))
+    whole(
+        line,
+        at,
+        Ok(Line::Special {
+            name: Some(name),
+            word,
+        }),
+    )
 }
 
 #[tactic(auto, unfolding(crate::specs::Line::line_after, crate::specs::Line::transfer))]

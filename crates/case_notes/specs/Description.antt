@@ -1,5 +1,5 @@
 -- What the description lines of a case say of its numbers. They come in any order, and some kinds at most once.
-use Rattle.std.specs.Prelude.{ℕ, ◌+◌, Result, Ok, Err, Bool, cond, List, eqb, leb, ltb}
+use Rattle.std.specs.Prelude.{ℕ, ◌+◌, Option, Some, None, Result, Ok, Err, Bool, cond, List, eqb, leb, ltb}
 use Rattle.case_file.specs.declared.Line.{Line}
 use Rattle.case_file.specs.declared.Reason.{Reason}
 use Rattle.case_words.specs.declared.SpecialName.{SpecialName}
@@ -69,8 +69,10 @@ one_of32 kept first n w = fine (cond (ltb n 32) (put kept (first + n) w) kept)
 abbrev pub predicate : List ℕ → ℕ → Bool → Noted
 predicate kept p v = fine (cond (ltb p 8) (put kept (PREDICATES + p) (flag v)) kept)
 
-abbrev pub special : List ℕ → SpecialName → ℕ → Noted
-special kept name w = fine (give kept (SPECIALS + special_index name) w)
+-- A name that is none of the special registers changes nothing.
+abbrev pub special : List ℕ → Option SpecialName → ℕ → Noted
+special kept (Some name) w = fine (give kept (SPECIALS + special_index name) w)
+special kept None w = fine kept
 
 -- Products under way, by rising wait: one that waits as long as the one before stands behind it. A third is a mistake.
 abbrev pub before_first : List ℕ → ℕ → ℕ → ℕ → List ℕ
@@ -125,3 +127,8 @@ given Line.Save kept = fine kept
 given (Line.Resume asked room) kept = fine kept
 given (Line.Xret target base wait) kept = transfer_once kept XRET target base wait
 given (Line.Replay r) kept = fine kept
+
+-- The same of what a line was read as: one that is a mistake leaves the numbers alone.
+abbrev pub given_read : Result Line Reason → List ℕ → Noted
+given_read (Ok said) kept = given said kept
+given_read (Err r) kept = fine kept

@@ -7,7 +7,7 @@ use Rattle.case_file.specs.Arguments.{code_entry}
 use Rattle.case_kept.specs.declared.places.Store.{Store}
 use Rattle.case_kept.specs.Indices.{CODE}
 use Rattle.case_kept.specs.Kept.{kept_number, put}
-use Rattle.case_notes.specs.Description.{Judged, Noted, GREATEST, given}
+use Rattle.case_notes.specs.Description.{Judged, Noted, GREATEST, given, given_read}
 use Rattle.case_notes.specs.Marking.{mark_items}
 use Rattle.case_notes.specs.declared.Listed.TheVariants as Listed
 use Rattle.case_notes.specs.Lists.{taken}
@@ -130,3 +130,8 @@ module _ (line code main local cache kept : List ℕ) where
   described_by Line.Save = in_kept (given Line.Save kept)
   described_by (Line.Resume asked room) = in_kept (given (Line.Resume asked room) kept)
   described_by (Line.Xret target base wait) = in_kept (given (Line.Xret target base wait) kept)
+
+  -- The same of what a line was read as: one that is a mistake leaves all as it was.
+  abbrev pub described_read : Result Line Reason → Described
+  described_read (Ok said) = described_by said
+  described_read (Err r) = in_kept (given_read (Err r) kept)

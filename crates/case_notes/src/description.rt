@@ -1,9 +1,9 @@
 // What the description lines of a case say of its numbers, gathered in any order. Where the line is a mistake, a function answers why.
 ghost use Rattle.std.specs.Prelude.{◌≡◌, ◌<◌};
-ghost use Rattle.case_notes.specs.Description.{noted, is_given, mark_given, give as giveAt, number_once, length_once, transfer_once, special_index, one_of32, predicate, special, product_more, method_once, given};
+ghost use Rattle.case_notes.specs.Description.{noted, is_given, mark_given, give as giveAt, number_once, length_once, transfer_once, special_index, one_of32, predicate, special, product_more, method_once, given, given_read};
 
 use crate::waiting::{keep_load, keep_product, keep_transfer};
-use case_file::{Line, Reason};
+use case_file::{Line, Named, Reason};
 use case_kept::kept::{
     BASE, BLOCK, BLOCKS, BR, BYTES, CALL, ENTRY, FETCH, GIVEN, HI, Kept, LO, LOAD, LOCAL, MAIN,
     METHOD, PREDICATES, PRODUCT, PRODUCTS, RECORD_BYTES, REGISTERS, SPECIALS, TRANSFER, WORDS,
@@ -109,10 +109,12 @@ fn special_index(name: SpecialName) -> usize
     }
 }
 
-fn give_special(kept: &mut Kept, name: SpecialName, w: u32) -> Result<(), Reason>
+fn give_special(kept: &mut Kept, name: Named, w: u32) -> Result<(), Reason>
     ensures { noted result kept.new ≡ special kept.old name w }
 {
-    give_number(&mut *kept, SPECIALS + special_index(name), w);
+    if let Some(name) = name {
+        give_number(&mut *kept, SPECIALS + special_index(name), w);
+    }
     Ok(())
 }
 
@@ -189,7 +191,7 @@ fn give_method(kept: &mut Kept, blocks: u32, bytes: u32) -> Result<(), Reason>
 
 // A line that needs nothing but its own numbers.
 #[tactic(auto, unfolding(crate::specs::Description::given))]
-pub fn give(kept: &mut Kept, said: Line) -> Result<(), Reason>
+fn give_line(kept: &mut Kept, said: Line) -> Result<(), Reason>
     ensures { noted result kept.new ≡ given said kept.old }
 {
     match said {
@@ -213,5 +215,15 @@ pub fn give(kept: &mut Kept, said: Line) -> Result<(), Reason>
         Line::RecordBytes(n) => give_once(&mut *kept, RECORD_BYTES, n),
         Line::Xret { target, base, wait } => give_transfer(&mut *kept, XRET, target, base, wait),
         _ => Ok(()),
+    }
+}
+
+// The same of what a line was read as: a mistake leaves the numbers alone.
+pub fn give(kept: &mut Kept, read: Result<Line, Reason>) -> Result<(), Reason>
+    ensures { noted result kept.new ≡ given_read read kept.old }
+{
+    match read {
+        Ok(said) => give_line(&mut *kept, said),
+        Err(_) => Ok(()),
     }
 }

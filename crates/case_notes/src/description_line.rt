@@ -1,6 +1,6 @@
 // The description lines that fill a buffer. Where the line is a mistake, a function answers why.
 ghost use Rattle.std.specs.Prelude.{◌≡◌};
-ghost use Rattle.case_notes.specs.DescriptionLine.{filled, appended, code_line, put_below_copy, memory_word, cache_word, described, described_by};
+ghost use Rattle.case_notes.specs.DescriptionLine.{filled, appended, code_line, put_below_copy, memory_word, cache_word, described, described_by, described_read};
 
 use crate::Listed;
 use crate::description::give;
@@ -81,7 +81,7 @@ fn cache_word(kept: &mut Kept, place: u32, word: u32, cache: &mut Cache) -> Resu
 
 // A description line.
 #[tactic(auto, unfolding(crate::specs::DescriptionLine::described_by))]
-pub fn describe(
+fn describe_line(
     said: Line,
     line: &[u8],
     code: &mut Bytes,
@@ -105,6 +105,32 @@ pub fn describe(
             memory_word(&mut *kept, Store::Local, address, word, &mut *local)
         }
         Line::CacheWord { place, word } => cache_word(&mut *kept, place, word, &mut *cache),
-        _ => give(&mut *kept, said),
+        _ => give(&mut *kept, Ok(said)),
+    }
+}
+
+// The same of what a line was read as: a mistake leaves all as it was.
+pub fn describe(
+    read: Result<Line, Reason>,
+    line: &[u8],
+    code: &mut Bytes,
+    main: &mut Memory,
+    local: &mut Memory,
+    cache: &mut Cache,
+    kept: &mut Kept,
+) -> Result<(), Reason>
+    ensures { described result code.new main.new local.new cache.new kept.new ≡ described_read line.now code.old main.old local.old cache.old kept.old read }
+{
+    match read {
+        Ok(said) => describe_line(
+            said,
+            line,
+            &mut *code,
+            &mut *main,
+            &mut *local,
+            &mut *cache,
+            &mut *kept,
+        ),
+        Err(_) => give(&mut *kept, read),
     }
 }

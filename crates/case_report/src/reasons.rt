@@ -1,7 +1,9 @@
 // Why a line is a mistake, in words.
 ghost use Rattle.std.specs.Prelude.{◌≡◌};
 ghost use Rattle.text.specs.Page.{Puts};
+ghost use Rattle.text.specs.Table.{table, row_text};
 ghost use Rattle.case_report.specs.Mistake.{reason_text};
+ghost use Rattle.case_report.specs.Reasons.{number_of, reasons, texts};
 
 use case_file::Reason;
 use text::page::Page;
@@ -48,8 +50,11 @@ fn words(r: Reason) -> &'static str
     }
 }
 
+// The words of a reason, which are its row in the table of reasons.
+#[tactic(auto, using(crate::specs::ReasonLaws::reason_row))]
 pub(crate) fn put_reason(page: &mut Page, r: Reason)
-    ensures { Puts page.old page.new (reason_text r) }
+    ensures words { Puts page.old page.new (reason_text r) }
+    ensures row { Puts page.old page.new (row_text (table (texts reasons)) (number_of r)) }
 {
     page.put(words(r).as_bytes());
 }

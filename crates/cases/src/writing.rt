@@ -3,12 +3,12 @@
 use crate::Case;
 use case_kept::extent::extents_of;
 use encoder::Written;
-use listing::{put_list, put_written};
+use listing::{put_list, put_written, told};
 use text::page::Page;
 
 pub(crate) fn put_words(page: &mut Page, w: Written) {
     page.put(b"write");
-    put_written(page, w);
+    put_written(page, told(w));
     page.put_byte(b'\n');
 }
 

@@ -11,6 +11,7 @@ use Rattle.decoder.specs.Decode.{bundle_words}
 use Rattle.fetch.specs.Fetch.{following_at, fetched}
 use Rattle.fetch.specs.declared.Fetched.{Fetched}
 use Rattle.encoder.specs.Encode.{written, Written}
+use Rattle.encoder.specs.declared.CodeWords.{CodeWords}
 use Rattle.encoder.specs.declared.CodeWords.TheVariants.{One, Two}
 use Rattle.disassembler.specs.Text.{bundle_text}
 
@@ -21,11 +22,15 @@ spaced w = bytes " " ++ word_text w
 unfoldable pub refused_text : ℕ → List ℕ
 refused_text n = bytes " refused " ++ decimal_text n
 
--- What is written: its words, or the refusal.
-unfoldable pub written_text : Written → List ℕ
+-- What is written: its words, or the number of the refusal.
+unfoldable pub written_text : Result CodeWords ℕ → List ℕ
 written_text (Ok (One w)) = spaced w
 written_text (Ok (Two w v)) = spaced w ++ spaced v
-written_text (Err r) = refused_text (number r)
+written_text (Err n) = refused_text n
+
+abbrev pub told : Written → Result CodeWords ℕ
+told (Ok w) = Ok w
+told (Err r) = Err (number r)
 
 -- The fixed form is shown where it differs from the words that stand in the code. What was decoded is never refused (encoder_laws), so for
 -- a refusal nothing is shown.
@@ -35,7 +40,7 @@ is_fixed (Ok (Two w v)) first second = eqb w first && eqb v second
 is_fixed (Err n) first second = true
 
 unfoldable pub fixed_text : ℕ → ℕ → Written → List ℕ
-fixed_text first second w = cond (is_fixed w first second) [] (bytes " fixed" ++ written_text w)
+fixed_text first second w = cond (is_fixed w first second) [] (bytes " fixed" ++ written_text (told w))
 
 -- What is found at an address: the bundle's text behind its fixed form, or why there is no bundle.
 abbrev pub found_text : ℕ → ℕ → Result Fetched Refusal → List ℕ

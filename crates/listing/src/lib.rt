@@ -6,7 +6,7 @@ ghost use Rattle.text.specs.Number.{decimal_text};
 ghost use Rattle.text.specs.Page.{Puts};
 ghost use Rattle.case_words.specs.Names.{bytes};
 ghost use Rattle.fetch.specs.Fetch.{following_at, fetched};
-ghost use Rattle.listing.specs.Listing.{spaced, refused_text, written_text, is_fixed, fixed_text, found_text};
+ghost use Rattle.listing.specs.Listing.{spaced, refused_text, written_text, told, is_fixed, fixed_text, found_text};
 ghost use Rattle.listing.specs.Listing.{has_second, words_text, line_text, list_text};
 
 use big_endian::read_word;
@@ -41,14 +41,24 @@ fn put_words(page: &mut Page, two: bool, first: u32, second: u32)
     }
 }
 
-// What a bundle is written as.
-pub fn put_written(page: &mut Page, w: Written)
+// What a bundle is written as, or a refusal by any number.
+pub fn put_written(page: &mut Page, w: Result<CodeWords, u32>)
     ensures { Puts page.old page.new (written_text w) }
 {
     match w {
         Ok(CodeWords::One(w)) => put_spaced(page, w),
         Ok(CodeWords::Two(w, v)) => put_words(page, true, w, v),
-        Err(refusal) => put_refused(page, refusal.number()),
+        Err(n) => put_refused(page, n),
+    }
+}
+
+// What a bundle is written as, with its refusal told by its number.
+pub fn told(w: Written) -> Result<CodeWords, u32>
+    ensures { result ≡ told w }
+{
+    match w {
+        Ok(words) => Ok(words),
+        Err(refusal) => Err(refusal.number()),
     }
 }
 
@@ -69,7 +79,7 @@ fn put_fixed(page: &mut Page, first: u32, second: u32, w: Written)
 {
     if !is_fixed(w, first, second) {
         page.put(b" fixed");
-        put_written(page, w);
+        put_written(page, told(w));
     }
 }
 

@@ -1,3 +1,4 @@
+use Rattle.answers.specs.declared.Refusal.{Refusal}
 use borrow.Enum.Refused.{opened}
 use mathlib.Core.Path.{refl, sym, ap, subst, ◌∙◌}
 use borrow.Author.Rules.{rules}
@@ -54,7 +55,7 @@ returns-then-due-2 c =
     let n = c.count.ensures in
     record {
       given = handed_taken a.g x a.registers.now a.predicates.now a.core a.held.now a.counts.now _ _ _ _ _ _ en _ _ _ _ r.result _ r.ensures.given _ _ _ c.if-due-2.true c.in-Done.is (n.state _ _) c.add_looked.ensures c.done.ensures;
-      canonical = λ k. subst Canonical (sym (ap (λ (y : Bundled). y.core) c.done.ensures)) (canonical_kept _ _ n.transfer n.load n.products (r.ensures.canonical (en.canonical k)));
+      canonical = λ k. subst Canonical (sym (ap (λ (y : Bundled Refusal). y.core) c.done.ensures)) (canonical_kept _ _ n.transfer n.load n.products (r.ensures.canonical (en.canonical k)));
       held = λ f. r.ensures.held (en.fixed f);
     }
 
@@ -65,7 +66,7 @@ returns-in-Err c =
     let en = enters_refused x a.registers.now a.predicates.now a.core a.held.now _ _ _ _ c.in-Err.is (c.enter.ensures a.registers.now a.predicates.now) in
     record {
       given = rw en.1 (handed_entry a.g x a.registers.now a.predicates.now a.core a.held.now a.counts.now _ _ _ en.0 c.refused.ensures);
-      canonical = subst Canonical (sym (ap (λ (y : Bundled). y.core) c.refused.ensures));
+      canonical = subst Canonical (sym (ap (λ (y : Bundled Refusal). y.core) c.refused.ensures));
       held = subst FixedHeld (sym en.1);
     }
 
@@ -78,6 +79,6 @@ returns-else-due-2 c =
     let n = c.count-in-Ok.ensures in
     record {
       given = handed_plain a.g x a.registers.now a.predicates.now a.core a.held.now a.counts.now _ _ _ _ _ _ en _ _ _ _ r.result _ r.ensures.given _ _ c.if-due-2.false c.in-Done.is (n.state _ _) c.done-in-Ok.ensures;
-      canonical = λ k. subst Canonical (sym (ap (λ (y : Bundled). y.core) c.done-in-Ok.ensures)) (canonical_kept _ _ n.transfer n.load n.products (r.ensures.canonical (en.canonical k)));
+      canonical = λ k. subst Canonical (sym (ap (λ (y : Bundled Refusal). y.core) c.done-in-Ok.ensures)) (canonical_kept _ _ n.transfer n.load n.products (r.ensures.canonical (en.canonical k)));
       held = λ f. r.ensures.held (en.fixed f);
     }

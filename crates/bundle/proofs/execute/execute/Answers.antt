@@ -1,3 +1,4 @@
+use Rattle.answers.specs.declared.Refusal.{Refusal}
 use mathlib.Core.Path.{refl, sym, ap, subst}
 use mathlib.Core.List.{[]}
 use Rattle.settings.specs.Setup.{setup_of}
@@ -22,7 +23,7 @@ returns-in-Err c =
     let e = c.carry_out.ensures a.registers.now a.predicates.now in
     record {
       given = handed_refused a.g (setup_of a.code.now a.g) a.registers.now a.predicates.now a.core a.held.now a.one a.two a.following _ _ _ a.counts.now _ _ _ c.in-Err.is e.0 e.1 c.refused.ensures;
-      canonical = subst Canonical (sym (ap (λ (y : Bundled). y.core) c.refused.ensures));
+      canonical = subst Canonical (sym (ap (λ (y : Bundled Refusal). y.core) c.refused.ensures));
       held = e.1.fixed;
     }
 
@@ -39,6 +40,6 @@ returns-in-Ok c =
     let w = c.write-next.ensures in
     record {
       given = handed_done a.g (setup_of a.code.now a.g) a.registers.now a.predicates.now a.core a.held.now a.one a.two a.following _ _ _ a.counts.now _ _ _ _ _ _ _ _ c.add.new.counts c.in-Ok.is e.0 e.1 w.state c.add.ensures c.done.ensures;
-      canonical = λ k. subst Canonical (sym (ap (λ (y : Bundled). y.core) c.done.ensures)) (written_canonical a.one _ a.core _ w.transfer w.load w.products k);
+      canonical = λ k. subst Canonical (sym (ap (λ (y : Bundled Refusal). y.core) c.done.ensures)) (written_canonical a.one _ a.core _ w.transfer w.load w.products k);
       held = e.1.fixed;
     }

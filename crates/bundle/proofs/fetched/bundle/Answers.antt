@@ -1,3 +1,4 @@
+use Rattle.answers.specs.declared.Refusal.{Refusal}
 use mathlib.Core.Path.{sym, ap, subst, ◌∙◌}
 use native.Mathlib.Omega.{arith}
 use Rattle.settings.specs.Setup.{given_setup_of, setup_of}
@@ -22,7 +23,7 @@ returns-in-Err c =
     let a = c.args in
     record {
       given = handed_unread a.g (given_setup_of a.given.now a.g) a.registers.now a.predicates.now a.core a.held.now a.counts.now _ _ _ (sym c.fetch.ensures ∙ c.in-Err.is) c.refused.ensures;
-      canonical = subst Canonical (sym (ap (λ (y : Bundled). y.core) c.refused.ensures));
+      canonical = subst Canonical (sym (ap (λ (y : Bundled Refusal). y.core) c.refused.ensures));
       held = λ f. f;
     }
 
