@@ -28,6 +28,7 @@ written_text (Ok (One w)) = spaced w
 written_text (Ok (Two w v)) = spaced w ++ spaced v
 written_text (Err n) = refused_text n
 
+-- What is written, with its refusal by its number.
 abbrev pub told : Written → Result CodeWords ℕ
 told (Ok w) = Ok w
 told (Err r) = Err (number r)
