@@ -2,3 +2,4 @@
 pub mod Arguments
 pub mod Line
 pub mod LineExamples
+pub mod LineLaws

@@ -1,5 +1,5 @@
 -- What a line of a case file says. Where several things are wrong with a line, the reason given is the first that is met here.
-use Rattle.std.specs.Prelude.{ℕ, Option, Some, None, Result, Ok, Err, cond, List, leb, ltb, eqb}
+use Rattle.std.specs.Prelude.{ℕ, Option, Some, None, Result, Ok, Err, Bool, true, cond, List, leb, ltb, eqb, is_some}
 use Rattle.text.specs.declared.Field.{Field}
 use Rattle.text.specs.Field.{field_from, is_name}
 use Rattle.case_words.specs.declared.Keyword.{Keyword}
@@ -167,3 +167,8 @@ unfoldable pub line_of : List ℕ → Read
 line_of line =
     let f = field_from line 0 in
     cond (is_empty f) (Ok Line.Empty) (known Reason.UnknownWord (keyword_of (bytes_of line f)) (line_after line f.end))
+
+-- Whether what a line was read as has the name of a special register, if it is a special line. What `line_of` says has it, of every line (`line_named`).
+abbrev pub is_named : Read → Bool
+is_named (Ok (Line.Special name w)) = is_some name
+is_named other = true

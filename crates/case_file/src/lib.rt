@@ -8,7 +8,7 @@ mod record_lines;
 
 use case_words::SpecialName;
 
-// The special register of a name, where it is one. A line that was read has one.
+// The special register of a name, where it is one. A special line that was read has one, as `read_line` promises.
 pub type Named = Option<SpecialName>;
 
 // A line by its keyword. Case holds the position of the name, Code, Private, Held and Record that of their lists,

@@ -1,6 +1,6 @@
 // What a line of a case file says.
-ghost use Rattle.std.specs.Prelude.{◌≡◌};
-ghost use Rattle.case_file.specs.Line.{end, list, reg, of_word, line_after, line_of};
+ghost use Rattle.std.specs.Prelude.{◌≡◌, true};
+ghost use Rattle.case_file.specs.Line.{end, list, reg, of_word, line_after, line_of, is_named};
 
 use crate::arguments::{ended, number_field, word_field};
 use crate::number_lines::{number_line, three_numbers, two_numbers};
@@ -159,10 +159,11 @@ fn after_keyword(line: &[u8], at: usize, k: Keyword) -> Result<Line, Reason>
     }
 }
 
-// A line without its line end.
+// A line without its line end. A special line that is read has the name of a special register.
 #[tactic(auto, unfolding(crate::specs::Line::line_of))]
 pub fn read_line(line: &[u8]) -> Result<Line, Reason>
-    ensures { result ≡ line_of line.now }
+    ensures line { result ≡ line_of line.now }
+    ensures named { is_named result ≡ true }
 {
     let f = next_field(line, 0);
     let start = f.start;
@@ -172,4 +173,32 @@ pub fn read_line(line: &[u8]) -> Result<Line, Reason>
     }
     let k = first_word(&line[start..end]).ok_or(Reason::UnknownWord)?;
     after_keyword(line, end, k)
+}
+
+#[cfg(test)]
+mod tests {
+    use super::*;
+    use case_words::SpecialName;
+
+    #[test]
+    fn reads_the_name_of_each_special_register(rt: HostRuntime) -> std::io::Result<()> {
+        for (text, name) in [
+            ("special sl 0000000a", SpecialName::Sl),
+            ("special sh 0000000a", SpecialName::Sh),
+            ("special ss 0000000a", SpecialName::Ss),
+            ("special st 0000000a", SpecialName::St),
+            ("special srb 0000000a", SpecialName::Srb),
+            ("special sro 0000000a", SpecialName::Sro),
+            ("special sxb 0000000a", SpecialName::Sxb),
+            ("special sxo 0000000a", SpecialName::Sxo),
+        ] {
+            let want = Ok(Line::Special {
+                name: Some(name),
+                word: 10,
+            });
+            assert!(rt; read_line(text.as_bytes()) == want, "{text}");
+        }
+        assert!(rt; read_line(b"special s0 0000000a") == Err(Reason::NoSuchSpecial));
+        Ok(())
+    }
 }
